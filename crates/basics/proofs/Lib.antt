@@ -1,0 +1,2 @@
+-- Laws of tests and ranges.
+pub mod Tests

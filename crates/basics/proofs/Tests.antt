@@ -1,0 +1,62 @@
+-- A test is true or false, joined tests are taken apart and put together, and a range's test gives its two bounds.
+use mathlib.Core.Path.{_≡_, refl}
+use mathlib.Core.Bool.{Bool, true, false, _&&_, _||_}
+use mathlib.Core.Logic.{_⊎_, inl, inr}
+use Prim.Native.Nat.{ℕ, _≤_, _<_}
+use native.Mathlib.Omega.{arith}
+use lib.Dec.{leb}
+use borrow.Author.Tests.{leb-true, leb-false, le-leb}
+use Rattle.basics.specs.Basics.{within}
+
+-- a test's value with its equation
+pub test-of : (b : Bool) → (b ≡ true) ⊎ (b ≡ false)
+test-of true = inl refl
+test-of false = inr refl
+
+pub true-not-false : (b : Bool) → b ≡ true → b ≡ false → ⊥
+true-not-false b p q = let z : _≡_ {A = ℕ} 0 1 = cc in omega arith
+
+pub false-of : (b : Bool) → (b ≡ true → ⊥) → b ≡ false
+false-of true h = absurd (h refl)
+false-of false h = refl
+
+-- ---- joined tests
+pub and-left : (a b : Bool) → (a && b) ≡ true → a ≡ true
+and-left true b e = refl
+and-left false b e = e
+
+pub and-right : (a b : Bool) → (a && b) ≡ true → b ≡ true
+and-right true b e = e
+and-right false b e = absurd (true-not-false false e refl)
+
+pub and-both : (a b : Bool) → a ≡ true → b ≡ true → (a && b) ≡ true
+and-both a b p q = rw (p, q)
+
+pub or-cases : (a b : Bool) → (a || b) ≡ true → (a ≡ true) ⊎ (b ≡ true)
+or-cases true b e = inl refl
+or-cases false b e = inr e
+
+pub or-neither : (a b : Bool) → (a || b) ≡ false → (a ≡ false) × (b ≡ false)
+or-neither true b e = absurd (true-not-false true refl e)
+or-neither false b e = (refl, e)
+
+pub or-right : (a b : Bool) → b ≡ true → (a || b) ≡ true
+or-right true b e = refl
+or-right false b e = e
+
+-- ---- numbers
+pub le-or-lt : (a b : ℕ) → (a ≤ b) ⊎ (b < a)
+le-or-lt a b = elim (test-of (leb a b)) [ inl e ↦ inl (leb-true a b e) | inr e ↦ inr (leb-false a b e) ]
+
+pub record Within (low high value : ℕ) : Type 0 where
+  pub low-le : low ≤ value
+  pub le-high : value ≤ high
+
+pub within-true : (low high value : ℕ) → within low high value ≡ true → Within low high value
+within-true low high value e = record {
+  low-le = leb-true low value (and-left (leb low value) (leb value high) e);
+  le-high = leb-true value high (and-right (leb low value) (leb value high) e);
+}
+
+pub true-within : (low high value : ℕ) → low ≤ value → value ≤ high → within low high value ≡ true
+true-within low high value l h = simp (le-leb low value l, le-leb value high h)

@@ -1,0 +1,22 @@
+-- Choices by a test, ranges, and lists of numbers.
+use mathlib.Core.Bool.{Bool, true, false, _&&_, _||_, not}
+use mathlib.Core.List.{List, [], _∷_}
+use Prim.Native.Nat.{ℕ}
+use lib.Dec.{eqb, leb}
+
+abbrev pub pick : {A : Type 0} → Bool → A → A → A
+pick true a b = a
+pick false a b = b
+
+-- low ≤ value ≤ high
+abbrev pub within : ℕ → ℕ → ℕ → Bool
+within low high value = leb low value && leb value high
+
+abbrev pub isIn : ℕ → List ℕ → Bool
+isIn x [] = false
+isIn x (y ∷ ys) = eqb x y || isIn x ys
+
+-- no number twice
+abbrev pub distinct : List ℕ → Bool
+distinct [] = true
+distinct (x ∷ xs) = not (isIn x xs) && distinct xs

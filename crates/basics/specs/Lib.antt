@@ -1,0 +1,2 @@
+-- What every crate says of choices, ranges and lists of numbers.
+pub mod Basics

@@ -1,0 +1,51 @@
+-- What is claimed of a run: every job finishes, once, within its task's latest response, and none that is released a
+-- period of its own after the first releases above finishes before its earliest.
+use mathlib.Core.Path.{_≡_}
+use mathlib.Core.Bool.{Bool, true, false}
+use mathlib.Core.List.{List}
+use Prim.Native.Nat.{ℕ, _+_, _*_, _≤_, _<_}
+use lib.ListN.{length, getD, take}
+use Rattle.rows.specs.Rows.{noRow}
+use Rattle.rows.specs.declared.Row.{Row}
+use Rattle.responses.specs.Figures.{latest, earliest, isLate}
+use Rattle.boards.specs.Boards.{Board, afterTicks, isDone}
+
+-- the row of rank i
+abbrev pub rowAt : List Row → ℕ → Row
+rowAt order i = getD order i noRow
+
+-- each job needs from its row's best to its worst
+abbrev pub LastsInRange : List Row → (ℕ → ℕ → ℕ) → Type 0
+LastsInRange order need =
+    (i k : ℕ) → i < length order → (rowAt order i .best ≤ need i k) × (need i k ≤ rowAt order i .worst)
+
+-- rank i's job released at r finishes at f
+abbrev pub Finishes : List Row → (ℕ → ℕ) → (ℕ → ℕ → ℕ) → ℕ → ℕ → ℕ → Type 0
+Finishes order offset need i r f = isDone i r f (afterTicks order offset need f .finished) ≡ true
+
+-- a run keeps each rank's latest and earliest response
+pub record Kept (order : List Row) (offset : ℕ → ℕ) (need : ℕ → ℕ → ℕ) (late early : ℕ → ℕ) : Type 0 where
+  -- the kth job of rank i finishes within its latest response
+  pub in-time :
+      (i k : ℕ) → i < length order
+      → let r = offset i + k * rowAt order i .period in
+      (f : ℕ) × (r < f) × (f ≤ r + late i) × Finishes order offset need i r f
+  -- and finishes only then
+  pub once :
+      (i r f g : ℕ) → i < length order → Finishes order offset need i r f → Finishes order offset need i r g → f ≡ g
+  -- one released a period of its own after the first release of every task above does not finish earlier
+  pub not-early :
+      (i r f : ℕ) → i < length order
+      → ((j : ℕ) → j < i → offset j + rowAt order i .period ≤ r)
+      → Finishes order offset need i r f
+      → r + early i ≤ f
+
+-- the responses of rank i under the rows above it, in the order's own sequence
+abbrev pub latestAt : List Row → ℕ → ℕ
+latestAt order i = latest (rowAt order i) (take i order)
+
+abbrev pub earliestAt : List Row → ℕ → ℕ
+earliestAt order i = earliest (rowAt order i) (take i order)
+
+abbrev pub NoneLate : List Row → Type 0
+NoneLate order = (i : ℕ) → i < length order → isLate (rowAt order i) (take i order) ≡ false

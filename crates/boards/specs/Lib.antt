@@ -1,0 +1,3 @@
+-- A board tick by tick, and what is claimed of every run of it.
+pub mod Boards
+pub mod Claims

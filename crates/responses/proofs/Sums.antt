@@ -1,0 +1,59 @@
+-- Ceilings, and interference: it grows with the window, and a task takes at most the window and one period of it.
+use mathlib.Core.Path.{_≡_, refl, ap, sym, _∙_}
+use mathlib.Core.List.{List, [], _∷_}
+use Prim.Native.Nat.{ℕ, zero, suc, _+_, _-_, _*_, _/_, _≤_, _<_}
+use native.Mathlib.Nat.{le-trans, div-mul-le-self, le-div-iff-mul-le, mul-le-mul-left, mul-le-mul-right, add-le-add}
+use native.Mathlib.Nat.{div-add-mod', mod-lt, lt-of-mul-lt-mul-right}
+use native.Mathlib.Omega.{arith}
+use Rattle.responses.specs.Interference.{ceiling, Load, interference}
+use Rattle.responses.specs.Claims.{RoundsUp}
+
+-- ---- rounding up
+pub ceiling-covers : (a p : ℕ) → 1 ≤ p → a ≤ ceiling a p * p
+ceiling-covers a zero l = omega arith
+ceiling-covers a (suc p) l = omega (arith, div-add-mod' (a + p) (suc p), mod-lt (a + p) {m = suc p} (omega arith))
+
+pub ceiling-close : (a p : ℕ) → 1 ≤ p → ceiling a p * p < a + p
+ceiling-close a zero l = omega arith
+ceiling-close a (suc p) l = omega (arith, div-add-mod' (a + p) (suc p))
+
+pub ceiling-under : (k a p : ℕ) → 1 ≤ p → a ≤ k * p → ceiling a p ≤ k
+ceiling-under k a p pos l =
+    let h : ceiling a p < suc k = lt-of-mul-lt-mul-right p (omega (arith, ceiling-close a p pos)) in
+    omega arith
+
+pub rounds-up : (a p : ℕ) → 1 ≤ p → RoundsUp a p (ceiling a p)
+rounds-up a p pos = record {
+  covers = ceiling-covers a p pos;
+  fewest = λ j h. ceiling-under j a p pos h;
+}
+
+pub ceiling-mono : (x y p : ℕ) → x ≤ y → ceiling x p ≤ ceiling y p
+ceiling-mono x y zero h = omega arith
+ceiling-mono x y (suc p) h =
+    ceiling-under (ceiling y (suc p)) x (suc p) (omega arith) (le-trans h (ceiling-covers y (suc p) (omega arith)))
+
+pub ceiling-some : (x p : ℕ) → 1 ≤ x → 1 ≤ p → 1 ≤ ceiling x p
+ceiling-some x zero h k = k
+ceiling-some x (suc p) h k = le-div-iff-mul-le {k = suc p} {x = 1} {y = x + p} (omega arith) .1 (omega arith)
+
+-- as the code computes it
+pub ceiling-is : (x p : ℕ) → 1 ≤ p → ceiling x p ≡ (x + (p - 1)) / p
+ceiling-is x zero h = absurd (omega arith)
+ceiling-is x (suc p) h = ap (λ (k : ℕ). (x + k) / suc p) (omega arith)
+
+-- ---- interference
+-- a cost within the period: the jobs that a window meets take at most the window and one period
+pub term-max : (s x p c : ℕ) → c ≤ p → (ceiling x p - s) * c ≤ x + p
+term-max s x zero c h = omega (arith, mul-le-mul-left (0 - s) h)
+term-max s x (suc p) c h =
+    let q = (x + p) / suc p in
+    let a : (q - s) * c ≤ q * c = mul-le-mul-right c (omega arith) in
+    let b : q * c ≤ q * suc p = mul-le-mul-left q h in
+    omega (arith, a, b, div-mul-le-self (x + p) (suc p))
+
+pub interference-mono : (s x y : ℕ) (ls : List Load) → x ≤ y → interference s x ls ≤ interference s y ls
+interference-mono s x y [] h = omega arith
+interference-mono s x y (l ∷ ls) h =
+    let c = ceiling-mono x y (l .period) h in
+    add-le-add (mul-le-mul-right (l .cost) (omega arith)) (interference-mono s x y ls h)

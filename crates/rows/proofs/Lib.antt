@@ -1,0 +1,2 @@
+-- What a row in range says.
+pub mod Limits

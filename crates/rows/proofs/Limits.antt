@@ -1,0 +1,115 @@
+-- A row in range keeps each limit: the tests taken apart and put together.
+use mathlib.Core.Path.{_≡_, refl}
+use mathlib.Core.Bool.{Bool, true, _&&_}
+use mathlib.Core.List.{List, [], _∷_}
+use Prim.Native.Nat.{ℕ, _≤_}
+use lib.Dec.{leb}
+use borrow.Author.Tests.{leb-true, le-leb}
+use Rattle.basics.specs.Basics.{within}
+use Rattle.basics.proofs.Tests.{and-left, and-right, and-both, Within, within-true}
+use Rattle.rows.specs.declared.Row.{Row}
+use Rattle.rows.specs.Rows.{minTask, maxTask, minTicks, maxTicks, minAlpha, maxAlpha, minBeta, maxBeta}
+use Rattle.rows.specs.Rows.{inRange, timesInRange, allRows}
+
+-- ---- every limit
+pub record Limits (r : Row) : Type 0 where
+  pub task : Within minTask maxTask (r .task)
+  pub period : Within minTicks maxTicks (r .period)
+  pub worst : Within minTicks maxTicks (r .worst)
+  pub best : Within minTicks maxTicks (r .best)
+  pub alpha : Within minAlpha maxAlpha (r .alpha)
+  pub beta : Within minBeta maxBeta (r .beta)
+  pub worst-period : r .worst ≤ r .period
+  pub best-worst : r .best ≤ r .worst
+
+pub limits : (r : Row) → inRange r ≡ true → Limits r
+limits r h₈ =
+    let t₁ = within minTask maxTask (r .task) in
+    let t₂ = within minTicks maxTicks (r .period) in
+    let t₃ = within minTicks maxTicks (r .worst) in
+    let t₄ = within minTicks maxTicks (r .best) in
+    let t₅ = within minAlpha maxAlpha (r .alpha) in
+    let t₆ = within minBeta maxBeta (r .beta) in
+    let t₇ = leb (r .worst) (r .period) in
+    let t₈ = leb (r .best) (r .worst) in
+    let h₇ = and-left (t₁ && t₂ && t₃ && t₄ && t₅ && t₆ && t₇) t₈ h₈ in
+    let h₆ = and-left (t₁ && t₂ && t₃ && t₄ && t₅ && t₆) t₇ h₇ in
+    let h₅ = and-left (t₁ && t₂ && t₃ && t₄ && t₅) t₆ h₆ in
+    let h₄ = and-left (t₁ && t₂ && t₃ && t₄) t₅ h₅ in
+    let h₃ = and-left (t₁ && t₂ && t₃) t₄ h₄ in
+    let h₂ = and-left (t₁ && t₂) t₃ h₃ in
+    record {
+      task = within-true minTask maxTask (r .task) (and-left t₁ t₂ h₂);
+      period = within-true minTicks maxTicks (r .period) (and-right t₁ t₂ h₂);
+      worst = within-true minTicks maxTicks (r .worst) (and-right (t₁ && t₂) t₃ h₃);
+      best = within-true minTicks maxTicks (r .best) (and-right (t₁ && t₂ && t₃) t₄ h₄);
+      alpha = within-true minAlpha maxAlpha (r .alpha) (and-right (t₁ && t₂ && t₃ && t₄) t₅ h₅);
+      beta = within-true minBeta maxBeta (r .beta) (and-right (t₁ && t₂ && t₃ && t₄ && t₅) t₆ h₆);
+      worst-period = leb-true (r .worst) (r .period) (and-right (t₁ && t₂ && t₃ && t₄ && t₅ && t₆) t₇ h₇);
+      best-worst = leb-true (r .best) (r .worst) (and-right (t₁ && t₂ && t₃ && t₄ && t₅ && t₆ && t₇) t₈ h₈);
+    }
+
+pub in-range : (r : Row) → Limits r → inRange r ≡ true
+in-range r h =
+    simp (
+      le-leb _ _ (h .task .low-le),
+      le-leb _ _ (h .task .le-high),
+      le-leb _ _ (h .period .low-le),
+      le-leb _ _ (h .period .le-high),
+      le-leb _ _ (h .worst .low-le),
+      le-leb _ _ (h .worst .le-high),
+      le-leb _ _ (h .best .low-le),
+      le-leb _ _ (h .best .le-high),
+      le-leb _ _ (h .alpha .low-le),
+      le-leb _ _ (h .alpha .le-high),
+      le-leb _ _ (h .beta .low-le),
+      le-leb _ _ (h .beta .le-high),
+      le-leb _ _ (h .worst-period),
+      le-leb _ _ (h .best-worst),
+    )
+
+-- ---- the times
+pub record Times (r : Row) : Type 0 where
+  pub best-some : 1 ≤ r .best
+  pub best-worst : r .best ≤ r .worst
+  pub worst-period : r .worst ≤ r .period
+  pub period-max : r .period ≤ maxTicks
+
+pub times : (r : Row) → timesInRange r ≡ true → Times r
+times r h₄ =
+    let t₁ = leb minTicks (r .best) in
+    let t₂ = leb (r .best) (r .worst) in
+    let t₃ = leb (r .worst) (r .period) in
+    let t₄ = leb (r .period) maxTicks in
+    let h₃ = and-left (t₁ && t₂ && t₃) t₄ h₄ in
+    let h₂ = and-left (t₁ && t₂) t₃ h₃ in
+    record {
+      best-some = leb-true minTicks (r .best) (and-left t₁ t₂ h₂);
+      best-worst = leb-true (r .best) (r .worst) (and-right t₁ t₂ h₂);
+      worst-period = leb-true (r .worst) (r .period) (and-right (t₁ && t₂) t₃ h₃);
+      period-max = leb-true (r .period) maxTicks (and-right (t₁ && t₂ && t₃) t₄ h₄);
+    }
+
+pub in-range-times : (r : Row) → inRange r ≡ true → timesInRange r ≡ true
+in-range-times r e =
+    let h = limits r e in
+    simp (
+      le-leb _ _ (h .best .low-le),
+      le-leb _ _ (h .best-worst),
+      le-leb _ _ (h .worst-period),
+      le-leb _ _ (h .period .le-high),
+    )
+
+-- ---- every row
+pub head-passes : (f : Row → Bool) (r : Row) (rs : List Row) → allRows f (r ∷ rs) ≡ true → f r ≡ true
+head-passes f r rs h = and-left (f r) (allRows f rs) h
+
+pub tail-passes : (f : Row → Bool) (r : Row) (rs : List Row) → allRows f (r ∷ rs) ≡ true → allRows f rs ≡ true
+tail-passes f r rs h = and-right (f r) (allRows f rs) h
+
+-- rows in range have their times in range
+pub all-times : (rs : List Row) → allRows inRange rs ≡ true → allRows timesInRange rs ≡ true
+all-times [] h = refl
+all-times (r ∷ rs) h =
+    and-both (timesInRange r) (allRows timesInRange rs) (in-range-times r (head-passes inRange r rs h))
+    (all-times rs (tail-passes inRange r rs h))

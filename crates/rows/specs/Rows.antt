@@ -1,0 +1,86 @@
+-- A task's row: the limits of its numbers, each once and by name, and rows in range.
+use mathlib.Core.Bool.{Bool, true, false, _&&_}
+use mathlib.Core.List.{List, [], _∷_}
+use Prim.Native.Nat.{ℕ}
+use lib.Dec.{leb}
+use Rattle.basics.specs.Basics.{within, isIn, distinct}
+use Rattle.rows.specs.declared.Row.{Row}
+
+-- task numbers
+abbrev pub minTask : ℕ
+minTask = 1
+
+abbrev pub maxTask : ℕ
+maxTask = 65535
+
+-- period, worst and best, in ticks
+abbrev pub minTicks : ℕ
+minTicks = 1
+
+abbrev pub maxTicks : ℕ
+maxTicks = 1000000
+
+-- alpha, in thousandths
+abbrev pub minAlpha : ℕ
+minAlpha = 1000
+
+abbrev pub maxAlpha : ℕ
+maxAlpha = 100000
+
+-- beta, in thousandths of a tick
+abbrev pub minBeta : ℕ
+minBeta = 0
+
+abbrev pub maxBeta : ℕ
+maxBeta = 200000000000
+
+-- the rows of a table
+abbrev pub minTasks : ℕ
+minTasks = 1
+
+abbrev pub maxTasks : ℕ
+maxTasks = 12
+
+-- each number is within its limits, and best ≤ worst ≤ period
+abbrev pub inRange : Row → Bool
+inRange r =
+    within minTask maxTask (r .task)
+    && within minTicks maxTicks (r .period)
+    && within minTicks maxTicks (r .worst)
+    && within minTicks maxTicks (r .best)
+    && within minAlpha maxAlpha (r .alpha)
+    && within minBeta maxBeta (r .beta)
+    && leb (r .worst) (r .period)
+    && leb (r .best) (r .worst)
+
+-- the times alone: 1 ≤ best ≤ worst ≤ period, and the period within its limit
+abbrev pub timesInRange : Row → Bool
+timesInRange r =
+    leb minTicks (r .best)
+    && leb (r .best) (r .worst)
+    && leb (r .worst) (r .period)
+    && leb (r .period) maxTicks
+
+-- every row passes
+abbrev pub allRows : (Row → Bool) → List Row → Bool
+allRows f [] = true
+allRows f (r ∷ rs) = f r && allRows f rs
+
+-- the task numbers of some rows
+abbrev pub tasksOf : List Row → List ℕ
+tasksOf [] = []
+tasksOf (r ∷ rs) = r .task ∷ tasksOf rs
+
+abbrev pub hasTask : ℕ → List Row → Bool
+hasTask t rs = isIn t (tasksOf rs)
+
+-- no task number twice
+abbrev pub distinctRows : List Row → Bool
+distinctRows rs = distinct (tasksOf rs)
+
+-- a row of six numbers; what stands past the rows that count
+abbrev pub row : ℕ → ℕ → ℕ → ℕ → ℕ → ℕ → Row
+row t p w b a e = record { task = t; period = p; worst = w; best = b; alpha = a; beta = e }
+
+abbrev pub noRow : Row
+noRow = row 0 0 0 0 0 0
