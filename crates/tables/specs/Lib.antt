@@ -1,0 +1,4 @@
+-- A table and rank lines as text: what is read, and what is refused on which line.
+pub mod Tables
+pub mod Reasons
+pub mod Claims

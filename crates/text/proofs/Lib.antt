@@ -1,0 +1,2 @@
+-- Laws of numbers and lines.
+pub mod Decimals

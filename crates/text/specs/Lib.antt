@@ -1,0 +1,4 @@
+-- Text as bytes: numbers and lines, written and read.
+pub mod Text
+pub mod Lines
+pub mod Claims
