@@ -2,7 +2,8 @@
 use mathlib.Core.Bool.{Bool, true, false, _&&_}
 use mathlib.Core.List.{List, [], _∷_}
 use Prim.Native.Nat.{ℕ}
-use lib.Dec.{leb}
+use lib.Dec.{eqb, leb}
+use lib.ListN.{length}
 use Rattle.basics.specs.Basics.{within, isIn, distinct}
 use Rattle.rows.specs.declared.Row.{Row}
 
@@ -41,6 +42,13 @@ minTasks = 1
 abbrev pub maxTasks : ℕ
 maxTasks = 12
 
+-- a row of six numbers; what stands past the rows that count
+abbrev pub row : ℕ → ℕ → ℕ → ℕ → ℕ → ℕ → Row
+row t p w b a e = record { task = t; period = p; worst = w; best = b; alpha = a; beta = e }
+
+abbrev pub noRow : Row
+noRow = row 0 0 0 0 0 0
+
 -- each number is within its limits, and best ≤ worst ≤ period
 abbrev pub inRange : Row → Bool
 inRange r =
@@ -78,9 +86,19 @@ hasTask t rs = isIn t (tasksOf rs)
 abbrev pub distinctRows : List Row → Bool
 distinctRows rs = distinct (tasksOf rs)
 
--- a row of six numbers; what stands past the rows that count
-abbrev pub row : ℕ → ℕ → ℕ → ℕ → ℕ → ℕ → Row
-row t p w b a e = record { task = t; period = p; worst = w; best = b; alpha = a; beta = e }
+-- the row of a task number; the rows of some
+abbrev pub rowFor : ℕ → List Row → Row
+rowFor t [] = noRow
+rowFor t (r ∷ rs) = elim (eqb t (r .task)) [ true ↦ r | false ↦ rowFor t rs ]
 
-abbrev pub noRow : Row
-noRow = row 0 0 0 0 0 0
+abbrev pub rowsFor : List ℕ → List Row → List Row
+rowsFor [] rs = []
+rowsFor (t ∷ ts) rs = rowFor t rs ∷ rowsFor ts rs
+
+-- an order as task numbers is possible: each task of the table once and nothing else
+abbrev pub allTasks : List ℕ → List Row → Bool
+allTasks [] rs = true
+allTasks (t ∷ ts) rs = hasTask t rs && allTasks ts rs
+
+abbrev pub isPossible : List ℕ → List Row → Bool
+isPossible ts rs = eqb (length ts) (length rs) && distinct ts && allTasks ts rs

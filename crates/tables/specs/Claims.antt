@@ -1,23 +1,13 @@
 -- What is claimed of every text: a table that is accepted is sound and is what the text says, and a refusal has its reason.
 use mathlib.Core.Path.{_≡_}
-use mathlib.Core.Bool.{Bool, true, false, _&&_}
-use mathlib.Core.List.{List, [], _∷_}
+use mathlib.Core.Bool.{Bool, true, false}
+use mathlib.Core.List.{List, []}
 use Prim.Native.Nat.{ℕ, suc, _≤_}
-use lib.Dec.{eqb}
 use lib.ListN.{length}
-use Rattle.basics.specs.Basics.{distinct}
-use Rattle.rows.specs.Rows.{minTasks, maxTasks, inRange, allRows, hasTask, distinctRows}
+use Rattle.rows.specs.Rows.{minTasks, maxTasks, inRange, allRows, distinctRows, isPossible}
 use Rattle.rows.specs.declared.Row.{Row}
 use Rattle.tables.specs.Tables.{minBoard, maxBoard, Answer, accepted, turnedDown, readTable}
 use Rattle.tables.specs.Reasons.{Stage, at-end, Reaches, Refused}
-
-abbrev pub allTasks : List ℕ → List Row → Bool
-allTasks [] rs = true
-allTasks (x ∷ xs) rs = hasTask x rs && allTasks xs rs
-
--- each task of the table once and nothing else
-abbrev pub isPossible : List ℕ → List Row → Bool
-isPossible os rs = eqb (length os) (length rs) && distinct os && allTasks os rs
 
 -- an accepted table
 pub record Accepted (ranked : Bool) (a : Answer) : Type 0 where

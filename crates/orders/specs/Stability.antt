@@ -1,0 +1,18 @@
+-- The order chosen by stability, document 01's test of a row: the rows below it don't count.
+use mathlib.Core.Bool.{Bool}
+use mathlib.Core.List.{List}
+use mathlib.Core.Option.{Option}
+use Rattle.rows.specs.declared.Row.{Row}
+use Rattle.responses.specs.Figures.{isStable}
+use Rattle.orders.specs.Orders.{passes, orderOf}
+
+abbrev pub stable : Row → List Row → List Row → Bool
+stable r above below = isStable r above
+
+-- every row of an order is stable under those above it
+abbrev pub orderStable : List Row → Bool
+orderStable = passes stable
+
+-- the order that a plan has
+abbrev pub chosenOrder : List Row → Option (List Row)
+chosenOrder = orderOf stable
