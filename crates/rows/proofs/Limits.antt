@@ -1,7 +1,7 @@
 -- A row in range keeps each limit: the tests taken apart and put together.
 use mathlib.Core.Path.{_≡_, refl}
 use mathlib.Core.Bool.{Bool, true, _&&_}
-use mathlib.Core.List.{List, [], _∷_}
+use mathlib.Core.List.{List, [], _∷_, _++_}
 use Prim.Native.Nat.{ℕ, _≤_}
 use lib.Dec.{leb}
 use borrow.Author.Tests.{leb-true, le-leb}
@@ -113,3 +113,9 @@ all-times [] h = refl
 all-times (r ∷ rs) h =
     and-both (timesInRange r) (allRows timesInRange rs) (in-range-times r (head-passes inRange r rs h))
     (all-times rs (tail-passes inRange r rs h))
+
+pub append-passes : (f : Row → Bool) (rs qs : List Row) → allRows f rs ≡ true → allRows f qs ≡ true
+    → allRows f (rs ++ qs) ≡ true
+append-passes f [] qs h k = k
+append-passes f (r ∷ rs) qs h k =
+    and-both (f r) (allRows f (rs ++ qs)) (head-passes f r rs h) (append-passes f rs qs (tail-passes f r rs h) k)

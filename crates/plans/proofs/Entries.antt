@@ -1,0 +1,155 @@
+-- The entry at a rank is that of its row under the rows before it; the first late rank is late and those above it are
+-- not; and the entries of rows in range of which none is late keep their limits.
+use mathlib.Core.Path.{_≡_, refl, sym, ap, subst, _∙_}
+use mathlib.Core.Bool.{Bool, true, false, _&&_}
+use mathlib.Core.List.{List, [], _∷_, _++_, append-nil}
+use mathlib.Core.Logic.{inl, inr}
+use Prim.Native.Nat.{ℕ, zero, suc, _+_, _-_, _*_, _≤_, _<_}
+use native.Mathlib.Nat.{mul-le-mul}
+use native.Mathlib.Omega.{arith}
+use lib.Dec.{leb, ltb}
+use lib.IntN.{ℤ, pos, negsuc, natAbs, subℕ}
+use lib.ListN.{length, getD, take}
+use lib.Seq.{append-snoc}
+use borrow.Author.Tests.{le-leb, ltb-true, ltb-false}
+use Rattle.basics.proofs.Tests.{test-of, and-both, true-not-false}
+use Rattle.rows.specs.Rows.{maxTask, maxTicks, maxAlpha, maxBeta, inRange, timesInRange, allRows, noRow}
+use Rattle.rows.specs.declared.Row.{Row}
+use Rattle.rows.proofs.Limits.{limits, in-range-times, all-times, head-passes, tail-passes, append-passes}
+use Rattle.responses.specs.Figures.{latest, isLate, earliest, jitter, margin}
+use Rattle.responses.specs.Claims.{spent}
+use Rattle.responses.proofs.Responses.{figured}
+use Rattle.plans.specs.declared.Entry.{Entry}
+use Rattle.plans.specs.Entries.{entry, entriesFrom, entries, lateFrom, firstLate, inLimits, allInLimits}
+
+-- ---- by rank
+pub entries-length : (above order : List Row) → length (entriesFrom above order) ≡ length order
+entries-length above [] = refl
+entries-length above (r ∷ rs) = ap suc (entries-length (above ++ (r ∷ [])) rs)
+
+entry-from : (above order : List Row) (i : ℕ) (d : Entry) → i < length order
+    → getD (entriesFrom above order) i d ≡ entry (getD order i noRow) (above ++ take i order)
+entry-from above [] i d h = absurd (omega arith)
+entry-from above (r ∷ rs) zero d h = ap (entry r) (sym (append-nil above))
+entry-from above (r ∷ rs) (suc i) d h =
+    entry-from (above ++ (r ∷ [])) rs i d (omega arith)
+    ∙ ap (entry (getD rs i noRow)) (append-snoc above r (take i rs))
+
+pub entry-at : (order : List Row) (i : ℕ) (d : Entry) → i < length order
+    → getD (entries order) i d ≡ entry (getD order i noRow) (take i order)
+entry-at order i d h = entry-from [] order i d h
+
+-- ---- late ranks
+-- with no late rank, every task is in time under the rows above it
+none-late : (k : ℕ) (above order : List Row) (i : ℕ) → lateFrom (suc k) above order ≡ 0 → i < length order
+    → isLate (getD order i noRow) (above ++ take i order) ≡ false
+none-late k above [] i e h = absurd (omega arith)
+none-late k above (r ∷ rs) i e h =
+    elim (test-of (isLate r above)) [
+      | inl t ↦ absurd (let z : suc k ≡ 0 = rw (t, lateFrom) at e in omega arith)
+      | inr t ↦ at-rank i t (none-late (suc k) (above ++ (r ∷ [])) rs) h (rw (t, lateFrom) at e)
+    ]
+  where
+    at-rank :
+        (i : ℕ) → isLate r above ≡ false
+        → ((j : ℕ) → lateFrom (suc (suc k)) (above ++ (r ∷ [])) rs ≡ 0 → j < length rs
+        → isLate (getD rs j noRow) ((above ++ (r ∷ [])) ++ take j rs) ≡ false)
+        → i < suc (length rs) → lateFrom (suc (suc k)) (above ++ (r ∷ [])) rs ≡ 0
+        → isLate (getD (r ∷ rs) i noRow) (above ++ take i (r ∷ rs)) ≡ false
+    at-rank zero t ih l z = ap (isLate r) (append-nil above) ∙ t
+    at-rank (suc j) t ih l z = ap (isLate (getD rs j noRow)) (sym (append-snoc above r (take j rs))) ∙ ih j z (omega arith)
+
+pub first-late-none : (order : List Row) → firstLate order ≡ 0 → (i : ℕ) → i < length order
+    → isLate (getD order i noRow) (take i order) ≡ false
+first-late-none order e i h = none-late 0 [] order i e h
+
+-- the first late rank: it is late, and no rank above it is
+pub record FirstLate (above order : List Row) (i : ℕ) : Type 0 where
+  pub there : i < length order
+  pub late : isLate (getD order i noRow) (above ++ take i order) ≡ true
+  pub above-in-time : (j : ℕ) → j < i → isLate (getD order j noRow) (above ++ take j order) ≡ false
+
+late-some : (k : ℕ) (above order : List Row) (m : ℕ) → lateFrom k above order ≡ suc m
+    → (i : ℕ) × (suc m ≡ k + i) × FirstLate above order i
+late-some k above [] m e = absurd (omega arith)
+late-some k above (r ∷ rs) m e =
+    let ih = late-some (suc k) (above ++ (r ∷ [])) rs m in
+    elim (test-of (isLate r above)) [
+      | inl t ↦
+          let is : k ≡ suc m = rw (t, lateFrom) at e in
+          (0, omega arith, record {
+            there = omega arith;
+            late = ap (isLate r) (append-nil above) ∙ t;
+            above-in-time = λ j h. absurd (omega arith);
+          })
+      | inr t ↦
+          let l = ih (rw (t, lateFrom) at e) in
+          let at = l .0 in
+          (suc at, omega (arith, l .1), record {
+            there = omega (arith, l .2 .there);
+            late = moved at ∙ l .2 .late;
+            above-in-time = λ j h. earlier j t at h (l .2 .above-in-time);
+          })
+    ]
+  where
+    moved : (j : ℕ) → isLate (getD rs j noRow) (above ++ (r ∷ take j rs))
+        ≡ isLate (getD rs j noRow) ((above ++ (r ∷ [])) ++ take j rs)
+    moved j = ap (isLate (getD rs j noRow)) (sym (append-snoc above r (take j rs)))
+
+    earlier :
+        (j : ℕ) → isLate r above ≡ false → (at : ℕ) → j < suc at
+        → ((j : ℕ) → j < at → isLate (getD rs j noRow) ((above ++ (r ∷ [])) ++ take j rs) ≡ false)
+        → isLate (getD (r ∷ rs) j noRow) (above ++ take j (r ∷ rs)) ≡ false
+    earlier zero t at h f = ap (isLate r) (append-nil above) ∙ t
+    earlier (suc j) t at h f = moved j ∙ f j (omega arith)
+
+pub first-late-some : (order : List Row) (i : ℕ) → firstLate order ≡ suc i → FirstLate [] order i
+first-late-some order i e =
+    let l = late-some 1 [] order i e in
+    let same : l .0 ≡ i = omega (arith, l .1) in
+    subst (FirstLate [] order) same (l .2)
+
+-- ---- limits
+difference-limit : (a b m : ℕ) → a ≤ m → b ≤ m → natAbs (subℕ a b) ≤ m
+difference-limit a b m ha hb = elim (test-of (ltb a b)) [
+  | inl e ↦ rw e (omega (arith, ltb-true a b e))
+  | inr e ↦ rw e (omega arith)
+]
+
+entry-limits : (r : Row) (above : List Row) → inRange r ≡ true → allRows inRange above ≡ true
+    → isLate r above ≡ false → inLimits (entry r above) ≡ true
+entry-limits r above hr ha l =
+    let limit = limits r hr in
+    let f = figured r above (in-range-times r hr) (all-times above ha) in
+    let w = f .latest-fixed l in
+    let e = f .earliest-fixed l in
+    let most : latest r above ≤ maxTicks = omega (arith, w .2, limit .period .le-high) in
+    let steep = mul-le-mul {n₁ = r .alpha} {m₁ = jitter r above} {n₂ = maxAlpha} {m₂ = maxTicks}
+    (limit .alpha .le-high) (omega arith) in
+    let size = difference-limit (r .beta) (spent r above) maxBeta (limit .beta .le-high) (omega (arith, e .2)) in
+    simp (
+      le-leb (r .task) maxTask (limit .task .le-high),
+      le-leb (earliest r above) maxTicks (omega (arith, e .2)),
+      le-leb (latest r above) maxTicks most,
+      le-leb (jitter r above) maxTicks (omega arith),
+      le-leb (natAbs (margin r above)) maxBeta size,
+    )
+
+limits-from : (above order : List Row) → allRows inRange above ≡ true → allRows inRange order ≡ true
+    → ((i : ℕ) → i < length order → isLate (getD order i noRow) (above ++ take i order) ≡ false)
+    → allInLimits (entriesFrom above order) ≡ true
+unfolding allInLimits
+limits-from above [] ha ho l = refl
+limits-from above (r ∷ rs) ha ho l =
+    let hr = head-passes inRange r rs ho in
+    let in-time : isLate r above ≡ false = sym (ap (isLate r) (append-nil above)) ∙ l 0 (omega arith) in
+    let more = append-passes inRange above (r ∷ []) ha (and-both (inRange r) true hr refl) in
+    and-both (inLimits (entry r above)) (allInLimits (entriesFrom (above ++ (r ∷ [])) rs))
+    (entry-limits r above hr ha in-time)
+    (limits-from (above ++ (r ∷ [])) rs more (tail-passes inRange r rs ho)
+    (λ i h. ap (isLate (getD rs i noRow)) (append-snoc above r (take i rs)) ∙ l (suc i) (omega arith)))
+
+pub entries-limits : (order : List Row) → allRows inRange order ≡ true
+    → ((i : ℕ) → i < length order → isLate (getD order i noRow) (take i order) ≡ false)
+    → allInLimits (entries order) ≡ true
+entries-limits order h l = limits-from [] order refl h l

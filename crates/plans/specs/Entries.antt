@@ -1,0 +1,48 @@
+-- The figures that a plan writes of an order, rank by rank: each row under those above it, in the order's own sequence.
+use mathlib.Core.Bool.{Bool, true, false, _&&_}
+use mathlib.Core.List.{List, [], _∷_, _++_}
+use Prim.Native.Nat.{ℕ, suc}
+use lib.Dec.{leb}
+use lib.IntN.{natAbs}
+use Rattle.rows.specs.Rows.{maxTask, maxTicks, maxBeta}
+use Rattle.rows.specs.declared.Row.{Row}
+use Rattle.responses.specs.Figures as Figures
+use Rattle.responses.specs.Figures.{isLate}
+use Rattle.plans.specs.declared.Entry.{Entry}
+
+abbrev pub entry : Row → List Row → Entry
+entry r above = record {
+  task = r .task;
+  best = Figures.earliest r above;
+  worst = Figures.latest r above;
+  jitter = Figures.jitter r above;
+  margin = Figures.margin r above;
+}
+
+abbrev pub entriesFrom : List Row → List Row → List Entry
+entriesFrom above [] = []
+entriesFrom above (r ∷ rs) = entry r above ∷ entriesFrom (above ++ (r ∷ [])) rs
+
+abbrev pub entries : List Row → List Entry
+entries order = entriesFrom [] order
+
+-- the first late task from the top: its rank, counted from 1; 0 for none
+abbrev pub lateFrom : ℕ → List Row → List Row → ℕ
+lateFrom k above [] = 0
+lateFrom k above (r ∷ rs) = elim (isLate r above) [ true ↦ k | false ↦ lateFrom (suc k) (above ++ (r ∷ [])) rs ]
+
+abbrev pub firstLate : List Row → ℕ
+firstLate order = lateFrom 1 [] order
+
+-- the limits of an entry: a margin's size is at most beta's limit
+abbrev pub inLimits : Entry → Bool
+inLimits e =
+    leb (e .task) maxTask
+    && leb (e .best) maxTicks
+    && leb (e .worst) maxTicks
+    && leb (e .jitter) maxTicks
+    && leb (natAbs (e .margin)) maxBeta
+
+unfoldable pub allInLimits : List Entry → Bool
+allInLimits [] = true
+allInLimits (e ∷ es) = inLimits e && allInLimits es

@@ -1,0 +1,41 @@
+-- A plan's text from its entries, and a refusal's three lines.
+use mathlib.Core.List.{List, [], _∷_}
+use Prim.Native.Nat.{ℕ, suc}
+use lib.ListN.{length}
+use Rattle.text.specs.Text.{bytes, decimal, signed, joined, keyLine}
+use Rattle.plans.specs.declared.Entry.{Entry}
+
+-- the six lines of rank k
+unfoldable pub rankText : ℕ → Entry → List ℕ
+rankText k e = joined (
+    keyLine (bytes "rank=") (decimal k)
+    ∷ keyLine (bytes "task=") (decimal (e .task))
+    ∷ keyLine (bytes "best=") (decimal (e .best))
+    ∷ keyLine (bytes "worst=") (decimal (e .worst))
+    ∷ keyLine (bytes "jitter=") (decimal (e .jitter))
+    ∷ keyLine (bytes "margin=") (signed (e .margin))
+    ∷ [])
+
+-- the ranks from k on, the highest first
+abbrev pub rankTexts : ℕ → List Entry → List (List ℕ)
+rankTexts k [] = []
+rankTexts k (e ∷ es) = rankText k e ∷ rankTexts (suc k) es
+
+unfoldable pub planText : ℕ → List Entry → List ℕ
+planText board es = joined (
+    keyLine (bytes "plan=") (decimal 1)
+    ∷ keyLine (bytes "board=") (decimal board)
+    ∷ keyLine (bytes "tasks=") (decimal (length es))
+    ∷ rankTexts 1 es)
+
+-- a refusal's number and place
+unfoldable pub refusalText : ℕ → ℕ → List ℕ
+refusalText number place = joined (
+    keyLine (bytes "plan=") (decimal 0)
+    ∷ keyLine (bytes "refusal=") (decimal number)
+    ∷ keyLine (bytes "line=") (decimal place)
+    ∷ [])
+
+-- the room that every plan has enough of
+abbrev pub planRoom : ℕ
+planRoom = 1024
