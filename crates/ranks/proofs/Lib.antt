@@ -1,0 +1,2 @@
+-- The demands of every text, and the starred cases.
+pub mod Cases

@@ -1,0 +1,103 @@
+-- Document 01's starred cases, in one list under one proposition about the definitions.
+use mathlib.Core.Path.{_≡_}
+use mathlib.Core.Bool.{true, false}
+use mathlib.Core.List.{List, [], _∷_, _++_, map}
+use mathlib.Core.Option.{Option, none, some}
+use Prim.Native.Nat.{ℕ}
+use Prim.Native.String.{String}
+use lib.IntN.{ℤ, pos, negsuc}
+use Rattle.text.specs.Text.{bytes, lineFeed}
+use Rattle.rows.specs.Rows.{row, tasksOf}
+use Rattle.rows.specs.declared.Row.{Row}
+use Rattle.responses.specs.Figures.{latest, isLate, earliest, jitter, margin}
+use Rattle.orders.specs.Stability.{chosenOrder}
+use Rattle.plans.specs.Plans.{planRoom}
+use Rattle.plans.specs.Outcomes.{writes, refuses}
+use Rattle.ranks.specs.Calls.{planned}
+
+-- a row under rows above it and its E, W, jitter and margin; a late row; a table's rows and the tasks of its order;
+-- a text and its whole plan; a text and its refusal
+pub data Case : Type 0 where
+  figures : Row → List Row → ℕ → ℕ → ℕ → ℤ → Case
+  late : Row → List Row → Case
+  order : List Row → List ℕ → Case
+  plan : List ℕ → List ℕ → Case
+  refusal : List ℕ → ℕ → ℕ → Case
+
+abbrev pub tasksIn : Option (List Row) → Option (List ℕ)
+tasksIn none = none
+tasksIn (some os) = some (tasksOf os)
+
+abbrev pub Holds : Case → Type 0
+Holds (figures t above e w j m) =
+    (isLate t above ≡ false)
+    × (earliest t above ≡ e)
+    × (latest t above ≡ w)
+    × (jitter t above ≡ j)
+    × (margin t above ≡ m)
+Holds (late t above) = isLate t above ≡ true
+Holds (order rows tasks) = tasksIn (chosenOrder rows) ≡ some tasks
+Holds (plan text output) = planned text planRoom ≡ writes output
+Holds (refusal text number place) = planned text planRoom ≡ refuses number place
+
+abbrev pub AllHold : List Case → Type 0
+AllHold [] = Unit {0}
+AllHold (c ∷ cs) = Holds c × AllHold cs
+
+-- lines, each with its line feed
+abbrev pub lined : List String → List ℕ
+lined [] = []
+lined (s ∷ ss) = bytes s ++ (lineFeed ∷ lined ss)
+
+-- the paper's rows and table, with the betas of tasks 11, 12 and 13
+abbrev pub row11 : ℕ → Row
+row11 beta = row 11 24 6 6 1000 beta
+
+abbrev pub row12 : ℕ → Row
+row12 beta = row 12 18 2 2 1000 beta
+
+abbrev pub row13 : ℕ → Row
+row13 beta = row 13 200 19 17 3000 beta
+
+abbrev pub table : String → String → String → List ℕ
+table beta11 beta12 beta13 = lined (
+    "board=7" ∷ "tasks=3"
+    ∷ "task=11" ∷ "period=24" ∷ "worst=6" ∷ "best=6" ∷ "alpha=1000" ∷ beta11
+    ∷ "task=12" ∷ "period=18" ∷ "worst=2" ∷ "best=2" ∷ "alpha=1000" ∷ beta12
+    ∷ "task=13" ∷ "period=200" ∷ "worst=19" ∷ "best=17" ∷ "alpha=3000" ∷ beta13
+    ∷ [])
+
+-- its plan, with the margin of task 13
+abbrev pub planWith : String → List ℕ
+planWith margin13 = lined (
+    "plan=1" ∷ "board=7" ∷ "tasks=3"
+    ∷ "rank=1" ∷ "task=12" ∷ "best=2" ∷ "worst=2" ∷ "jitter=0" ∷ "margin=6000"
+    ∷ "rank=2" ∷ "task=11" ∷ "best=6" ∷ "worst=8" ∷ "jitter=2" ∷ "margin=0"
+    ∷ "rank=3" ∷ "task=13" ∷ "best=25" ∷ "worst=35" ∷ "jitter=10" ∷ margin13
+    ∷ [])
+
+-- one task that always runs
+abbrev pub alone : String → List ℕ
+alone beta = lined (
+    "board=7" ∷ "tasks=1"
+    ∷ "task=1" ∷ "period=10" ∷ "worst=10" ∷ "best=10" ∷ "alpha=1000" ∷ beta
+    ∷ [])
+
+abbrev pub starred : List Case
+starred =
+    figures (row13 57000) [] 17 19 2 (pos 34000)
+    ∷ figures (row13 57000) (row12 8000 ∷ []) 19 23 4 (pos 26000)
+    ∷ figures (row13 57000) (row11 8000 ∷ []) 17 31 14 (negsuc 1999)
+    ∷ figures (row13 57000) (row11 8000 ∷ row12 8000 ∷ []) 25 35 10 (pos 2000)
+    ∷ late (row12 8000) (row13 57000 ∷ [])
+    ∷ figures (row12 8000) (row11 8000 ∷ []) 2 8 6 (pos 0)
+    ∷ order (row11 8000 ∷ row12 8000 ∷ row13 57000 ∷ []) (12 ∷ 11 ∷ 13 ∷ [])
+    ∷ plan (table "beta=8000" "beta=8000" "beta=57000") (planWith "margin=2000")
+    ∷ plan (table "beta=8000" "beta=8000" "beta=55000") (planWith "margin=0")
+    ∷ refusal (table "beta=8000" "beta=8000" "beta=54999") 8 0
+    ∷ order (row11 7999 ∷ row12 8000 ∷ row13 57000 ∷ []) (11 ∷ 12 ∷ 13 ∷ [])
+    ∷ refusal (table "beta=7999" "beta=7999" "beta=57000") 8 0
+    ∷ plan (alone "beta=10000")
+    (lined ("plan=1" ∷ "board=7" ∷ "tasks=1" ∷ "rank=1" ∷ "task=1" ∷ "best=10" ∷ "worst=10" ∷ "jitter=0" ∷ "margin=0" ∷ []))
+    ∷ refusal (alone "beta=9999") 8 0
+    ∷ []
