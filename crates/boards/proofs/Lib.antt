@@ -1,1 +1,10 @@
--- The board theorem.
+-- The board theorem: a run of an order in which no task is late keeps each rank's responses.
+pub mod Sums
+pub mod Releases
+pub mod Service
+pub mod Queues
+pub mod Backlog
+pub mod Traces
+pub mod Ranks
+pub mod Windows
+pub mod Kept

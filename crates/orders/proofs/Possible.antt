@@ -1,11 +1,15 @@
 -- Possible orders, taken apart at the lowest row as well as at the highest.
 -- Two rows can be taken from a set in either sequence (`swapped`); the rest follows by induction.
 use mathlib.Core.Path.{_≡_, refl, ap, sym, _∙_}
+use mathlib.Core.Bool.{Bool, true}
 use mathlib.Core.List.{List, [], _∷_, _++_}
 use Prim.Native.Nat.{ℕ, suc}
 use native.Mathlib.Omega.{arith}
 use lib.ListN.{length}
+use Rattle.basics.proofs.Tests.{and-both}
+use Rattle.rows.specs.Rows.{allRows}
 use Rattle.rows.specs.declared.Row.{Row}
+use Rattle.rows.proofs.Limits.{head-passes, tail-passes}
 use Rattle.orders.specs.Orders.{Taken, here, later, Possible, nothing, first}
 
 -- ---- rows of a set
@@ -76,3 +80,24 @@ lowest-row {x} (first t (first s p)) =
 pub lowest-of : (n : ℕ) (os rs : List Row) → length rs ≡ suc n → Possible os rs → Lowest os rs
 lowest-of n [] rs e p = absurd (omega (arith, possible-length p))
 lowest-of n (x ∷ os) rs e p = lowest-row p
+
+-- what holds of every row of a set holds of every row of an order of it
+taken-passes :
+    (f : Row → Bool) {r : Row} {rs rest : List Row} →
+    Taken r rs rest →
+    allRows f rs ≡ true →
+    (f r ≡ true) × (allRows f rest ≡ true)
+taken-passes f {r} (here {rs = rs}) h = (head-passes f r rs h, tail-passes f r rs h)
+taken-passes f (later {x = x} {rs = rs} {rest = rest} t) h =
+    let ih = taken-passes f t (tail-passes f x rs h) in
+    (ih .0, and-both (f x) (allRows f rest) (head-passes f x rs h) (ih .1))
+
+pub possible-passes :
+    (f : Row → Bool) {os rs : List Row} →
+    Possible os rs →
+    allRows f rs ≡ true →
+    allRows f os ≡ true
+possible-passes f nothing h = refl
+possible-passes f (first {r = r} {os = os} t p) h =
+    let k = taken-passes f t h in
+    and-both (f r) (allRows f os) (k .0) (possible-passes f p (k .1))

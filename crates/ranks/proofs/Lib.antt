@@ -1,2 +1,3 @@
 -- The demands of every text, and the starred cases.
+pub mod Outcomes
 pub mod Cases

@@ -2,14 +2,16 @@
 use mathlib.Core.Path.{_≡_, refl}
 use mathlib.Core.Bool.{Bool, true, _&&_}
 use mathlib.Core.List.{List, [], _∷_, _++_}
-use Prim.Native.Nat.{ℕ, _≤_}
+use Prim.Native.Nat.{ℕ, zero, suc, _≤_, _<_}
+use native.Mathlib.Omega.{arith}
 use lib.Dec.{leb}
+use lib.ListN.{length, getD, take}
 use borrow.Author.Tests.{leb-true, le-leb}
 use Rattle.basics.specs.Basics.{within}
 use Rattle.basics.proofs.Tests.{and-left, and-right, and-both, Within, within-true}
 use Rattle.rows.specs.declared.Row.{Row}
 use Rattle.rows.specs.Rows.{minTask, maxTask, minTicks, maxTicks, minAlpha, maxAlpha, minBeta, maxBeta}
-use Rattle.rows.specs.Rows.{inRange, timesInRange, allRows}
+use Rattle.rows.specs.Rows.{inRange, timesInRange, allRows, noRow}
 
 -- ---- every limit
 pub record Limits (r : Row) : Type 0 where
@@ -119,3 +121,14 @@ pub append-passes : (f : Row → Bool) (rs qs : List Row) → allRows f rs ≡ t
 append-passes f [] qs h k = k
 append-passes f (r ∷ rs) qs h k =
     and-both (f r) (allRows f (rs ++ qs)) (head-passes f r rs h) (append-passes f rs qs (tail-passes f r rs h) k)
+
+pub at-passes : (f : Row → Bool) (rs : List Row) (i : ℕ) → allRows f rs ≡ true → i < length rs → f (getD rs i noRow) ≡ true
+at-passes f [] i h l = absurd (omega arith)
+at-passes f (r ∷ rs) zero h l = head-passes f r rs h
+at-passes f (r ∷ rs) (suc i) h l = at-passes f rs i (tail-passes f r rs h) (omega arith)
+
+pub front-passes : (f : Row → Bool) (n : ℕ) (rs : List Row) → allRows f rs ≡ true → allRows f (take n rs) ≡ true
+front-passes f zero rs h = refl
+front-passes f (suc n) [] h = refl
+front-passes f (suc n) (r ∷ rs) h =
+    and-both (f r) (allRows f (take n rs)) (head-passes f r rs h) (front-passes f n rs (tail-passes f r rs h))

@@ -1,1 +1,2 @@
 -- Laws of tables as text.
+pub mod Numbers

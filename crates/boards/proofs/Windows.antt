@@ -1,0 +1,68 @@
+-- The work that a window of ticks brings. Each job needs from its row's best to its worst, so a rank's work is bounded
+-- by its releases in the window, both ways; and where worst and the interference of w ticks fit w ticks, the work that
+-- any window of w ticks brings fits it.
+use mathlib.Core.List.{List}
+use Prim.Native.Nat.{ℕ, suc, _+_, _*_, _≤_, _<_}
+use native.Mathlib.Omega.{arith}
+use native.Mathlib.Nat.{le-trans, lt-of-lt-of-le, mul-le-mul-right}
+use lib.ListN.{length, take}
+use Rattle.rows.specs.declared.Row.{Row}
+use Rattle.rows.proofs.Limits.{Times}
+use Rattle.responses.specs.Interference.{ceiling}
+use Rattle.responses.specs.Figures.{worstIn}
+use Rattle.responses.proofs.Sums.{ceiling-under}
+use Rattle.boards.specs.Claims.{rowAt, LastsInRange}
+use Rattle.boards.proofs.Sums.{Above, sum-le, sum-add, sum-last}
+use Rattle.boards.proofs.Releases.{released-most, released-least, needed-most, needed-least, needed-grows}
+use Rattle.boards.proofs.Service.{workAbove}
+use Rattle.boards.proofs.Traces.{releasedOf, workOf}
+use Rattle.boards.proofs.Ranks.{worstPart, worst-above}
+
+module _ (order : List Row) (offset : ℕ → ℕ) (need : ℕ → ℕ → ℕ)
+    (times : (j : ℕ) → j < length order → Times (rowAt order j)) (lasts : LastsInRange order need) where
+  pub periods : (j : ℕ) → j < length order → 1 ≤ rowAt order j .period
+  periods j l = omega (arith, times j l)
+
+  pub needs : (j k : ℕ) → j < length order → 1 ≤ need j k
+  needs j k l = omega (arith, times j l, lasts j k l)
+
+  abbrev pub work : ℕ → ℕ → ℕ
+  work j t = workOf order offset need j t
+
+  -- ---- of one rank
+  pub window-most : (j s w : ℕ) → j < length order → work j (s + w) ≤ work j s + worstPart w (rowAt order j)
+  window-most j s w l =
+      let r = rowAt order j in
+      let before = releasedOf order offset j s in
+      le-trans (needed-grows (need j) (releasedOf order offset j (s + w)) (before + ceiling w (r .period))
+      (released-most (r .period) (offset j) (periods j l) s w))
+      (needed-most (need j) (r .worst) (λ k. lasts j k l .1) before (ceiling w (r .period)))
+
+  pub window-least : (j s w m : ℕ) → j < length order → offset j ≤ s → m * rowAt order j .period ≤ w
+      → work j s + m * rowAt order j .best ≤ work j (s + w)
+  window-least j s w m l started fits =
+      let r = rowAt order j in
+      let before = releasedOf order offset j s in
+      le-trans (needed-least (need j) (r .best) (λ k. lasts j k l .0) before m)
+      (needed-grows (need j) (before + m) (releasedOf order offset j (s + w))
+      (released-least (r .period) (offset j) (periods j l) s w m started fits))
+
+  -- ---- of the ranks above i
+  pub window-above : (i s w : ℕ) → i ≤ length order
+      → workAbove work i (s + w) ≤ workAbove work i s + worstIn w (take i order)
+  window-above i s w l =
+      let part : ℕ → ℕ = λ j. worstPart w (rowAt order j) in
+      let each : Above i (λ j. work j (s + w) ≤ work j s + part j) = λ j b. window-most j s w (lt-of-lt-of-le b l) in
+      let all = sum-le i (λ j. work j (s + w)) (λ j. work j s + part j) each in
+      omega (arith, sum-add i (λ j. work j s) part, worst-above w i order l)
+
+  -- ---- of rank i and those above, in a window within a period of i
+  pub window-fits : (i s w : ℕ) → i < length order → w ≤ rowAt order i .period
+      → rowAt order i .worst + worstIn w (take i order) ≤ w
+      → workAbove work (suc i) (s + w) ≤ workAbove work (suc i) s + w
+  window-fits i s w l short fits =
+      let r = rowAt order i in
+      let one = mul-le-mul-right (r .worst) (ceiling-under 1 w (r .period) (periods i l) (omega arith)) in
+      let before = sum-last i (λ j. work j s) in
+      let after = sum-last i (λ j. work j (s + w)) in
+      omega (arith, window-above i s w (omega arith), window-most i s w l)
