@@ -1,7 +1,9 @@
--- Laws of interference, fixed points and figures.
+-- Laws of interference, fixed points and figures, and of rows as columns.
 pub mod Sums
 pub mod Fixed
 pub mod Margins
 pub mod Responses
 pub mod Same
 pub mod As03
+pub mod Columns
+pub mod Gathered

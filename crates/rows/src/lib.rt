@@ -1,3 +1,11 @@
+ghost use mathlib.Core.Path.{_≡_};
+ghost use Rattle.rows.specs.Rows.{inRange, row};
+ghost use Rattle.rows.specs.Checked.{checked};
+use basics::within;
+
+// The most rows of a table.
+pub const MAX_TASKS: usize = 12;
+
 // A task's row. Times are in ticks, alpha in thousandths, beta in thousandths of a tick.
 pub struct Row {
     pub task: u32,
@@ -6,4 +14,73 @@ pub struct Row {
     pub best: u32,
     pub alpha: u32,
     pub beta: u64,
+}
+
+// What the constructor answers.
+pub enum Checked {
+    InRange(Row),
+    Outside,
+}
+
+impl Row {
+    pub const TASK_MIN: u64 = 1;
+
+    pub const TASK_MAX: u64 = 65_535;
+
+    pub const TICKS_MIN: u64 = 1;
+
+    pub const TICKS_MAX: u64 = 1_000_000;
+
+    pub const ALPHA_MIN: u64 = 1_000;
+
+    pub const ALPHA_MAX: u64 = 100_000;
+
+    pub const BETA_MIN: u64 = 0;
+
+    pub const BETA_MAX: u64 = 200_000_000_000;
+
+    // Whether six numbers keep the limits of a row.
+    fn keeps(task: u64, period: u64, worst: u64, best: u64, alpha: u64, beta: u64) -> bool
+        ensures { λ r. ⌜ r ≡ inRange (row task period worst best alpha beta) ⌝ }
+    {
+        within(Row::TASK_MIN, Row::TASK_MAX, task)
+            & within(Row::TICKS_MIN, Row::TICKS_MAX, period)
+            & within(Row::TICKS_MIN, Row::TICKS_MAX, worst)
+            & within(Row::TICKS_MIN, Row::TICKS_MAX, best)
+            & within(Row::ALPHA_MIN, Row::ALPHA_MAX, alpha)
+            & within(Row::BETA_MIN, Row::BETA_MAX, beta)
+            & (worst <= period)
+            & (best <= worst)
+    }
+
+    // The row of six numbers, if they keep its limits.
+    pub fn new(task: u64, period: u64, worst: u64, best: u64, alpha: u64, beta: u64) -> Checked
+        ensures { λ r. ⌜ r ≡ checked (row task period worst best alpha beta) ⌝ }
+    {
+        if !Row::keeps(task, period, worst, best, alpha, beta) {
+            return Checked::Outside;
+        }
+        Checked::InRange(Row {
+            task: task as u32,
+            period: period as u32,
+            worst: worst as u32,
+            best: best as u32,
+            alpha: alpha as u32,
+            beta,
+        })
+    }
+
+    // Whether the row keeps its limits.
+    pub fn in_range(self) -> bool
+        ensures { λ r. ⌜ r ≡ inRange self ⌝ }
+    {
+        Row::keeps(
+            self.task as u64,
+            self.period as u64,
+            self.worst as u64,
+            self.best as u64,
+            self.alpha as u64,
+            self.beta,
+        )
+    }
 }

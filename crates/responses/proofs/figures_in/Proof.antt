@@ -1,0 +1,54 @@
+use mathlib.Core.Path.{_≡_, ap, sym, _∙_}
+use mathlib.Core.Bool.{Bool, true, false, _&&_}
+use native.Mathlib.Omega.{arith}
+use borrow.Author.Needs.{needs}
+use lib.ListN.{length}
+use Rattle.rows.specs.Rows.{inRange}
+use Rattle.basics.specs.Basics.{pick}
+use Rattle.basics.proofs.Tests.{and-left, and-right}
+use Rattle.responses.specs.Figures.{maxAbove}
+use Rattle.responses.specs.Gathered.{figuresIn}
+use Rattle.responses.proofs.Gathered.{posed-answer, no-answer}
+use Rattle.responses.proofs.figures_in.Statement.{statement}
+use Rattle.responses.proofs.figures_in.Tie as tie
+use Rattle.responses.proofs.figures_in.Reads as reads
+use Rattle.responses.proofs.figures_in.Lts as lts
+use Rattle.responses.proofs.figures_under.Reads as figures-under-reads
+use Rattle.rows.proofs.Row.in_range.Reads as in-range-reads
+
+in-range-requires : tie.Need-in-range-requires
+in-range-requires c κs = search needs
+
+figures-under-requires : tie.Need-figures-under-requires
+figures-under-requires c κs =
+    let i = c .before .before .before .before .before .before .before in
+    let s = i .before .before in
+    let posed = and-right (i .before .in-range .result) (s .args .t2 .posed) (i .if1 .taken) in
+    record {
+      in-range = sym (i .before .in-range .ensures)
+          ∙ and-left (i .before .in-range .result) (s .args .t2 .posed) (i .if1 .taken);
+      few = omega (arith, s .pre .few posed);
+      periods-held = omega (arith, s .pre .few posed);
+      worsts-held = omega (arith, s .pre .few posed);
+      bests-held = omega (arith, s .pre .few posed);
+      times-in-range = s .pre .times-in-range posed;
+    }
+
+none-requires : tie.Need-none-requires
+none-requires c κs = search needs
+
+returns : tie.Need-returns
+returns c =
+    let i = c .before .before .before .before .before .before .before .before in
+    let s = i .before .before in
+    posed-answer (s .args .row) (s .args .t2) _ (i .before .in-range .ensures) _ (i .if1 .taken)
+    (c .figures-under .ensures)
+
+returns-2 : tie.Need-returns-2
+returns-2 c =
+    let i = c .before in
+    let s = i .before .before in
+    no-answer (s .args .row) (s .args .t2) _ (i .before .in-range .ensures) _ (i .if1 .left) (c .none .ensures)
+
+pub figures-in-spec : {M : Type 1} → statement M
+figures-in-spec = tie.close (tie.spec in-range-requires figures-under-requires none-requires returns returns-2)

@@ -1,0 +1,58 @@
+-- Columns of at most eleven rows, filled row by row.
+use mathlib.Core.Path.{_≡_}
+use mathlib.Core.Bool.{Bool, true, false, _&&_}
+use mathlib.Core.List.{List, [], _∷_}
+use Prim.Native.Nat.{ℕ, _+_, _≤_}
+use lib.Dec.{ltb}
+use lib.ListN.{set, replicate}
+use Rattle.rows.specs.Rows.{timesInRange, inRange, allRows}
+use Rattle.rows.specs.declared.Row.{Row}
+use Rattle.responses.specs.declared.Above.{Above}
+use Rattle.responses.specs.declared.Figures.{Figures}
+use Rattle.basics.specs.Basics.{pick}
+use Rattle.responses.specs.Figures.{maxAbove, noFigures, figuresUnder}
+use Rattle.responses.specs.Columns.{rowsAbove}
+
+abbrev pub noneAbove : Above
+noneAbove = record {
+  periods = replicate maxAbove 0;
+  worsts = replicate maxAbove 0;
+  bests = replicate maxAbove 0;
+  count = 0;
+  posed = true;
+}
+
+-- one more row, stored or refused
+abbrev pub stored : Above → Row → Above
+stored a r = record {
+  periods = set (a .periods) (a .count) (r .period);
+  worsts = set (a .worsts) (a .count) (r .worst);
+  bests = set (a .bests) (a .count) (r .best);
+  count = a .count + 1;
+  posed = a .posed;
+}
+
+abbrev pub refused : Above → Above
+refused a = record { periods = a .periods; worsts = a .worsts; bests = a .bests; count = a .count; posed = false }
+
+-- it is stored if all so far were in range and so is this, and there is room
+abbrev pub fits : Above → Row → Bool
+fits a r = a .posed && inRange r && ltb (a .count) maxAbove
+
+abbrev pub addRow : Above → Row → Above
+addRow a r = pick (fits a r) (stored a r) (refused a)
+
+abbrev pub addRows : Above → List Row → Above
+addRows a [] = a
+addRows a (r ∷ rs) = addRows (addRow a r) rs
+
+abbrev pub rowsIn : Above → List Row
+rowsIn a = rowsAbove (a .count) (a .periods) (a .worsts) (a .bests)
+
+-- columns that are posed hold rows whose times are in range
+pub record Sound (a : Above) : Type 0 where
+  pub few : a .posed ≡ true → a .count ≤ maxAbove
+  pub times-in-range : a .posed ≡ true → allRows timesInRange (rowsIn a) ≡ true
+
+abbrev pub figuresIn : Row → Above → Figures
+figuresIn t a = pick (inRange t && a .posed) (figuresUnder t (rowsIn a)) noFigures

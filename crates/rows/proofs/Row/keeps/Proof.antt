@@ -1,0 +1,37 @@
+-- `rows::Row::keeps` meets its contract: its tests are those of `inRange`, in their order.
+use borrow.Author.Needs.{needs}
+use Rattle.rows.proofs.Row.keeps.Statement.{statement}
+use Rattle.rows.proofs.Row.keeps.Tie as tie
+
+within-requires : tie.Need-within-requires
+within-requires c κs = search needs
+
+within-requires-2 : tie.Need-within-requires-2
+within-requires-2 c κs = search needs
+
+within-requires-3 : tie.Need-within-requires-3
+within-requires-3 c κs = search needs
+
+within-requires-4 : tie.Need-within-requires-4
+within-requires-4 c κs = search needs
+
+within-requires-5 : tie.Need-within-requires-5
+within-requires-5 c κs = search needs
+
+within-requires-6 : tie.Need-within-requires-6
+within-requires-6 c κs = search needs
+
+returns : tie.Need-returns
+returns c = cc
+
+pub keeps-spec : {M : Type 1} → statement M
+keeps-spec =
+    tie.close
+    (tie.spec
+    within-requires
+    within-requires-2
+    within-requires-3
+    within-requires-4
+    within-requires-5
+    within-requires-6
+    returns)

@@ -1,0 +1,45 @@
+-- `rows::Row::new` meets its contract: a row where `keeps` says so. What it says bounds each cast.
+use borrow.Author.Needs.{needs}
+use native.Mathlib.Omega.{arith}
+use borrow.Author.Tests.{not-true, not-false}
+use mathlib.Core.Path.{sym, _∙_}
+use Rattle.rows.specs.Rows.{row}
+use Rattle.rows.proofs.Limits.{Limits, limits}
+use Rattle.rows.proofs.Row.new.Statement.{statement}
+use Rattle.rows.proofs.Row.new.Tie as tie
+
+keeps-requires : tie.Need-keeps-requires
+keeps-requires c κs = search needs
+
+-- past the test, the numbers keep their limits
+known : (c : tie.Else1)
+    → let n = c .before .before .args in Limits (row (n .task) (n .period) (n .worst) (n .best) (n .alpha) (n .beta))
+known c =
+    let n = c .before .before .args in
+    limits (row (n .task) (n .period) (n .worst) (n .best) (n .alpha) (n .beta)) (sym (c .before .keeps .ensures) ∙ not-false _ (c .if1 .left))
+
+returns : tie.Need-returns
+returns c = simp (sym (c .before .keeps .ensures) ∙ not-true _ (c .if1 .taken))
+
+cast-t9 : tie.Need-cast-t9
+cast-t9 c = omega (arith, known c)
+
+cast-t10 : tie.Need-cast-t10
+cast-t10 c = omega (arith, known c)
+
+cast-t11 : tie.Need-cast-t11
+cast-t11 c = omega (arith, known c)
+
+cast-t12 : tie.Need-cast-t12
+cast-t12 c = omega (arith, known c)
+
+cast-t13 : tie.Need-cast-t13
+cast-t13 c = omega (arith, known c)
+
+returns-2 : tie.Need-returns-2
+returns-2 c = simp (sym (c .before .keeps .ensures) ∙ not-false _ (c .if1 .left))
+
+pub new-spec : {M : Type 1} → statement M
+new-spec =
+    tie.close
+    (tie.spec keeps-requires returns cast-t9 cast-t10 cast-t11 cast-t12 cast-t13 returns-2)
