@@ -1,12 +1,13 @@
 -- A test is true or false, joined tests are taken apart and put together, and a range's test gives its two bounds.
-use mathlib.Core.Path.{_≡_, refl}
+use mathlib.Core.Path.{_≡_, refl, sym}
 use mathlib.Core.Bool.{Bool, true, false, _&&_, _||_}
+use mathlib.Core.List.{List, [], _∷_, _++_}
 use mathlib.Core.Logic.{_⊎_, inl, inr}
 use Prim.Native.Nat.{ℕ, _≤_, _<_}
 use native.Mathlib.Omega.{arith}
-use lib.Dec.{leb}
-use borrow.Author.Tests.{leb-true, leb-false, le-leb}
-use Rattle.basics.specs.Basics.{within}
+use lib.Dec.{leb, eqb}
+use borrow.Author.Tests.{leb-true, leb-false, le-leb, eqb-false, ne-eqb}
+use Rattle.basics.specs.Basics.{within, isIn}
 
 -- a test's value with its equation
 pub test-of : (b : Bool) → (b ≡ true) ⊎ (b ≡ false)
@@ -15,6 +16,9 @@ test-of false = inr refl
 
 pub true-not-false : (b : Bool) → b ≡ true → b ≡ false → ⊥
 true-not-false b p q = let z : _≡_ {A = ℕ} 0 1 = cc in omega arith
+
+pub never : {A : Type 0} → false ≡ true → A
+never e = absurd (true-not-false false e refl)
 
 pub false-of : (b : Bool) → (b ≡ true → ⊥) → b ≡ false
 false-of true h = absurd (h refl)
@@ -60,3 +64,11 @@ within-true low high value e = record {
 
 pub true-within : (low high value : ℕ) → low ≤ value → value ≤ high → within low high value ≡ true
 true-within low high value l h = simp (le-leb low value l, le-leb value high h)
+
+pub eqb-swap : (x y : ℕ) → eqb x y ≡ false → eqb y x ≡ false
+eqb-swap x y e = ne-eqb y x (λ h. eqb-false x y e (sym h))
+
+-- ---- lists
+pub in-append : (x : ℕ) (s t : List ℕ) → isIn x (s ++ t) ≡ (isIn x s || isIn x t)
+in-append x [] t = refl
+in-append x (y ∷ s) t = elim (test-of (eqb x y)) [ inl e ↦ rw e | inr e ↦ rw e (in-append x s t) ]

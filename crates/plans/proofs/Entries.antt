@@ -76,20 +76,26 @@ late-some k above (r ∷ rs) m e =
     let ih = late-some (suc k) (above ++ (r ∷ [])) rs m in
     elim (test-of (isLate r above)) [
       | inl t ↦
-          let is : k ≡ suc m = rw (t, lateFrom) at e in
-          (0, omega arith, record {
-            there = omega arith;
-            late = ap (isLate r) (append-nil above) ∙ t;
-            above-in-time = λ j h. absurd (omega arith);
-          })
+          let is : k ≡ suc m = rw (t, lateFrom) at e in (
+            0,
+            omega arith,
+            record {
+              there = omega arith;
+              late = ap (isLate r) (append-nil above) ∙ t;
+              above-in-time = λ j h. absurd (omega arith);
+            },
+          )
       | inr t ↦
           let l = ih (rw (t, lateFrom) at e) in
-          let at = l .0 in
-          (suc at, omega (arith, l .1), record {
-            there = omega (arith, l .2 .there);
-            late = moved at ∙ l .2 .late;
-            above-in-time = λ j h. earlier j t at h (l .2 .above-in-time);
-          })
+          let at = l .0 in (
+            suc at,
+            omega (arith, l .1),
+            record {
+              there = omega (arith, l .2 .there);
+              late = moved at ∙ l .2 .late;
+              above-in-time = λ j h. earlier j t at h (l .2 .above-in-time);
+            },
+          )
     ]
   where
     moved : (j : ℕ) → isLate (getD rs j noRow) (above ++ (r ∷ take j rs))

@@ -14,10 +14,20 @@ pub starred-hold : AllHold starred
 unfolding digits decimal signed keyLine numberOf lineAt fieldAt rankAt ranksFrom fieldsFrom rowsFrom tasksFrom boardFrom smallest largest overSet rankText planText fitted onTable ifOrdered
 starred-hold = (
   (refl, refl, refl, refl, refl),
-  ((refl, refl, refl, refl, refl),
-  ((refl, refl, refl, refl, refl),
-  ((refl, refl, refl, refl, refl),
-  (refl,
-  ((refl, refl, refl, refl, refl),
-  (refl, (refl, (refl, (refl, (refl, (refl, (refl, (refl, tt)))))))))))))
+  (
+    (refl, refl, refl, refl, refl),
+    (
+      (refl, refl, refl, refl, refl),
+      (
+        (refl, refl, refl, refl, refl),
+        (
+          refl,
+          (
+            (refl, refl, refl, refl, refl),
+            (refl, (refl, (refl, (refl, (refl, (refl, (refl, (refl, tt)))))))),
+          ),
+        ),
+      ),
+    ),
+  ),
 )

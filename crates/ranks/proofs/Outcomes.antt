@@ -1,18 +1,15 @@
--- How a call's outcome comes about: the text's refusal, or what its table comes to; a plan that fits, or refusal 9.
-use mathlib.Core.Path.{_≡_, refl}
-use mathlib.Core.List.{List}
+-- A call's outcome is the text's refusal, or what its table comes to; outcomes differ by what they hold.
+use mathlib.Core.Path.{_≡_, refl, ap, _∙_}
+use mathlib.Core.Bool.{true, _||_}
+use mathlib.Core.List.{List, _++_}
 use mathlib.Core.Logic.{_⊎_, inl, inr}
-use Prim.Native.Nat.{ℕ, zero, suc, _≤_, _<_}
+use Prim.Native.Nat.{ℕ, zero, suc}
 use native.Mathlib.Omega.{arith}
-use lib.ListN.{length}
-use Rattle.basics.proofs.Tests.{le-or-lt}
-use Rattle.rows.specs.declared.Row.{Row}
+use Rattle.basics.specs.Basics.{isIn}
+use Rattle.basics.proofs.Tests.{in-append}
 use Rattle.tables.specs.Tables.{Answer}
-use Rattle.plans.specs.Entries.{entries}
-use Rattle.plans.specs.Plans.{planText}
 use Rattle.plans.specs.Outcomes.{Outcome, writes, refuses}
-use Rattle.plans.proofs.Outcomes.{fits, fits-not}
-use Rattle.ranks.specs.Calls.{onTable, planOf}
+use Rattle.ranks.specs.Calls.{onTable}
 
 -- ---- outcomes differ by what they hold
 pub same-refusal : {n m p q : ℕ} → refuses n p ≡ refuses m q → (n ≡ m) × (p ≡ q)
@@ -37,13 +34,7 @@ pub on-refused : (a : Answer) (next : Outcome) (n : ℕ) → a .refused ≡ suc 
 unfolding onTable
 on-refused a next n e = rw (e, onTable)
 
--- ---- a plan that fits, or refusal 9
-pub data PlanOf (room board : ℕ) (order : List Row) : Type 0 where
-  written : length (planText board (entries order)) ≤ room
-      → planOf room board order ≡ writes (planText board (entries order)) → PlanOf room board order
-  short : room < length (planText board (entries order)) → planOf room board order ≡ refuses 9 0 → PlanOf room board order
-
-pub plan-of : (room board : ℕ) (order : List Row) → PlanOf room board order
-plan-of room board order =
-    let t = planText board (entries order) in
-    elim (le-or-lt (length t) room) [ inl h ↦ written h (fits room t h) | inr h ↦ short h (fits-not room t h) ]
+-- ---- numbers that are listed
+-- a number of a list is in a longer one
+pub listed-more : (n : ℕ) (xs ys : List ℕ) → isIn n xs ≡ true → isIn n (xs ++ ys) ≡ true
+listed-more n xs ys h = in-append n xs ys ∙ ap (λ b. b || isIn n ys) h

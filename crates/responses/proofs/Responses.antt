@@ -82,10 +82,11 @@ figured t above ht ha = record {
   earliest-largest = λ e h k l f. largest-above (t .best) (latest t above) (map bestLoad above) e f l;
   jitter-is = λ h. omega (arith, known (not-late t above h) .earliest-latest);
   margin-is = sym (sub-is (t .beta) (spent t above));
-  stable-only = λ h.
-      (not-true (isLate t above) (and-left (not (isLate t above)) enough h),
-      leb-true (spent t above) (t .beta)
-      (sym (not-below-zero (t .beta) (spent t above)) ∙ and-right (not (isLate t above)) enough h));
+  stable-only = λ h. (
+    not-true (isLate t above) (and-left (not (isLate t above)) enough h),
+    leb-true (spent t above) (t .beta)
+        (sym (not-below-zero (t .beta) (spent t above)) ∙ and-right (not (isLate t above)) enough h),
+  );
   stable-if = λ h l.
       and-both (not (isLate t above)) enough (ap not h)
       (not-below-zero (t .beta) (spent t above) ∙ le-leb (spent t above) (t .beta) l);

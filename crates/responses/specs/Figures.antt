@@ -104,4 +104,3 @@ isPosed t above = inRange t && (allRows inRange above && leb (length above) maxA
 -- the answer for any rows
 abbrev pub figuresOf : Row → List Row → Figures
 figuresOf t above = pick (isPosed t above) (figuresUnder t above) noFigures
-

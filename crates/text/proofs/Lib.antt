@@ -1,2 +1,3 @@
 -- Laws of numbers and lines.
 pub mod Decimals
+pub mod Lines

@@ -1,0 +1,49 @@
+-- An order of rows in range in which no task is late: its plan's entries are the figures of its rows under the rows above
+-- them, by the formulas, and every board keeps them.
+use mathlib.Core.Path.{_≡_, refl, sym, ap, subst, _∙_}
+use mathlib.Core.Bool.{Bool, true, false}
+use mathlib.Core.List.{List, [], _∷_}
+use Prim.Native.Nat.{ℕ, zero, suc, _+_, _≤_, _<_}
+use native.Mathlib.Omega.{arith}
+use lib.ListN.{length, getD, take}
+use Rattle.rows.specs.Rows.{inRange, timesInRange, allRows}
+use Rattle.rows.specs.declared.Row.{Row}
+use Rattle.rows.proofs.Limits.{all-times, at-passes, front-passes}
+use Rattle.responses.specs.Claims.{Figured}
+use Rattle.responses.proofs.Responses.{figured}
+use Rattle.boards.specs.Claims.{rowAt, LastsInRange, Kept, latestAt, earliestAt, NoneLate}
+use Rattle.boards.proofs.Kept as Boards
+use Rattle.plans.specs.Entries.{entry, entries}
+use Rattle.plans.proofs.Entries.{entry-at}
+use Rattle.ranks.specs.Demands.{noEntry, entryAt, Promised}
+
+module _ (order : List Row) (ok : allRows inRange order ≡ true) (in-time : NoneLate order) where
+  times-ok : allRows timesInRange order ≡ true
+  times-ok = all-times order ok
+
+  entry-is : (i : ℕ) → i < length order → entryAt order i ≡ entry (rowAt order i) (take i order)
+  entry-is i h = entry-at order i noEntry h
+
+  by-formulas : (i : ℕ) → i < length order → Figured (rowAt order i) (take i order)
+  by-formulas i h =
+      figured (rowAt order i) (take i order) (at-passes timesInRange order i times-ok h)
+      (front-passes timesInRange i order times-ok)
+
+  -- what the board keeps is what the entries say
+  kept : (offset : ℕ → ℕ) (need : ℕ → ℕ → ℕ) → LastsInRange order need
+      → Kept order offset need (λ i. entryAt order i .worst) (λ i. entryAt order i .best)
+  kept offset need lasts =
+      let k = Boards.kept order offset need times-ok in-time lasts in
+      record {
+        in-time = λ i n h.
+            let t = k .in-time i n h in
+            let w : entryAt order i .worst ≡ latestAt order i = ap (λ e. e .worst) (entry-is i h) in
+            (t .0, t .1, omega (arith, t .2, w), t .3);
+        once = k .once;
+        not-early = λ i r f h started done.
+            let b : entryAt order i .best ≡ earliestAt order i = ap (λ e. e .best) (entry-is i h) in
+            omega (arith, k .not-early i r f h started done, b);
+      }
+
+  pub promised : Promised order
+  promised = record { entry-is = entry-is; by-formulas = by-formulas; kept = kept }
