@@ -1,2 +1,3 @@
--- Laws of tests and ranges.
+-- Laws of tests, ranges and lists.
 pub mod Tests
+pub mod Fronts

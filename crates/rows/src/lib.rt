@@ -1,5 +1,7 @@
 ghost use mathlib.Core.Path.{_≡_};
-ghost use Rattle.rows.specs.Rows.{inRange, row};
+ghost use Prim.Native.Nat.{_≤_};
+ghost use lib.ListN.{take};
+ghost use Rattle.rows.specs.Rows.{maxTasks, inRange, row, noRow, rowFor, rowsFor};
 ghost use Rattle.rows.specs.Checked.{checked};
 use basics::within;
 
@@ -83,4 +85,53 @@ impl Row {
             self.beta,
         )
     }
+}
+
+// What stands past the rows that count.
+pub fn no_row() -> Row
+    ensures { λ r. ⌜ r ≡ noRow ⌝ }
+{
+    Row {
+        task: 0,
+        period: 0,
+        worst: 0,
+        best: 0,
+        alpha: 0,
+        beta: 0,
+    }
+}
+
+// The row of a task among the first n rows.
+pub fn row_for(task: u32, rows: [Row; MAX_TASKS], n: usize) -> Row
+    requires { ⌜ n ≤ maxTasks ⌝ }
+    ensures { λ r. ⌜ r ≡ rowFor task (take n rows) ⌝ }
+{
+    let mut i = 0;
+    while i < n {
+        let row = rows[i];
+        if task == row.task {
+            return row;
+        }
+        i += 1;
+    }
+    no_row()
+}
+
+// The rows of the first tasks, as many as count says, among the first n rows.
+pub fn rows_for(
+    tasks: [u16; MAX_TASKS],
+    count: usize,
+    rows: [Row; MAX_TASKS],
+    n: usize,
+) -> [Row; MAX_TASKS]
+    requires { ⌜ (count ≤ maxTasks) × (n ≤ maxTasks) ⌝ }
+    ensures { λ r. ⌜ take count r ≡ rowsFor (take count tasks) (take n rows) ⌝ }
+{
+    let mut found = [no_row(); MAX_TASKS];
+    let mut k = 0;
+    while k < count {
+        found[k] = row_for(tasks[k] as u32, rows, n);
+        k += 1;
+    }
+    found
 }
