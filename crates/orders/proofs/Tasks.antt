@@ -170,15 +170,17 @@ possible-in x (first {r = r} t p) = ap (λ (b : Bool). eqb x (r .task) || b) (po
 
 taken-distinct : {r : Row} {rs rest : List Row} → distinctRows rs ≡ true → Taken r rs rest
     → (hasTask (r .task) rest ≡ false) × (distinctRows rest ≡ true)
-taken-distinct {r} d (here {rs = rs}) =
-    (not-true (hasTask (r .task) rs) (and-left (not (hasTask (r .task) rs)) (distinctRows rs) d),
-    and-right (not (hasTask (r .task) rs)) (distinctRows rs) d)
+taken-distinct {r} d (here {rs = rs}) = (
+  not-true (hasTask (r .task) rs) (and-left (not (hasTask (r .task) rs)) (distinctRows rs) d),
+  and-right (not (hasTask (r .task) rs)) (distinctRows rs) d,
+)
 taken-distinct {r} d (later {x = x} {rs = rs} {rest = rest} t) =
     let ih = taken-distinct (and-right (not (hasTask (x .task) rs)) (distinctRows rs) d) t in
     let fresh = not-true (hasTask (x .task) rs) (and-left (not (hasTask (x .task) rs)) (distinctRows rs) d) in
-    let both = or-neither (eqb (x .task) (r .task)) (hasTask (x .task) rest) (sym (taken-in (x .task) t) ∙ fresh) in
-    (ap (λ (b : Bool). b || hasTask (r .task) rest) (eqb-swap (x .task) (r .task) (both .0)) ∙ ih .0,
-    and-both (not (hasTask (x .task) rest)) (distinctRows rest) (ap not (both .1)) (ih .1))
+    let both = or-neither (eqb (x .task) (r .task)) (hasTask (x .task) rest) (sym (taken-in (x .task) t) ∙ fresh) in (
+      ap (λ (b : Bool). b || hasTask (r .task) rest) (eqb-swap (x .task) (r .task) (both .0)) ∙ ih .0,
+      and-both (not (hasTask (x .task) rest)) (distinctRows rest) (ap not (both .1)) (ih .1),
+    )
 
 possible-distinct : {os rs : List Row} → distinctRows rs ≡ true → Possible os rs → distinctRows os ≡ true
 possible-distinct d nothing = refl

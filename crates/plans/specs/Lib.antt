@@ -1,4 +1,5 @@
 -- Text out: an order's figures, a plan, a refusal; what a call comes to, and what follows from it.
 pub mod Entries
+pub mod Ranked
 pub mod Plans
 pub mod Outcomes

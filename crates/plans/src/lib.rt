@@ -1,3 +1,6 @@
+// by_rank.rt: the figures of an order, rank by rank.
+pub mod by_rank;
+
 // A rank's entry in a plan. Best and worst are response times.
 pub struct Entry {
     pub task: u32,

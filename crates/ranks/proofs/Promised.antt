@@ -14,8 +14,9 @@ use Rattle.responses.proofs.Responses.{figured}
 use Rattle.boards.specs.Claims.{rowAt, LastsInRange, Kept, latestAt, earliestAt, NoneLate}
 use Rattle.boards.proofs.Kept as Boards
 use Rattle.plans.specs.Entries.{entry, entries}
+use Rattle.plans.specs.Ranked.{noEntry}
 use Rattle.plans.proofs.Entries.{entry-at}
-use Rattle.ranks.specs.Demands.{noEntry, entryAt, Promised}
+use Rattle.ranks.specs.Demands.{entryAt, Promised}
 
 module _ (order : List Row) (ok : allRows inRange order ≡ true) (in-time : NoneLate order) where
   times-ok : allRows timesInRange order ≡ true

@@ -20,13 +20,10 @@ use Rattle.boards.specs.Claims.{rowAt, LastsInRange, Kept}
 use Rattle.plans.specs.declared.Entry.{Entry}
 use Rattle.plans.specs.declared.Plan.{Plan}
 use Rattle.plans.specs.Entries.{entry, entries}
+use Rattle.plans.specs.Ranked.{noEntry}
 use Rattle.plans.specs.Plans.{planText, planRoom}
 use Rattle.plans.specs.Outcomes.{Outcome, writes, refuses, Written}
 use Rattle.ranks.specs.Calls.{planned, givenOrder, reviewed}
-
--- what stands past the last rank
-abbrev pub noEntry : Entry
-noEntry = record { task = 0; best = 0; worst = 0; jitter = 0; margin = pos 0 }
 
 -- rank i of a plan, counted from 0
 abbrev pub entryAt : List Row → ℕ → Entry

@@ -218,7 +218,7 @@ no-figures true b x e = ap (λ (c : Bool). pick c x noFigures) e
 no-figures false b x e = refl
 
 -- the figures under the columns are those under the rows
-gathered-figures : (t : Row) (ys : List Row) → figuresIn t (addRows noneAbove ys) ≡ figuresOf t ys
+pub gathered-figures : (t : Row) (ys : List Row) → figuresIn t (addRows noneAbove ys) ≡ figuresOf t ys
 gathered-figures t ys =
     let z = addRows noneAbove ys in
     elim (test-of (z .posed)) [

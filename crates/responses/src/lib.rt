@@ -154,7 +154,7 @@ pub struct Above {
 }
 
 impl Above {
-    fn none() -> Self
+    pub fn none() -> Self
         ensures { λ a. ⌜ a ≡ noneAbove ⌝ }
     {
         Above {
@@ -166,7 +166,7 @@ impl Above {
         }
     }
 
-    fn with(self, row: Row) -> Self
+    pub fn with(self, row: Row) -> Self
         ensures { λ a. ⌜ a ≡ addRow self row ⌝ }
     {
         let n = self.count;
@@ -184,7 +184,7 @@ impl Above {
 }
 
 // The figures of a row under rows that were gathered.
-fn figures_in(row: Row, above: Above) -> Figures
+pub fn figures_in(row: Row, above: Above) -> Figures
     requires { ⌜ Sound above ⌝ }
     ensures { λ x. ⌜ x ≡ figuresIn row above ⌝ }
 {

@@ -62,10 +62,11 @@ loop-again c =
     let a = z .args in
     let l = rows-long z in
     let rest = drop (suc (x .i)) (take (a .n) (a .t2)) in
-    rw (add-one (x .i))
-    (omega arith,
-    x .inv .1 ∙ ap (rowFor (a .task)) (left-next (a .t2) (a .n) (x .i) noRow (omega arith) (omega arith))
-    ∙ past (a .task) (getD (a .t2) (x .i) noRow) rest (c .if1 .left))
+    rw (add-one (x .i)) (
+      omega arith,
+      x .inv .1 ∙ ap (rowFor (a .task)) (left-next (a .t2) (a .n) (x .i) noRow (omega arith) (omega arith))
+          ∙ past (a .task) (getD (a .t2) (x .i) noRow) rest (c .if1 .left),
+    )
 
 no-row-requires : tie.Need-no-row-requires Inv-loop μ-loop
 no-row-requires c κs = search needs

@@ -70,11 +70,12 @@ loop-again : tie.Need-loop-again Inv-loop μ-loop
 loop-again c =
     let a = c .before .before .before .before .args in
     let x = c .before .before .loop in
-    rw (add-one (x .k))
-    (omega arith,
-    length-set (x .found) (x .k) (c .row-for .result) ∙ x .inv .1,
-    found-more (a .t1) (take (a .n) (a .rows)) (x .found) (x .k) (c .row-for .result) (omega arith) (omega arith)
-    (x .inv .2) (c .row-for .ensures))
+    rw (add-one (x .k)) (
+      omega arith,
+      length-set (x .found) (x .k) (c .row-for .result) ∙ x .inv .1,
+      found-more (a .t1) (take (a .n) (a .rows)) (x .found) (x .k) (c .row-for .result) (omega arith) (omega arith)
+          (x .inv .2) (c .row-for .ensures),
+    )
 
 returns : tie.Need-returns Inv-loop μ-loop
 returns c =
