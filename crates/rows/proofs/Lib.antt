@@ -2,3 +2,4 @@
 pub mod Limits
 pub mod Calls
 pub mod Walk
+pub mod Lend
