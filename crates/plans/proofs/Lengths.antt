@@ -10,16 +10,13 @@ use lib.Dec.{leb}
 use lib.IntN.{ℤ, pos, negsuc, natAbs}
 use lib.ListN.{length, length-append}
 use Rattle.basics.proofs.Tests.{and-left, and-right}
-use Rattle.text.specs.Text.{decimal, signed, joined, keyLine}
+use Rattle.text.specs.Text.{decimal, signed, joined}
 use Rattle.text.proofs.Decimals.{decimal-short}
+use Rattle.text.proofs.Spelling.{line-length}
 use Rattle.rows.specs.Rows.{maxTask, maxTicks, maxBeta, maxTasks}
 use Rattle.plans.specs.declared.Entry.{Entry}
 use Rattle.plans.specs.Entries.{inLimits, allInLimits}
 use Rattle.plans.specs.Plans.{rankText, rankTexts, planText, refusalText, planRoom}
-
-pub line-length : (key value : List ℕ) → length (keyLine key value) ≡ length key + (length value + 1)
-unfolding keyLine
-line-length key value = simp length-append
 
 number-length : (v k most : ℕ) → leb v most ≡ true → most < 10 ^ suc k → length (decimal v) ≤ suc k
 number-length v k most e h = decimal-short v k (omega (arith, leb-true v most e))

@@ -3,3 +3,4 @@ pub mod Entries
 pub mod Lengths
 pub mod Outcomes
 pub mod Turns
+pub mod Ranks

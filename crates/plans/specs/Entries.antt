@@ -3,7 +3,7 @@ use mathlib.Core.Bool.{Bool, true, false, _&&_}
 use mathlib.Core.List.{List, [], _∷_, _++_}
 use Prim.Native.Nat.{ℕ, suc}
 use lib.Dec.{leb}
-use lib.IntN.{natAbs}
+use lib.IntN.{pos, natAbs}
 use Rattle.rows.specs.Rows.{maxTask, maxTicks, maxBeta}
 use Rattle.rows.specs.declared.Row.{Row}
 use Rattle.responses.specs.Figures as Figures
@@ -25,6 +25,10 @@ entriesFrom above (r ∷ rs) = entry r above ∷ entriesFrom (above ++ (r ∷ []
 
 abbrev pub entries : List Row → List Entry
 entries order = entriesFrom [] order
+
+-- what stands past the last rank
+abbrev pub noEntry : Entry
+noEntry = record { task = 0; best = 0; worst = 0; jitter = 0; margin = pos 0 }
 
 -- the first late task from the top: its rank, counted from 1; 0 for none
 abbrev pub lateFrom : ℕ → List Row → List Row → ℕ

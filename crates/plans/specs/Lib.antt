@@ -3,3 +3,4 @@ pub mod Entries
 pub mod Ranked
 pub mod Plans
 pub mod Outcomes
+pub mod Prints

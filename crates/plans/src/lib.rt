@@ -1,5 +1,32 @@
+// Text out: the entries of an order as a plan, a refusal's lines, and what a program prints of a call's answer.
+
 // by_rank.rt: the figures of an order, rank by rank.
 pub mod by_rank;
+
+ghost use mathlib.Core.Path.{_≡_};
+ghost use mathlib.Core.Bool.{true};
+ghost use Prim.Native.Nat.{_+_, _≤_};
+ghost use lib.ListN.{length, take};
+ghost use Rattle.text.specs.Text.{joined};
+ghost use Rattle.text.specs.Puts.{Put, Wrote};
+ghost use Rattle.rows.specs.Rows.{maxTasks};
+ghost use Rattle.plans.specs.Entries.{allInLimits};
+ghost use Rattle.plans.specs.Plans.{rankText, rankTexts, planText, refusalText, planRoom};
+ghost use Rattle.plans.specs.Outcomes.{refuses, fitted, result, Written};
+ghost use Rattle.plans.specs.Prints.{Prints};
+use rows::MAX_TASKS;
+use text::put_bytes;
+use text::put_line;
+use text::put_signed_line;
+
+// Room for every plan.
+pub const ROOM: usize = 1024;
+
+pub fn buffer() -> [u8; ROOM]
+    ensures { λ r. ⌜ length r ≡ planRoom ⌝ }
+{
+    [0; ROOM]
+}
 
 // A rank's entry in a plan. Best and worst are response times.
 pub struct Entry {
@@ -15,4 +42,95 @@ pub struct Plan {
     pub number: u8,
     pub place: u32,
     pub long: u32,
+}
+
+impl Plan {
+    pub fn refused(number: u8, place: u32) -> Self
+        ensures { λ r. ⌜ r ≡ result (refuses number place) ⌝ }
+    {
+        Plan {
+            number,
+            place,
+            long: 0,
+        }
+    }
+
+    // What a program prints: the plan that stands in the buffer, or the refusal's lines.
+    pub fn printed(self, out: &mut [u8; ROOM]) -> usize
+        requires { ⌜ self .long ≤ length (now out) ⌝ }
+        ensures { λ r. ⌜ Prints self (now (out .entry)) (now (out .exit)) r ⌝ }
+    {
+        if self.number == 0 {
+            return self.long as usize;
+        }
+        put_refusal(out, self.number, self.place)
+    }
+}
+
+fn put_rank(out: &mut [u8], at: usize, rank: u64, e: Entry) -> usize
+    requires { ⌜ at + length (rankText rank e) ≤ length (now out) ⌝ }
+    ensures { λ r. ⌜ Put (rankText rank e) at (now (out .entry)) (now (out .exit)) r ⌝ }
+{
+    let at = put_line(out, at, b"rank=", rank);
+    let at = put_line(out, at, b"task=", e.task as u64);
+    let at = put_line(out, at, b"best=", e.best as u64);
+    let at = put_line(out, at, b"worst=", e.worst as u64);
+    let at = put_line(out, at, b"jitter=", e.jitter as u64);
+    put_signed_line(out, at, b"margin=", e.margin)
+}
+
+// The first ranks of a plan, as many as count says.
+fn put_ranks(out: &mut [u8], at: usize, count: usize, entries: [Entry; MAX_TASKS]) -> usize
+    requires { ⌜ count ≤ maxTasks ⌝ }
+    requires { ⌜ at + length (joined (rankTexts 1 (take count entries))) ≤ length (now out) ⌝ }
+    ensures { λ r. ⌜ Put (joined (rankTexts 1 (take count entries))) at (now (out .entry)) (now (out .exit)) r ⌝ }
+{
+    let mut end = at;
+    let mut i = 0;
+    while i < count {
+        end = put_rank(out, end, i as u64 + 1, entries[i]);
+        i += 1;
+    }
+    end
+}
+
+fn put_plan(out: &mut [u8], board: u16, count: usize, entries: [Entry; MAX_TASKS]) -> usize
+    requires { ⌜ count ≤ maxTasks ⌝ }
+    requires { ⌜ length (planText board (take count entries)) ≤ length (now out) ⌝ }
+    ensures { λ r. ⌜ Wrote (planText board (take count entries)) (now (out .entry)) (now (out .exit)) r ⌝ }
+{
+    let at = put_line(out, 0, b"plan=", 1);
+    let at = put_line(out, at, b"board=", board as u64);
+    let at = put_line(out, at, b"tasks=", count as u64);
+    put_ranks(out, at, count, entries)
+}
+
+pub fn put_refusal(out: &mut [u8], number: u8, place: u32) -> usize
+    requires { ⌜ length (refusalText number place) ≤ length (now out) ⌝ }
+    ensures { λ r. ⌜ Wrote (refusalText number place) (now (out .entry)) (now (out .exit)) r ⌝ }
+{
+    let at = put_line(out, 0, b"plan=", 0);
+    let at = put_line(out, at, b"refusal=", number as u64);
+    put_line(out, at, b"line=", place as u64)
+}
+
+// A plan is written whole in a buffer of the call's own, so that one that does not fit leaves out as it was.
+pub fn finish(out: &mut [u8], board: u16, count: usize, entries: [Entry; MAX_TASKS]) -> Plan
+    requires { ⌜ (count ≤ maxTasks) × (allInLimits (take count entries) ≡ true) ⌝ }
+    ensures { λ r. ⌜ Written (fitted (length (now (out .entry))) (planText board (take count entries)))
+        (now (out .entry)) (now (out .exit)) r ⌝ }
+{
+    let mut text = buffer();
+    let long = put_plan(&mut text, board, count, entries);
+    let room = out.len();
+    if room < long {
+        return Plan::refused(9, 0);
+    }
+    put_bytes(out, 0, &text[..long]);
+    let written = long as u32;
+    Plan {
+        number: 0,
+        place: 0,
+        long: written,
+    }
 }

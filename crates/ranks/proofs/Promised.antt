@@ -13,8 +13,7 @@ use Rattle.responses.specs.Claims.{Figured}
 use Rattle.responses.proofs.Responses.{figured}
 use Rattle.boards.specs.Claims.{rowAt, LastsInRange, Kept, latestAt, earliestAt, NoneLate}
 use Rattle.boards.proofs.Kept as Boards
-use Rattle.plans.specs.Entries.{entry, entries}
-use Rattle.plans.specs.Ranked.{noEntry}
+use Rattle.plans.specs.Entries.{entry, entries, noEntry}
 use Rattle.plans.proofs.Entries.{entry-at}
 use Rattle.ranks.specs.Demands.{entryAt, Promised}
 

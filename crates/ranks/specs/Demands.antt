@@ -19,8 +19,7 @@ use Rattle.orders.specs.Stability.{stable, orderStable, chosenOrder}
 use Rattle.boards.specs.Claims.{rowAt, LastsInRange, Kept}
 use Rattle.plans.specs.declared.Entry.{Entry}
 use Rattle.plans.specs.declared.Plan.{Plan}
-use Rattle.plans.specs.Entries.{entry, entries}
-use Rattle.plans.specs.Ranked.{noEntry}
+use Rattle.plans.specs.Entries.{entry, entries, noEntry}
 use Rattle.plans.specs.Plans.{planText, planRoom}
 use Rattle.plans.specs.Outcomes.{Outcome, writes, refuses, Written}
 use Rattle.ranks.specs.Calls.{planned, givenOrder, reviewed}

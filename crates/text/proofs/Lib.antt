@@ -1,3 +1,5 @@
 -- Laws of numbers and lines.
 pub mod Decimals
 pub mod Lines
+pub mod Spelling
+pub mod Puts

@@ -1,0 +1,75 @@
+-- `put_signed_line` puts a key's line at its place: the key, the signed number and the line feed are put one after
+-- another, each where the one before it ends.
+use mathlib.Core.Path.{_≡_}
+use mathlib.Core.List.{List, [], _∷_}
+use Prim.Native.Nat.{ℕ}
+use lib.ListN.{drop}
+use borrow.Author.Needs.{needs}
+use denote.Ref.{now}
+use mir.Syntax.{w64}
+use mir.Val.{toZ, ofZ}
+use mir.Facts.{toZ-ofZ}
+use Rattle.text.specs.Text.{bytes, signed, keyLine}
+use Rattle.text.proofs.Puts.{Going, begins, fits-next, next, ends}
+use Rattle.text.proofs.writers.put_signed_line.Statement.{statement}
+use Rattle.text.proofs.writers.put_signed_line.Tie as tie
+
+abbrev texts : tie.Start → List (List ℕ)
+texts s = now (s .args .key) ∷ signed (s .args .z) ∷ bytes "\n" ∷ []
+
+-- on the way: from a start, its first k texts stand, and the rest has room
+abbrev At : ℕ → ℕ → List ℕ → Type 0
+At k m o = (s : tie.Start) × Going (texts s) (drop k (texts s)) (s .args .at) (now (s .args .out)) m o
+
+room : (s : tie.Start) → Going (texts s) (texts s) (s .args .at) (now (s .args .out)) (s .args .at) (now (s .args .out))
+unfolding keyLine
+room s = begins (texts s) (s .args .at) (now (s .args .out)) (s .pre)
+
+abbrev start : (s : tie.Start) → At 0 (s .args .at) (now (s .args .out))
+start s = (s, room s)
+
+abbrev keyed : (c : tie.After-put-bytes) → At 1 (c .put-bytes .result) (c .put-bytes .last .0)
+keyed c =
+    let g = start (c .before .before .before .before) in
+    (g .0, next (g .1) (c .put-bytes .ensures))
+
+-- the number as the code holds it
+seen : (s : tie.Start) → toZ w64 (ofZ w64 (s .args .z)) ≡ s .args .z
+seen s = toZ-ofZ (s .fits .z)
+
+abbrev valued : (c : tie.After-put-signed) → At 2 (c .put-signed .result) (c .put-signed .last .0)
+valued c =
+    let g = keyed (c .before .before .before .before) in
+    (g .0, next (g .1) (rw (seen (g .0)) at (c .put-signed .ensures)))
+
+put-bytes-requires : tie.Need-put-bytes-requires
+put-bytes-requires c κs = fits-next (start (c .before .before .before) .1)
+
+put-signed-requires : tie.Need-put-signed-requires
+put-signed-requires c κs = let g = keyed (c .before .before .before) in rw (seen (g .0)) (fits-next (g .1))
+
+slice-aggregate-put-bytes : tie.Need-slice-aggregate-put-bytes
+slice-aggregate-put-bytes c = search needs
+
+put-bytes-requires-2 : tie.Need-put-bytes-requires-2
+put-bytes-requires-2 c κs = fits-next (valued (c .before .before .before .before) .1)
+
+same-length : tie.Need-same-length
+same-length c = search needs
+
+returns : tie.Need-returns
+unfolding keyLine
+returns c =
+    let g = valued (c .before .before .before .before .before .before .before) in
+    ends (next (g .1) (c .before .before .put-bytes2 .ensures))
+
+pub put-signed-line-spec : {M : Type 1} → statement M
+put-signed-line-spec =
+    tie.close
+    (tie.spec
+    put-bytes-requires
+    put-signed-requires
+    slice-aggregate-put-bytes
+    put-bytes-requires-2
+    same-length
+    returns)
