@@ -1,6 +1,14 @@
--- The order chosen: why it is possible, passes and is first by the rule, for every test by sets; and stability is one.
+-- The order chosen: why it is possible, passes and is first by the rule, for every test by sets; stability is one; and
+-- how a record of sets finds it.
 pub mod Possible
 pub mod Choice
 pub mod Rule
 pub mod Stable
 pub mod Tasks
+pub mod Sets
+pub mod Scan
+pub mod Record
+pub mod Listed
+pub mod Gathering
+pub mod Searched
+pub mod Holding

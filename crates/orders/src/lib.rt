@@ -1,1 +1,249 @@
-// Definitions and laws only so far: possible orders, the rule, and the order that it chooses.
+// The order of a table's tasks by the rule, found from the whole set down with a byte for each set.
+ghost use mathlib.Core.Path.{_≡_};
+ghost use Prim.Native.Nat.{_+_, _*_, _/_, _%_, _^_, _≤_, _<_};
+ghost use lib.ListN.{length, take};
+ghost use Rattle.rows.specs.Rows.{maxTasks};
+ghost use Rattle.orders.specs.Sets.{rowAt, fits, Settled};
+ghost use Rattle.orders.specs.Stability.{stable};
+ghost use Rattle.orders.specs.Search.{Lent, Searching, MayGo, Told};
+ghost use Rattle.orders.specs.Search.{LowestRow, Ordered, Pushed, Listed, Table, Answered};
+ghost use Rattle.orders.specs.Held.{noneHeld, addRow, addRows};
+use responses::figures_under;
+use rows::MAX_TASKS;
+use rows::Order;
+use rows::Row;
+
+// How many sets of tasks there are.
+const SETS: usize = 1 << MAX_TASKS;
+
+// A byte of the record of sets that is no row: the set isn't known yet, or has no order.
+const UNKNOWN: u8 = 254;
+
+const NO_ORDER: u8 = 255;
+
+// 2 to the power i.
+fn power(i: usize) -> usize
+    requires { ⌜ i ≤ maxTasks ⌝ }
+    ensures { λ r. ⌜ r ≡ 2 ^ i ⌝ }
+{
+    1 << i
+}
+
+// Whether row i of set m is stable as its lowest row, under the rest of the set.
+fn stable_under(rows: [Row; MAX_TASKS], n: usize, m: usize, i: usize) -> bool
+    requires { ⌜ Lent rows n × (i < n) × (m / 2 ^ i % 2 ≡ 1) ⌝ }
+    ensures { λ r. ⌜ r ≡ fits stable (take n rows) m i ⌝ }
+{
+    let mut periods = [0u64; MAX_TASKS];
+    let mut worsts = [0u64; MAX_TASKS];
+    let mut bests = [0u64; MAX_TASKS];
+    let mut count: usize = 0;
+    let mut rest = m - power(i);
+    let mut j: usize = 0;
+    while j < n {
+        if rest % 2 == 1 {
+            let row = rows[j];
+            periods[count] = row.period as u64;
+            worsts[count] = row.worst as u64;
+            bests[count] = row.best as u64;
+            count += 1;
+        }
+        rest = rest / 2;
+        j += 1;
+    }
+    let figures = figures_under(rows[i], &periods, &worsts, &bests, count);
+    figures.stable
+}
+
+// Whether row i may go lowest in set m: it is in the set and stable there, and the rest isn't known to have no order.
+fn may_go(rows: [Row; MAX_TASKS], n: usize, m: usize, i: usize, sets: &[u8]) -> bool
+    requires { ⌜ Searching rows n m (now sets) × (i < n) ⌝ }
+    ensures { λ r. ⌜ MayGo rows n m i r ⌝ }
+{
+    if (m >> i) % 2 == 0 {
+        return false;
+    }
+    if sets[m - power(i)] == NO_ORDER {
+        return false;
+    }
+    stable_under(rows, n, m, i)
+}
+
+// The first row of the table that goes lowest in set m.
+fn lowest(rows: [Row; MAX_TASKS], n: usize, m: usize, sets: &mut [u8]) -> u8
+    requires { ⌜ Searching rows n m (now sets) × (1 ≤ m) ⌝ }
+    ensures { λ r. ⌜ Told rows n m (now (sets .exit)) r ⌝ }
+{
+    let mut i: usize = 0;
+    while i < n {
+        if may_go(rows, n, m, i, sets) {
+            if settled(rows, n, m - power(i), sets) {
+                return i as u8;
+            }
+        }
+        i += 1;
+    }
+    NO_ORDER
+}
+
+// Whether set m has an order; the record then has the set.
+fn settled(rows: [Row; MAX_TASKS], n: usize, m: usize, sets: &mut [u8]) -> bool
+    requires { ⌜ Searching rows n m (now sets) ⌝ }
+    ensures { λ r. ⌜ Settled stable (take n rows) m (now (sets .exit)) r ⌝ }
+{
+    if m == 0 {
+        return true;
+    }
+    let known = sets[m];
+    if known == UNKNOWN {
+        let found = lowest(rows, n, m, sets);
+        sets[m] = found;
+        return found != NO_ORDER;
+    }
+    known != NO_ORDER
+}
+
+// The lowest row of the order of set m, which has one.
+fn lowest_row(rows: [Row; MAX_TASKS], n: usize, m: usize, sets: &mut [u8]) -> usize
+    requires { ⌜ Searching rows n m (now sets) × (1 ≤ m) × Ordered rows n m ⌝ }
+    ensures { λ r. ⌜ LowestRow rows n m (now (sets .exit)) r ⌝ }
+{
+    settled(rows, n, m, sets);
+    sets[m] as usize
+}
+
+// No tasks.
+fn nothing() -> Order
+    ensures { λ r. ⌜ (length (r .tasks) ≡ maxTasks) × (r .count ≡ 0) ⌝ }
+{
+    Order {
+        tasks: [0u16; MAX_TASKS],
+        count: 0,
+    }
+}
+
+// The order with one task more, lowest.
+fn pushed(o: Order, task: u16) -> Order
+    requires { ⌜ (length (o .tasks) ≡ maxTasks) × (o .count < maxTasks) ⌝ }
+    ensures { λ r. ⌜ Pushed (o .tasks) (o .count) task (r .tasks) (r .count) ⌝ }
+{
+    let at = o.count;
+    let mut next = o;
+    next.tasks[at] = task;
+    next.count = at + 1;
+    next
+}
+
+// The task number of row i.
+fn task_of(rows: [Row; MAX_TASKS], n: usize, i: usize) -> u16
+    requires { ⌜ Lent rows n × (i < n) ⌝ }
+    ensures { λ r. ⌜ r ≡ rowAt (take n rows) i .task ⌝ }
+{
+    let row = rows[i];
+    row.task as u16
+}
+
+// The order for set m, which has one: that for the set without its lowest row, then that row.
+fn rebuild(rows: [Row; MAX_TASKS], n: usize, m: usize, sets: &mut [u8]) -> Order
+    requires { ⌜ Searching rows n m (now sets) × Ordered rows n m ⌝ }
+    ensures { λ r. ⌜ Listed (take n rows) m (r .tasks) (r .count) ⌝ }
+{
+    if m == 0 {
+        return nothing();
+    }
+    let i = lowest_row(rows, n, m, sets);
+    let above = rebuild(rows, n, m - power(i), sets);
+    pushed(above, task_of(rows, n, i))
+}
+
+// An order that is stable, if there is one.
+pub struct Answer {
+    pub found: bool,
+    pub order: Order,
+}
+
+// The order of n rows by the rule.
+fn order_in(rows: [Row; MAX_TASKS], n: usize) -> Answer
+    requires { ⌜ Lent rows n ⌝ }
+    ensures { λ r. ⌜ Answered (take n rows) r ⌝ }
+{
+    let mut sets = [UNKNOWN; SETS];
+    let all = power(n) - 1;
+    if settled(rows, n, all, &mut sets) {
+        let order = rebuild(rows, n, all, &mut sets);
+        return Answer { found: true, order };
+    }
+    Answer {
+        found: false,
+        order: nothing(),
+    }
+}
+
+// Rows by value: the first `count` of an array.
+struct Held {
+    rows: [Row; MAX_TASKS],
+    count: usize,
+}
+
+impl Held {
+    fn none() -> Self
+        ensures { λ t. ⌜ t ≡ noneHeld ⌝ }
+    {
+        let blank = rows::no_row();
+        Held {
+            rows: [blank; MAX_TASKS],
+            count: 0,
+        }
+    }
+
+    // One row more, where there is room.
+    fn with(self, row: Row) -> Self
+        ensures { λ t. ⌜ t ≡ addRow self row ⌝ }
+    {
+        let n = self.count;
+        let mut more = self;
+        if n < MAX_TASKS {
+            more.rows[n] = row;
+            more.count = n + 1;
+        }
+        more
+    }
+}
+
+// The rows by value, fetched one at a time.
+fn gathered(rows: &[Row]) -> Held
+    ensures { λ t. ⌜ t ≡ addRows noneHeld (now (rows .entry)) ⌝ }
+{
+    let mut held = Held::none();
+    let mut i = 0;
+    while i < rows.len() {
+        held = held.with(rows[i]);
+        i += 1;
+    }
+    held
+}
+
+fn order_held(t: Held) -> Answer
+    requires { ⌜ Lent (t .rows) (t .count) ⌝ }
+    ensures { λ r. ⌜ Answered (take (t .count) (t .rows)) r ⌝ }
+{
+    let rows = t.rows;
+    let n = t.count;
+    order_in(rows, n)
+}
+
+// The order of a table's rows by the rule.
+pub fn order_of(rows: &[Row]) -> Answer
+    requires { ⌜ Table (now rows) ⌝ }
+    ensures { λ r. ⌜ Answered (now (rows .entry)) r ⌝ }
+{
+    order_held(gathered(rows))
+}
+
+// The order of the first n rows of an array, which are lent as a slice.
+pub fn order_of_first(rows: [Row; MAX_TASKS], n: usize) -> Answer
+    requires { ⌜ Lent rows n ⌝ }
+    ensures { λ r. ⌜ Answered (take n rows) r ⌝ }
+{
+    order_of(&rows[..n])
+}

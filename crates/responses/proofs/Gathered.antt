@@ -39,6 +39,14 @@ module _ (t : Row) (a : Above) (b : Bool) (e : b ≡ inRange t) where
   no-answer x h k = k ∙ sym (chosen false h)
 
 -- ---- a row stored after n others
+rows-end : (ps ws bs : List ℕ) (n i : ℕ) → rowsFrom i (suc n) ps ws bs
+    ≡ rowsFrom i n ps ws bs ++ (rowAbove (getD ps (i + n) 0) (getD ws (i + n) 0) (getD bs (i + n) 0) ∷ [])
+unfolding rowsFrom
+rows-end ps ws bs zero i = rw (add-zero i)
+rows-end ps ws bs (suc n) i =
+    let e : i + suc n ≡ suc i + n = omega arith in
+    rw e (ap (λ (rs : List Row). rowAbove (getD ps i 0) (getD ws i 0) (getD bs i 0) ∷ rs) (rows-end ps ws bs n (suc i)))
+
 module _ (p w b : ℕ) (ps ws bs : List ℕ) where
   rows-kept : (n i j : ℕ) → i + n ≤ j
       → rowsFrom i n (set ps j p) (set ws j w) (set bs j b) ≡ rowsFrom i n ps ws bs
@@ -50,17 +58,22 @@ module _ (p w b : ℕ) (ps ws bs : List ℕ) where
       (ap (λ (rs : List Row). rowAbove (getD ps i 0) (getD ws i 0) (getD bs i 0) ∷ rs)
       (rows-kept n (suc i) j (omega arith)))
 
-  rows-end : (n i : ℕ) → rowsFrom i (suc n) ps ws bs
-      ≡ rowsFrom i n ps ws bs ++ (rowAbove (getD ps (i + n) 0) (getD ws (i + n) 0) (getD bs (i + n) 0) ∷ [])
-  unfolding rowsFrom
-  rows-end zero i = rw (add-zero i)
-  rows-end (suc n) i =
-      let e : i + suc n ≡ suc i + n = omega arith in
-      rw e (ap (λ (rs : List Row). rowAbove (getD ps i 0) (getD ws i 0) (getD bs i 0) ∷ rs) (rows-end n (suc i)))
+  pub rows-more : (n : ℕ) → n < length ps → n < length ws → n < length bs
+      → rowsAbove (suc n) (set ps n p) (set ws n w) (set bs n b) ≡ rowsAbove n ps ws bs ++ (rowAbove p w b ∷ [])
+  rows-more n hp hw hb =
+      let e : 0 + n ≡ n = omega arith in
+      rw (
+        rows-end (set ps n p) (set ws n w) (set bs n b) n 0,
+        e,
+        getD-set-same ps n p 0 hp,
+        getD-set-same ws n w 0 hw,
+        getD-set-same bs n b 0 hb,
+        rows-kept n 0 n (omega arith),
+      )
 
 -- ---- one more row
 -- what columns keep of a row
-abbrev bare : Row → Row
+abbrev pub bare : Row → Row
 bare r = rowAbove (r .period) (r .worst) (r .best)
 
 add-stored : (a : Above) (r : Row) → fits a r ≡ true → addRow a r ≡ stored a r
@@ -94,20 +107,9 @@ room-refused a m = record {
 rows-stored : (a : Above) (r : Row) → Room a → a .count < maxAbove → rowsIn (stored a r) ≡ rowsIn a ++ (bare r ∷ [])
 rows-stored a r m h =
     let n = a .count in
-    let hp : n < length (a .periods) = omega (arith, m .periods-long) in
-    let hw : n < length (a .worsts) = omega (arith, m .worsts-long) in
-    let hb : n < length (a .bests) = omega (arith, m .bests-long) in
-    let z = stored a r in
-    let e : 0 + n ≡ n = omega arith in
-    rw (
-      add-one n,
-      rows-end (r .period) (r .worst) (r .best) (z .periods) (z .worsts) (z .bests) n 0,
-      e,
-      getD-set-same (a .periods) n (r .period) 0 hp,
-      getD-set-same (a .worsts) n (r .worst) 0 hw,
-      getD-set-same (a .bests) n (r .best) 0 hb,
-      rows-kept (r .period) (r .worst) (r .best) (a .periods) (a .worsts) (a .bests) n 0 n (omega arith),
-    )
+    rw (add-one n)
+    (rows-more (r .period) (r .worst) (r .best) (a .periods) (a .worsts) (a .bests) n (omega (arith, m .periods-long))
+    (omega (arith, m .worsts-long)) (omega (arith, m .bests-long)))
 
 -- ---- columns z that hold what a holds, and then rows in range
 record Holds (a : Above) (ys : List Row) (z : Above) : Type 0 where
@@ -192,13 +194,13 @@ bare-loads : (f : Row → Load) → ((r : Row) → f (bare r) ≡ f r) → (ys :
 bare-loads f h [] = refl
 bare-loads f h (r ∷ rs) = ap₂ _∷_ (h r) (bare-loads f h rs)
 
-bare-same : (ys : List Row) → Same (map bare ys) ys
+pub bare-same : (ys : List Row) → Same (map bare ys) ys
 bare-same ys = record {
   worst-same = λ x. ap (λ (ls : List Load). interference 0 x ls) (bare-loads worstLoad (λ r. refl) ys);
   best-same = λ x. ap (λ (ls : List Load). interference 1 x ls) (bare-loads bestLoad (λ r. refl) ys);
 }
 
-bare-times : (ys : List Row) → allRows timesInRange (map bare ys) ≡ allRows timesInRange ys
+pub bare-times : (ys : List Row) → allRows timesInRange (map bare ys) ≡ allRows timesInRange ys
 bare-times [] = refl
 bare-times (r ∷ rs) = ap (λ (b : Bool). timesInRange r && b) (bare-times rs)
 

@@ -18,6 +18,12 @@ pub struct Row {
     pub beta: u64,
 }
 
+// An order, highest rank first: at most twelve task numbers and a count.
+pub struct Order {
+    pub tasks: [u16; MAX_TASKS],
+    pub count: usize,
+}
+
 // What the constructor answers.
 pub enum Checked {
     InRange(Row),

@@ -1,0 +1,122 @@
+-- The record of sets: read, written and begun; and when a row goes lowest.
+use mathlib.Core.Path.{_≡_, refl, ap, ap₂, sym, _∙_, subst}
+use mathlib.Core.Bool.{Bool, true, false, _&&_, not, and-false}
+use mathlib.Core.List.{List}
+use mathlib.Core.Option.{Option, none}
+use mathlib.Core.Logic.{inl, inr, ⊎-elim}
+use Prim.Native.Nat.{ℕ, suc, _-_, _/_, _%_, _^_, _≤_, _<_}
+use native.Mathlib.Decide.{ℕ-discrete}
+use native.Mathlib.Omega.{arith}
+use borrow.Author.Tests.{eq-eqb, ne-eqb}
+use lib.Dec.{eqb}
+use lib.ListN.{getD, set, length, length-set, replicate, length-replicate, getD-replicate}
+use lib.Seq.{getD-set-same, getD-set-other}
+use Rattle.rows.specs.declared.Row.{Row}
+use Rattle.orders.specs.Orders.{theOrder}
+use Rattle.orders.specs.Sets as S
+use Rattle.orders.specs.Sets.{members, hasBit, isSome, unknown, noOrder}
+use Rattle.orders.proofs.Sets.{less-row, taken-at}
+use Rattle.orders.proofs.Possible.{taken-length}
+use Rattle.orders.proofs.Scan.{at-empty}
+
+module _ (test : Row → List Row → List Row → Bool) (table : List Row) where
+  abbrev orderAt : ℕ → Option (List Row)
+  orderAt = S.orderAt test table
+
+  -- ---- when a row goes lowest
+  module _ (m i : ℕ) where
+    pub goes-out : (m / 2 ^ i % 2 ≡ 1 → ⊥) → false ≡ S.goes test table m i
+    goes-out h = rw (ne-eqb (m / 2 ^ i % 2) 1 h)
+
+    pub goes-unfit : S.fits test table m i ≡ false → false ≡ S.goes test table m i
+    goes-unfit h = rw (h, and-false (hasBit m i))
+
+    pub goes-none : orderAt (m - 2 ^ i) ≡ none → false ≡ S.goes test table m i
+    goes-none h =
+        let b = S.fits test table m i in
+        sym (ap (λ (o : Option (List Row)). hasBit m i && (b && isSome o)) h
+        ∙ ap (λ (c : Bool). hasBit m i && c) (and-false b) ∙ and-false (hasBit m i))
+
+    pub goes-then :
+        m / 2 ^ i % 2 ≡ 1 →
+        S.fits test table m i ≡ true →
+        isSome (orderAt (m - 2 ^ i)) ≡ S.goes test table m i
+    goes-then h f = sym (ap₂ (λ (a b : Bool). a && (b && isSome (orderAt (m - 2 ^ i)))) (eq-eqb (m / 2 ^ i % 2) 1 h) f)
+
+  -- ---- what a byte says
+  module _ (few : length table < unknown) where
+    pub says-found : (m v : ℕ) → S.Says test table m v → not (eqb v noOrder) ≡ isSome (orderAt m)
+    says-found m v (inl s) = rw (eq-eqb v noOrder (s .0), s .1)
+    says-found m v (inr s) =
+        let other : v ≡ noOrder → ⊥ = λ e. omega (arith, s .in-table) in
+        rw (ne-eqb v noOrder other, s .order-is)
+
+    pub says-none : (m : ℕ) → S.Says test table m noOrder → orderAt m ≡ none
+    says-none m (inl s) = s .1
+    says-none m (inr s) = absurd (omega (arith, s .in-table))
+
+    pub says-lowest : (m v : ℕ) → S.Says test table m v → isSome (orderAt m) ≡ true → S.LowestIs test table m v
+    says-lowest m v (inl s) h = absurd (no-order (sym (ap isSome (s .1)) ∙ h))
+      where
+        no-order : false ≡ true → ⊥
+        no-order e = let z : _≡_ {A = ℕ} 0 1 = cc in omega arith
+    says-lowest m v (inr s) h = s
+
+    -- ---- the record read and written
+    module _ (sets : List ℕ) (rec : S.Recorded test table sets) where
+      pub known : (m : ℕ) → m < 2 ^ length table → (getD sets m 0 ≡ unknown → ⊥) → S.Says test table m (getD sets m 0)
+      known m l h = ⊎-elim (λ e. absurd (h e)) (λ s. s) (rec .entries m l)
+
+      pub known-none : (m : ℕ) → m < 2 ^ length table → getD sets m 0 ≡ noOrder → orderAt m ≡ none
+      known-none m l e =
+          says-none m (subst (λ (v : ℕ). S.Says test table m v) e (known m l (λ q. omega arith)))
+
+      pub put : (m v : ℕ) → m < 2 ^ length table → S.Says test table m v → S.Recorded test table (set sets m v)
+      put m v l s = record {
+        room = omega (arith, rec .room, length-set sets m v);
+        entries = λ k h. elim (ℕ-discrete k m) [
+          | yes e ↦ inr (rw (e, getD-set-same sets m v 0 (omega (arith, rec .room))) s)
+          | no n ↦ rw (getD-set-other sets m k v 0 n) (rec .entries k h)
+        ];
+      }
+
+      pub settled-new :
+          (m v : ℕ) →
+          m < 2 ^ length table →
+          S.Says test table m v →
+          S.Settled test table m (set sets m v) (not (eqb v noOrder))
+      settled-new m v l s = record {
+        recorded = put m v l s;
+        there = λ h. rw (getD-set-same sets m v 0 (omega (arith, rec .room))) s;
+        found-is = says-found m v s;
+      }
+
+      pub settled-old :
+          (m : ℕ) →
+          m < 2 ^ length table →
+          (getD sets m 0 ≡ unknown → ⊥) →
+          S.Settled test table m sets (not (eqb (getD sets m 0) noOrder))
+      settled-old m l h =
+          let s = known m l h in
+          record { recorded = rec; there = λ z. s; found-is = says-found m (getD sets m 0) s }
+
+      pub settled-empty : S.Settled test table 0 sets true
+      settled-empty = record {
+        recorded = rec;
+        there = λ z. absurd (z refl);
+        found-is = sym (ap isSome (at-empty theOrder test table));
+      }
+
+  -- a record that has no set
+  pub fresh : (n : ℕ) → 2 ^ length table ≤ n → S.Recorded test table (replicate n unknown)
+  fresh n h = record {
+    room = rw (length-replicate {A = ℕ} n unknown) h;
+    entries = λ k l. inl (getD-replicate {A = ℕ} n k unknown 0 (omega arith));
+  }
+
+  -- a set has one row more than the set less that row
+  pub one-more :
+      (m i : ℕ) →
+      S.LowestIs test table m i →
+      length (members m table) ≡ suc (length (members (m - 2 ^ i) table))
+  one-more m i s = taken-length (taken-at 1 table i m (m - 2 ^ i) (s .in-table) (less-row i m (s .in-set) .0))

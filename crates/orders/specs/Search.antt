@@ -1,0 +1,75 @@
+-- What the search promises: the order chosen by stability, of the first n rows of an array.
+use mathlib.Core.Path.{_≡_}
+use mathlib.Core.Bool.{Bool, true, false}
+use mathlib.Core.List.{List, [], _∷_, _++_}
+use mathlib.Core.Option.{Option, none, some}
+use Prim.Native.Nat.{ℕ, suc, _/_, _%_, _^_, _≤_, _<_}
+use lib.ListN.{length, take}
+use Rattle.rows.specs.Rows.{maxTasks, inRange, allRows, tasksOf, distinctRows}
+use Rattle.rows.specs.declared.Row.{Row}
+use Rattle.orders.specs.Orders.{Chosen}
+use Rattle.orders.specs.Sets.{members, isSome, orderAt, fits, goes, LowestIs, Says, Recorded}
+use Rattle.orders.specs.Stability.{stable, chosenOrder}
+use Rattle.orders.specs.declared.Answer.{Answer}
+
+-- the tasks of an order, where there is one
+abbrev pub tasksIn : Option (List Row) → List ℕ
+tasksIn none = []
+tasksIn (some os) = tasksOf os
+
+-- rows that a table can hold
+pub record Table (table : List Row) : Type 0 where
+  pub few : length table ≤ maxTasks
+  pub in-range : allRows inRange table ≡ true
+  pub distinct : distinctRows table ≡ true
+
+-- the first n rows of an array are such a table
+pub record Lent (rows : List Row) (n : ℕ) : Type 0 where
+  pub held : n ≤ maxTasks
+  pub counted : length (take n rows) ≡ n
+  pub table : Table (take n rows)
+
+-- the search is at set m, and what the record knows is so
+pub record Searching (rows : List Row) (n m : ℕ) (sets : List ℕ) : Type 0 where
+  pub lent : Lent rows n
+  pub set : m < 2 ^ n
+  pub recorded : Recorded stable (take n rows) sets
+
+-- what the search tells of set m: a byte for the record
+pub record Told (rows : List Row) (n m : ℕ) (sets : List ℕ) (v : ℕ) : Type 0 where
+  pub recorded : Recorded stable (take n rows) sets
+  pub says : Says stable (take n rows) m v
+
+-- whether row i may go lowest in set m; where it may, whether it does is whether the rest has an order
+pub record MayGo (rows : List Row) (n m i : ℕ) (r : Bool) : Type 0 where
+  pub in-set : r ≡ true → m / 2 ^ i % 2 ≡ 1
+  pub passes : r ≡ true → fits stable (take n rows) m i ≡ true
+  pub goes-not : r ≡ false → goes stable (take n rows) m i ≡ false
+
+-- the lowest row of set m
+pub record LowestRow (rows : List Row) (n m : ℕ) (sets : List ℕ) (i : ℕ) : Type 0 where
+  pub recorded : Recorded stable (take n rows) sets
+  pub lowest : LowestIs stable (take n rows) m i
+
+-- set m has an order
+abbrev pub Ordered : List Row → ℕ → ℕ → Type 0
+Ordered rows n m = isSome (orderAt stable (take n rows) m) ≡ true
+
+-- one task more
+pub record Pushed (tasks : List ℕ) (count task : ℕ) (tasks′ : List ℕ) (count′ : ℕ) : Type 0 where
+  pub long : length tasks′ ≡ maxTasks
+  pub one-more : count′ ≡ suc count
+  pub listed : take count′ tasks′ ≡ take count tasks ++ (task ∷ [])
+
+-- the front of the list is the order of set m
+pub record Listed (table : List Row) (m : ℕ) (tasks : List ℕ) (count : ℕ) : Type 0 where
+  pub long : length tasks ≡ maxTasks
+  pub counted : count ≡ length (members m table)
+  pub listed : take count tasks ≡ tasksIn (orderAt stable table m)
+
+-- the answer is the order chosen, which is as `Chosen` says
+pub record Answered (table : List Row) (r : Answer) : Type 0 where
+  pub found-is : r .found ≡ isSome (chosenOrder table)
+  pub tasks-are : take (r .order .count) (r .order .tasks) ≡ tasksIn (chosenOrder table)
+  pub count-is : r .order .count ≡ length (tasksIn (chosenOrder table))
+  pub chosen : Chosen stable table
