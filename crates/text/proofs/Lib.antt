@@ -3,3 +3,4 @@ pub mod Decimals
 pub mod Lines
 pub mod Spelling
 pub mod Puts
+pub mod Scans

@@ -1,4 +1,6 @@
 // Text as bytes: lines read, and numbers and lines written.
+
+// writers.rt: numbers and lines put into a lent buffer.
 mod writers;
 
 pub use writers::put_bytes;
@@ -6,6 +8,13 @@ pub use writers::put_line;
 pub use writers::put_number;
 pub use writers::put_signed;
 pub use writers::put_signed_line;
+
+ghost use mathlib.Core.Path.{_≡_};
+ghost use Prim.Native.Nat.{_≤_};
+ghost use lib.ListN.{length, drop};
+ghost use Rattle.text.specs.Lines.{maxDigits, lineOf, begins, digitsFrom, numberOf};
+ghost use Rattle.text.specs.Lines.{lineAt, endAt, refusal, place};
+use basics::within;
 
 // What the reading of one line answers: its number and the offset after it, the end of the text where nothing is
 // expected, or a refusal with its line.
@@ -24,4 +33,162 @@ pub enum Line {
 pub enum Digits {
     Value(u64),
     Malformed,
+}
+
+// The most digits of a number.
+const MAX_DIGITS: usize = 12;
+
+// How many bytes stand before the first line feed.
+fn line_length(s: &[u8]) -> usize
+    ensures { λ r. ⌜ r ≡ length (lineOf (now (s .entry))) ⌝ }
+{
+    let mut i = 0;
+    while i < s.len() {
+        if s[i] == b'\n' {
+            return i;
+        }
+        i += 1;
+    }
+    i
+}
+
+// Whether a text begins with a key.
+fn starts_with(s: &[u8], key: &[u8]) -> bool
+    ensures { λ r. ⌜ r ≡ begins (now (key .entry)) (now (s .entry)) ⌝ }
+{
+    if s.len() < key.len() {
+        return false;
+    }
+    let mut i = 0;
+    while i < key.len() {
+        if key[i] != s[i] {
+            return false;
+        }
+        i += 1;
+    }
+    true
+}
+
+// The number that decimal digits write, few enough that it fits.
+fn value_of(s: &[u8]) -> Digits
+    requires { ⌜ length (now s) ≤ maxDigits ⌝ }
+    ensures { λ r. ⌜ r ≡ digitsFrom 0 (now (s .entry)) ⌝ }
+{
+    let mut value: u64 = 0;
+    let mut i = 0;
+    while i < s.len() {
+        let b = s[i];
+        if b < b'0' {
+            return Digits::Malformed;
+        }
+        if b'9' < b {
+            return Digits::Malformed;
+        }
+        value = 10 * value + (b - b'0') as u64;
+        i += 1;
+    }
+    Digits::Value(value)
+}
+
+// What stands after a key, as a number.
+fn number_of(s: &[u8]) -> Digits
+    ensures { λ r. ⌜ r ≡ numberOf (now (s .entry)) ⌝ }
+{
+    if s.len() < 1 {
+        return Digits::Malformed;
+    }
+    if MAX_DIGITS < s.len() {
+        return Digits::Malformed;
+    }
+    if s[0] == b'0' {
+        if 1 < s.len() {
+            return Digits::Malformed;
+        }
+    }
+    value_of(s)
+}
+
+// What stands at an offset and after it: nothing, past the end.
+fn rest_of(s: &[u8], offset: usize) -> &[u8]
+    ensures { λ r. ⌜ now r ≡ drop offset (now (s .entry)) ⌝ }
+{
+    let size = s.len();
+    if size < offset {
+        return &s[size..];
+    }
+    &s[offset..]
+}
+
+// A text up to its first line feed.
+fn first_line(s: &[u8]) -> &[u8]
+    ensures { λ r. ⌜ now r ≡ lineOf (now (s .entry)) ⌝ }
+{
+    let size = line_length(s);
+    &s[..size]
+}
+
+// The line that begins at an offset: a key, a number in its range, and a line feed.
+pub fn line_at(text: &[u8], offset: usize, line: u32, key: &[u8], low: u64, high: u64) -> Line
+    ensures { λ r. ⌜ r ≡ lineAt (now (key .entry)) low high (now (text .entry)) offset line ⌝ }
+{
+    let rest = rest_of(text, offset);
+    let content = first_line(rest);
+    let size = content.len();
+    if rest.len() <= size {
+        return Line::Missing(line);
+    }
+    if !starts_with(content, key) {
+        return Line::Missing(line);
+    }
+    let digits = number_of(rest_of(content, key.len()));
+    let Digits::Value(value) = digits else {
+        return Line::Malformed(line);
+    };
+    if !within(low, high, value) {
+        return Line::OutOfRange(line);
+    }
+    let next = offset + size + 1;
+    Line::Number(value, next)
+}
+
+// The end of the text, where nothing is expected.
+pub fn end_at(text: &[u8], offset: usize, line: u32) -> Line
+    ensures { λ r. ⌜ r ≡ endAt (now (text .entry)) offset line ⌝ }
+{
+    if offset < text.len() {
+        return Line::Missing(line);
+    }
+    Line::End
+}
+
+// The number of a refusal, 0 where a line's answer is none.
+pub fn refusal_of(answer: Line) -> u8
+    ensures { λ r. ⌜ r ≡ refusal answer ⌝ }
+{
+    match answer {
+        Line::Number(_, _) => 0,
+        Line::End => 0,
+        Line::Missing(_) => 1,
+        Line::Malformed(_) => 2,
+        Line::OutOfRange(_) => 3,
+        Line::Exceeds(_) => 4,
+        Line::Repeated(_) => 5,
+        Line::Impossible(_) => 6,
+    }
+}
+
+// The line that is refused.
+pub fn place_of(answer: Line) -> u32
+    ensures { λ r. ⌜ r ≡ place answer ⌝ }
+{
+    match answer {
+        Line::Number(_, _) => 0,
+        Line::End => 0,
+        Line::Missing(line) => line,
+        Line::Malformed(line) => line,
+        Line::OutOfRange(line) => line,
+        Line::Exceeds(line) => line,
+        Line::Repeated(line) => line,
+        Line::Impossible(line) => line,
+    }
 }

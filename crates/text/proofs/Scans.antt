@@ -1,0 +1,137 @@
+-- Lines, keys and digits, one byte after another: what a loop over a text needs at each turn. What is left to be read
+-- decides what the whole answers, so that one equation is the whole invariant.
+use mathlib.Core.Path.{_≡_, refl, sym, ap, _∙_}
+use mathlib.Core.Bool.{true, false}
+use mathlib.Core.List.{List, [], _∷_}
+use mathlib.Core.Logic.{inl, inr}
+use Prim.Native.Nat.{ℕ, suc, _+_, _-_, _*_, _≤_, _<_}
+use native.Mathlib.Omega.{arith}
+use lib.Dec.{eqb}
+use lib.ListN.{length, getD, take, drop}
+use lib.Seq.{drop-cons}
+use borrow.Author.Tests.{eq-eqb, ne-eqb, le-leb, lt-leb, le-ltb, lt-ltb}
+use Rattle.basics.specs.Basics.{within}
+use Rattle.basics.proofs.Tests.{test-of, true-within}
+use Rattle.text.specs.declared.Digits.the-variants.{Value, Malformed}
+use Rattle.text.specs.declared.Line.the-variants as L
+use Rattle.text.specs.Text.{lineFeed, digitZero, digitNine}
+use Rattle.text.specs.Lines.{maxDigits, lineOf, begins, digitsFrom, numberOf, lineAt}
+
+-- ---- the first line, from an offset on
+module _ (s : List ℕ) (i : ℕ) (h : i < length s) where
+  pub line-ends : getD s i 0 ≡ lineFeed → lineOf (drop i s) ≡ []
+  line-ends e = rw (drop-cons s i 0 h, eq-eqb (getD s i 0) lineFeed e, lineOf)
+
+  pub line-goes-on : (getD s i 0 ≡ lineFeed → ⊥) → lineOf (drop i s) ≡ getD s i 0 ∷ lineOf (drop (suc i) s)
+  line-goes-on n = rw (drop-cons s i 0 h, ne-eqb (getD s i 0) lineFeed n, lineOf)
+
+-- a line is the front of its text
+pub line-fits : (s : List ℕ) → length (lineOf s) ≤ length s
+line-fits [] = omega arith
+line-fits (b ∷ s) =
+    elim (test-of (eqb b lineFeed)) [
+      | inl e ↦ rw (e, lineOf) (omega arith)
+      | inr e ↦ rw (e, lineOf) (omega (arith, line-fits s))
+    ]
+
+pub line-front : (s : List ℕ) → take (length (lineOf s)) s ≡ lineOf s
+line-front [] = refl
+line-front (b ∷ s) =
+    elim (test-of (eqb b lineFeed)) [
+      | inl e ↦ rw (e, lineOf)
+      | inr e ↦ rw (e, lineOf) (ap (λ l. b ∷ l) (line-front s))
+    ]
+
+-- ---- a key, from an offset on
+module _ (key s : List ℕ) (i : ℕ) (h : i < length key) (g : i < length s) where
+  pub key-goes-on : getD key i 0 ≡ getD s i 0
+      → begins (drop i key) (drop i s) ≡ begins (drop (suc i) key) (drop (suc i) s)
+  key-goes-on e = rw (drop-cons key i 0 h, drop-cons s i 0 g, eq-eqb (getD key i 0) (getD s i 0) e)
+
+  pub key-differs : (getD key i 0 ≡ getD s i 0 → ⊥) → begins (drop i key) (drop i s) ≡ false
+  key-differs n = rw (drop-cons key i 0 h, drop-cons s i 0 g, ne-eqb (getD key i 0) (getD s i 0) n)
+
+pub key-too-long : (key s : List ℕ) → length s < length key → begins key s ≡ false
+key-too-long [] s h = absurd (omega arith)
+key-too-long (x ∷ key) [] h = refl
+key-too-long (x ∷ key) (y ∷ s) h =
+    elim (test-of (eqb x y)) [ inl e ↦ rw e (key-too-long key s (omega arith)) | inr e ↦ rw e ]
+
+-- ---- digits, from an offset on
+module _ (v : ℕ) (s : List ℕ) (i : ℕ) (h : i < length s) where
+  abbrev byte : ℕ
+  byte = getD s i 0
+
+  pub digit-goes-on : digitZero ≤ byte → byte ≤ digitNine
+      → digitsFrom v (drop i s) ≡ digitsFrom (10 * v + (byte - digitZero)) (drop (suc i) s)
+  digit-goes-on l g = rw (drop-cons s i 0 h, true-within digitZero digitNine byte l g, digitsFrom)
+
+  pub digit-low : byte < digitZero → digitsFrom v (drop i s) ≡ Malformed
+  digit-low l = rw (drop-cons s i 0 h, lt-leb digitZero byte l, digitsFrom)
+
+  pub digit-high : digitNine < byte → digitsFrom v (drop i s) ≡ Malformed
+  digit-high l =
+      rw (drop-cons s i 0 h, le-leb digitZero byte (omega arith), lt-leb byte digitNine l, digitsFrom)
+
+-- ---- a number's form
+pub number-empty : (s : List ℕ) → length s < 1 → numberOf s ≡ Malformed
+unfolding numberOf
+number-empty s h = simp (lt-leb 1 (length s) h)
+
+pub number-long : (s : List ℕ) → maxDigits < length s → numberOf s ≡ Malformed
+unfolding numberOf
+number-long s h = simp (le-leb 1 (length s) (omega arith), lt-leb (length s) maxDigits h)
+
+module _ (s : List ℕ) (some : 1 ≤ length s) (few : length s ≤ maxDigits) where
+  pub number-leads : getD s 0 0 ≡ digitZero → 1 < length s → numberOf s ≡ Malformed
+  unfolding numberOf
+  number-leads e h =
+      simp (
+        true-within 1 maxDigits (length s) some few,
+        eq-eqb (getD s 0 0) digitZero e,
+        lt-ltb 1 (length s) h,
+      )
+
+  pub number-starts : (getD s 0 0 ≡ digitZero → ⊥) → numberOf s ≡ digitsFrom 0 s
+  unfolding numberOf
+  number-starts n =
+      simp (true-within 1 maxDigits (length s) some few, ne-eqb (getD s 0 0) digitZero n)
+
+  pub number-single : length s ≤ 1 → numberOf s ≡ digitsFrom 0 s
+  unfolding numberOf
+  number-single h =
+      elim (test-of (eqb (getD s 0 0) digitZero)) [
+        | inl e ↦ simp (true-within 1 maxDigits (length s) some few, e, le-ltb 1 (length s) h)
+        | inr e ↦ simp (true-within 1 maxDigits (length s) some few, e)
+      ]
+
+-- ---- a line's answer, by its tests: `l` is the line that begins at `at`
+module _ (key : List ℕ) (low high : ℕ) (text : List ℕ) (at k : ℕ)
+    (rest l : List ℕ) (r : rest ≡ drop at text) (e : l ≡ lineOf rest) where
+  same : lineOf (drop at text) ≡ l
+  same = sym (e ∙ ap lineOf r)
+
+  pub unended-missing : length rest ≤ length l → lineAt key low high text at k ≡ L.Missing k
+  unfolding lineAt
+  unended-missing h = rw (same, ← r, le-ltb (length l) (length rest) h)
+
+  module _ (h : length l < length rest) where
+    pub other-missing : begins key l ≡ false → lineAt key low high text at k ≡ L.Missing k
+    unfolding lineAt
+    other-missing b = rw (same, ← r, lt-ltb (length l) (length rest) h, b)
+
+    module _ (b : begins key l ≡ true) where
+      pub unread-malformed : numberOf (drop (length key) l) ≡ Malformed
+          → lineAt key low high text at k ≡ L.Malformed k
+      unfolding lineAt
+      unread-malformed n = rw (same, ← r, lt-ltb (length l) (length rest) h, b, n)
+
+      module _ (v : ℕ) (n : numberOf (drop (length key) l) ≡ Value v) where
+        pub read-outside : within low high v ≡ false → lineAt key low high text at k ≡ L.OutOfRange k
+        unfolding lineAt
+        read-outside w = rw (same, ← r, lt-ltb (length l) (length rest) h, b, n, w)
+
+        pub read-number : within low high v ≡ true
+            → lineAt key low high text at k ≡ L.Number v (at + suc (length l))
+        unfolding lineAt
+        read-number w = rw (same, ← r, lt-ltb (length l) (length rest) h, b, n, w)
