@@ -83,7 +83,7 @@ Known ranked (at-end b rs os) = Accepted ranked (accepted b rs os)
 
 -- ---- a row of six numbers that passed is in range, and its task is new
 module _ (n b : ℕ) (rs : List Row) where
-  good-next : (vs : List ℕ) (v : ℕ) → Good n b rs vs → Passes (at-field n b rs vs) v → Good n b rs (vs ++ (v ∷ []))
+  pub good-next : (vs : List ℕ) (v : ℕ) → Good n b rs vs → Passes (at-field n b rs vs) v → Good n b rs (vs ++ (v ∷ []))
   good-next vs v g p j h =
       elim (le-or-lt (length vs) j) [
         | inl l ↦
@@ -92,7 +92,7 @@ module _ (n b : ℕ) (rs : List Row) where
         | inr l ↦ rw (take-append-le j vs (v ∷ []) (omega arith), List·getD-append vs (v ∷ []) 0 j l) (g j l)
       ]
 
-  good-row : (vs : List ℕ) → length vs ≡ fieldCount → Good n b rs vs
+  pub good-row : (vs : List ℕ) → length vs ≡ fieldCount → Good n b rs vs
       → (inRange (rowOf vs) ≡ true) × (hasTask (rowOf vs .task) rs ≡ false)
   good-row [] e g = absurd (omega arith)
   good-row (x₀ ∷ []) e g = absurd (omega arith)
@@ -162,7 +162,7 @@ rows-known false zero b rs h =
     table-known false b rs [] (rw (add-zero (length rs)) at h) never (λ e. refl)
 rows-known ranked (suc n) b rs h = record { rows = h; short = omega arith; good = λ j l. absurd (omega arith) }
 
-after-known : (ranked : Bool) (st : Stage) (v : ℕ) → Known ranked st → Passes st v → isEnd st ≡ false
+pub after-known : (ranked : Bool) (st : Stage) (v : ℕ) → Known ranked st → Passes st v → isEnd st ≡ false
     → Known ranked (after ranked st v)
 after-known ranked at-board v h p e = within-true minBoard maxBoard v (p .in-range)
 after-known ranked (at-tasks b) v h p e =

@@ -1,6 +1,11 @@
--- Laws of tables as text.
+-- Laws of tables as text, and of the reader's way through one.
 pub mod Accepted
 pub mod Stages
 pub mod Answers
 pub mod Reasons
 pub mod Numbers
+pub mod Seeks
+pub mod Fields
+pub mod Taken
+pub mod Written
+pub mod Turns

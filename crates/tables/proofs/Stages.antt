@@ -22,12 +22,13 @@ use Rattle.tables.specs.Reasons.{Stage, at-board, at-tasks, at-field, at
 use Rattle.tables.specs.Reasons.{ranksStage, rowsStage, after, keyOf, lowOf, highOf, exceeds, repeats, impossible}
 
 -- ---- the tests beside a number's range, as the reasons state them
-abbrev fieldTested : Stage → ℕ → Line → Line
-fieldTested st k l =
-    onNumber l (λ v next. pick (exceeds st v) (L.Exceeds k) (pick (repeats st v) (L.Repeated k) l)) l
-
-abbrev rankTested : Stage → ℕ → Line → Line
-rankTested st k l = onNumber l (λ v next. pick (impossible st v) (L.Impossible k) l) l
+abbrev pub tested : Stage → ℕ → Line → Line
+tested st k l =
+    onNumber l
+    (λ v next.
+    pick (exceeds st v) (L.Exceeds k)
+    (pick (repeats st v) (L.Repeated k) (pick (impossible st v) (L.Impossible k) l)))
+    l
 
 module _ (k : ℕ) (l : Line) where
   crossed : (n b : ℕ) (rs : List Row) (vs : List ℕ) (v : ℕ) → let st = at-field n b rs vs in
@@ -38,85 +39,89 @@ module _ (k : ℕ) (l : Line) where
   crossed n b rs (x₀ ∷ x₁ ∷ x₂ ∷ []) v = refl
   crossed n b rs (x₀ ∷ x₁ ∷ x₂ ∷ x₃ ∷ vs) v = refl
 
-  named : (there again : Bool)
+  ranked-once : (there again : Bool)
       → pick (there && not again) l (L.Impossible k) ≡ pick (not there || again) (L.Impossible k) l
-  named true true = refl
-  named true false = refl
-  named false again = refl
+  ranked-once true true = refl
+  ranked-once true false = refl
+  ranked-once false again = refl
+
+-- no test beside the range at the first two lines
+pub untested : (l : Line) → onNumber l (λ v next. l) l ≡ l
+untested (L.Number v next) = refl
+untested L.End = refl
+untested (L.Missing k) = refl
+untested (L.Malformed k) = refl
+untested (L.OutOfRange k) = refl
+untested (L.Exceeds k) = refl
+untested (L.Repeated k) = refl
+untested (L.Impossible k) = refl
 
 module _ (ranked : Bool) (text : List ℕ) where
-  abbrev lineFor : Stage → ℕ → ℕ → Line
-  lineFor st at k = lineAt (keyOf st) (lowOf st) (highOf st) text at k
+  abbrev pub stageLine : Stage → ℕ → ℕ → Line
+  stageLine st at k = lineAt (keyOf st) (lowOf st) (highOf st) text at k
 
-  field-tested : (n b : ℕ) (rs : List Row) (vs : List ℕ) (at k : ℕ) → let st = at-field n b rs vs in
-      fieldAt (length vs) vs rs text at k ≡ fieldTested st k (lineFor st at k)
+  pub field-tested : (n b : ℕ) (rs : List Row) (vs : List ℕ) (at k : ℕ) → let st = at-field n b rs vs in
+      fieldAt (length vs) vs rs text at k ≡ tested st k (stageLine st at k)
   unfolding fieldAt
   field-tested n b rs vs at k =
-      let l = lineFor (at-field n b rs vs) at k in
+      let l = stageLine (at-field n b rs vs) at k in
       ap (λ f. onNumber l f l) (fun-ext λ v. fun-ext λ next. crossed k l n b rs vs v)
 
-  rank-tested : (n b : ℕ) (rs : List Row) (os : List ℕ) (at k : ℕ) → let st = at-rank n b rs os in
-      rankAt rs os text at k ≡ rankTested st k (lineFor st at k)
+  pub rank-tested : (n b : ℕ) (rs : List Row) (os : List ℕ) (at k : ℕ) → let st = at-rank n b rs os in
+      rankAt rs os text at k ≡ tested st k (stageLine st at k)
   unfolding rankAt
   rank-tested n b rs os at k =
-      let l = lineFor (at-rank n b rs os) at k in
-      ap (λ f. onNumber l f l) (fun-ext λ v. fun-ext λ next. named k l (hasTask v rs) (isIn v os))
+      let l = stageLine (at-rank n b rs os) at k in
+      ap (λ f. onNumber l f l) (fun-ext λ v. fun-ext λ next. ranked-once k l (hasTask v rs) (isIn v os))
 
   -- ---- what is read from a line on
   -- the rows that are left, after the lines of one
-  abbrev afterRow : ℕ → ℕ → List Row → Fields → Answer
+  abbrev pub afterRow : ℕ → ℕ → List Row → Fields → Answer
   afterRow n b rs x =
       elim (x .refused) [
         | zero ↦ rowsFrom ranked n b (rs ++ (rowOf (x .values) ∷ [])) text (x .offset) (x .line)
         | suc m ↦ turnedDown (suc m) (x .line)
       ]
 
-  -- a row's lines that are left, after one that was tested
-  abbrev afterField : ℕ → ℕ → List Row → List ℕ → ℕ → Line → Answer
-  afterField n b rs vs k x =
+  -- by the answer of a stage's line, tested
+  abbrev pub onTested : Stage → ℕ → ℕ → Line → Answer
+  onTested at-board at k x =
+      onNumber x (λ v next. tasksFrom ranked v text next (suc k)) (turnedDown (refusal x) (place x))
+  onTested (at-tasks b) at k x =
+      onNumber x (λ v next. rowsFrom ranked v b [] text next (suc k)) (turnedDown (refusal x) (place x))
+  onTested (at-field n b rs vs) at k x =
       let i = suc (length vs) in
       afterRow n b rs
       (onNumber x
       (λ v next. fieldsFrom (fieldCount - i) i (vs ++ (v ∷ [])) rs text next (suc k))
       (fields (refusal x) (place x) [] 0))
-
-  abbrev afterRank : ℕ → ℕ → List Row → List ℕ → ℕ → Line → Answer
-  afterRank n b rs os k x =
+  onTested (at-rank n b rs os) at k x =
       onNumber x (λ v next. ranksFrom n b rs (os ++ (v ∷ [])) text next (suc k)) (turnedDown (refusal x) (place x))
-
-  -- at any stage, by the answer of its line
-  abbrev pub onLine : Stage → ℕ → ℕ → Line → Answer
-  onLine at-board at k l =
-      onNumber l (λ v next. tasksFrom ranked v text next (suc k)) (turnedDown (refusal l) (place l))
-  onLine (at-tasks b) at k l =
-      onNumber l (λ v next. rowsFrom ranked v b [] text next (suc k)) (turnedDown (refusal l) (place l))
-  onLine (at-field n b rs vs) at k l = afterField n b rs vs k (fieldTested (at-field n b rs vs) k l)
-  onLine (at-rank n b rs os) at k l = afterRank n b rs os k (rankTested (at-rank n b rs os) k l)
-  onLine (at-end b rs os) at k l = ranksFrom 0 b rs os text at k
+  onTested (at-end b rs os) at k x = ranksFrom 0 b rs os text at k
 
   abbrev pub resume : Stage → ℕ → ℕ → Answer
-  resume st at k = onLine st at k (lineFor st at k)
+  resume st at k = onTested st at k (tested st k (stageLine st at k))
 
   -- ---- the definitions' own readings
   pub board-resumes : (at k : ℕ) → boardFrom ranked text at k ≡ resume at-board at k
   unfolding boardFrom
-  board-resumes at k = refl
+  board-resumes at k = ap (onTested at-board at k) (sym (untested (stageLine at-board at k)))
 
   pub tasks-resumes : (b at k : ℕ) → tasksFrom ranked b text at k ≡ resume (at-tasks b) at k
   unfolding tasksFrom
-  tasks-resumes b at k = refl
+  tasks-resumes b at k = ap (onTested (at-tasks b) at k) (sym (untested (stageLine (at-tasks b) at k)))
 
   pub ranks-resume : (n b : ℕ) (rs : List Row) (os : List ℕ) (at k : ℕ)
       → ranksFrom n b rs os text at k ≡ resume (ranksStage n b rs os) at k
   unfolding ranksFrom
   ranks-resume zero b rs os at k = refl
-  ranks-resume (suc n) b rs os at k = ap (afterRank n b rs os k) (rank-tested n b rs os at k)
+  ranks-resume (suc n) b rs os at k = ap (onTested (at-rank n b rs os) at k) (rank-tested n b rs os at k)
 
   pub rows-resume : (n b : ℕ) (rs : List Row) (at k : ℕ)
       → rowsFrom ranked n b rs text at k ≡ resume (rowsStage ranked n b rs) at k
   unfolding rowsFrom fieldsFrom
   rows-resume zero b rs at k = ranks-resume (pick ranked (length rs) 0) b rs [] at k
-  rows-resume (suc n) b rs at k = ap (afterField n b rs [] k) (field-tested n b rs [] at k)
+  rows-resume (suc n) b rs at k = ap (onTested (at-field n b rs []) at k) (field-tested n b rs [] at k)
 
   -- after a number of a row, the next stage is its next number or the next row
   pub values-resume : (n b : ℕ) (rs : List Row) (vs : List ℕ) (v at k : ℕ) → length vs < fieldCount
@@ -142,6 +147,6 @@ module _ (ranked : Bool) (text : List ℕ) where
             let left : fieldCount - i ≡ suc (fieldCount - suc (length ws)) = omega arith in
             let position : i ≡ length ws = omega arith in
             ap₂ reads left position
-            ∙ ap (afterField n b rs ws k) (field-tested n b rs ws at k)
+            ∙ ap (onTested (at-field n b rs ws) at k) (field-tested n b rs ws at k)
             ∙ sym (ap (λ x. resume (pick x next-row next-field) at k) t)
       ]

@@ -2,3 +2,5 @@
 pub mod Tables
 pub mod Reasons
 pub mod Claims
+pub mod Readings
+pub mod Steps
