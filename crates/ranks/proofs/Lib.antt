@@ -1,6 +1,8 @@
--- The demands of every text, and the starred cases.
+-- The demands of every text, the starred cases, and what the calls plan.
 pub mod Outcomes
 pub mod Promised
 pub mod Planned
 pub mod Reviewed
 pub mod Cases
+pub mod Readings
+pub mod Ordered

@@ -44,20 +44,20 @@ module _ (text : List ℕ) where
 
   -- ---- the order of an accepted table
   module _ (ok : Accepts false text) where
-    sound : Accepted false answer
+    pub sound : Accepted false answer
     sound = read false text .sound ok
 
-    choice : Chosen stable (answer .rows)
+    pub choice : Chosen stable (answer .rows)
     choice = chosen (answer .rows) (sound .rows-distinct)
 
     module _ (order : List Row) (is : chosenOrder (answer .rows) ≡ some order) where
-      order-in-range : allRows inRange order ≡ true
+      pub order-in-range : allRows inRange order ≡ true
       order-in-range = possible-passes inRange (choice .is-possible order is) (sound .rows-in-range)
 
       rank-stable : (i : ℕ) → i < length order → isStable (rowAt order i) (take i order) ≡ true
       rank-stable = stable-at order (choice .is-passing order is)
 
-      in-time : NoneLate order
+      pub in-time : NoneLate order
       in-time i h =
           let late = isLate (rowAt order i) (take i order) in
           not-true late (and-left (not late) (leZ (pos 0) (margin (rowAt order i) (take i order))) (rank-stable i h))

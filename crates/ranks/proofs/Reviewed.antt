@@ -41,13 +41,13 @@ module _ (text : List ℕ) where
 
   -- ---- the order of an accepted text
   module _ (ok : Accepts true text) where
-    sound : Accepted true answer
+    pub sound : Accepted true answer
     sound = read true text .sound ok
 
     is-possible : Possible order (answer .rows) × (tasksOf order ≡ answer .order)
     is-possible = possible-tasks (answer .order) (answer .rows) (sound .ranks-possible refl)
 
-    order-in-range : allRows inRange order ≡ true
+    pub order-in-range : allRows inRange order ≡ true
     order-in-range = possible-passes inRange (is-possible .0) (sound .rows-in-range)
 
     module _ (in-time : NoneLate order) where
@@ -126,7 +126,7 @@ module _ (text : List ℕ) where
 
     record Short (p : ℕ) : Type 0 where
       accepts : Accepts true text
-      in-time : NoneLate order
+      pub in-time : NoneLate order
       place-is : p ≡ 0
       no-room : room < length plan
 

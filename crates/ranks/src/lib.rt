@@ -6,10 +6,14 @@ ghost use lib.ListN.{length, take};
 ghost use Rattle.rows.specs.Rows.{maxTasks, inRange, allRows};
 ghost use Rattle.plans.specs.Outcomes.{Written};
 ghost use Rattle.ranks.specs.Calls.{ifInTime};
+ghost use Rattle.ranks.specs.Demands.{PlanSays, ReviewSays};
+use orders::order_of_first;
 use plans::Plan;
 use plans::by_rank::entries_of;
 use rows::MAX_TASKS;
 use rows::Row;
+use rows::rows_for;
+use tables::read_table;
 
 // The plan of the first n rows as an order, the highest rank first: refusal 7 where one is late, 9 where it does not fit.
 fn plan_order(out: &mut [u8], board: u16, rows: [Row; MAX_TASKS], n: usize) -> Plan
@@ -24,4 +28,42 @@ fn plan_order(out: &mut [u8], board: u16, rows: [Row; MAX_TASKS], n: usize) -> P
     }
     let entries = ranked.entries;
     plans::finish(out, board, n, entries)
+}
+
+// The planner: the plan of a table's text, in the order that the rule chooses.
+pub fn write_plan(text: &[u8], out: &mut [u8]) -> Plan
+    ensures { λ r. ⌜ PlanSays (now (text .entry)) (now (out .entry)) (now (out .exit)) r ⌝ }
+{
+    let reading = read_table(text, false);
+    let refused = reading.refused;
+    if refused != 0 {
+        return Plan::refused(refused, reading.line);
+    }
+    let rows = reading.table.rows;
+    let n = reading.table.count;
+    let answer = order_of_first(rows, n);
+    if !answer.found {
+        return Plan::refused(8, 0);
+    }
+    let tasks = answer.order.tasks;
+    let ordered = rows_for(tasks, n, rows, n);
+    let board = reading.table.board as u16;
+    plan_order(out, board, ordered, n)
+}
+
+// The reviewer: the figures of the order that a text's rank lines give.
+pub fn review_order(text: &[u8], out: &mut [u8]) -> Plan
+    ensures { λ r. ⌜ ReviewSays (now (text .entry)) (now (out .entry)) (now (out .exit)) r ⌝ }
+{
+    let reading = read_table(text, true);
+    let refused = reading.refused;
+    if refused != 0 {
+        return Plan::refused(refused, reading.line);
+    }
+    let rows = reading.table.rows;
+    let n = reading.table.count;
+    let tasks = reading.order.tasks;
+    let ordered = rows_for(tasks, n, rows, n);
+    let board = reading.table.board as u16;
+    plan_order(out, board, ordered, n)
 }

@@ -8,7 +8,6 @@ pub use writers::put_line;
 pub use writers::put_number;
 pub use writers::put_signed;
 pub use writers::put_signed_line;
-
 ghost use mathlib.Core.Path.{_≡_};
 ghost use Prim.Native.Nat.{_≤_};
 ghost use lib.ListN.{length, drop};

@@ -446,9 +446,10 @@ module _ {M : Type 1} (𝓤 : URA M) (H : Heap 𝓤) (A : Atoms 𝓤) (W : Given
   read-lines-meets : Meets 𝓤 H A read-lines.signature (WpFn 𝓤 H (𝓣 .C) (𝓣 .Λ) code.function)
       (read-lines.spec 𝓤 H A mem run)
   read-lines-meets =
-      walk-meets 𝓤 H A read-lines.ended stayed W
-      (goes-dropped 𝓤 H A W 1 (shrSliceOf (0 ∷ []) tt (plain (λ _. u8))) yes (λ κs x f. refl),
-      (goes-dropped 𝓤 H A W 1 (plain (λ _. bool)) yes (λ κs x f. refl), tt))
+      walk-meets 𝓤 H A read-lines.ended stayed W (
+        goes-dropped 𝓤 H A W 1 (shrSliceOf (0 ∷ []) tt (plain (λ _. u8))) yes (λ κs x f. refl),
+        (goes-dropped 𝓤 H A W 1 (plain (λ _. bool)) yes (λ κs x f. refl), tt),
+      )
       (read-lines.clauses 𝓤 H A mem run) (WpFn 𝓤 H (𝓣 .C) (𝓣 .Λ) code.function)
       (WpFn-mono 𝓤 H (W .laws) 𝓣 code.function) read-lines-walks
 

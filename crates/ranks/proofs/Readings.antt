@@ -1,0 +1,76 @@
+-- What a reading by value says of its table: the first rows of its array are the table's rows, which are in range and
+-- distinct, so that they can be lent to the search; and a text's refusal is the call's.
+use mathlib.Core.Path.{_≡_, refl, sym, ap, ap₂, subst, _∙_}
+use mathlib.Core.Bool.{Bool, true, false}
+use mathlib.Core.List.{List, [], _∷_, _++_}
+use mathlib.Core.Logic.{inl, inr}
+use Prim.Native.Nat.{ℕ, zero, suc, _-_, _≤_, _<_}
+use native.Mathlib.Omega.{arith}
+use lib.ListN.{length, take, replicate}
+use lib.Seq.{take-append-seam}
+use Rattle.rows.specs.Rows.{maxTasks, noRow, inRange, allRows}
+use Rattle.rows.specs.declared.Row.{Row}
+use Rattle.tables.specs.declared.Reading.{Reading}
+use Rattle.tables.specs.Tables.{Answer, readTable}
+use Rattle.tables.specs.Readings.{padded, reading}
+use Rattle.tables.specs.Claims.{Accepted}
+use Rattle.tables.proofs.Reasons.{read}
+use Rattle.orders.specs.Search.{Table, Lent}
+use Rattle.plans.specs.Outcomes.{Outcome, refuses}
+use Rattle.ranks.specs.Calls.{onTable}
+use Rattle.ranks.specs.Demands.{Accepts}
+use Rattle.ranks.proofs.Outcomes.{zero-or-more, on-refused}
+
+-- the front of an array that is filled up
+pub padded-front : {A : Type 0} (d : A) (xs : List A) → take (length xs) (padded d xs) ≡ xs
+padded-front d xs = take-append-seam xs (replicate (maxTasks - length xs) d)
+
+-- a text's refusal is the call's
+pub refused-call : (a : Answer) (next : Outcome) → (a .refused ≡ 0 → ⊥) → onTable a next ≡ refuses (a .refused) (a .line)
+refused-call a next h = elim (zero-or-more (a .refused)) [
+  | inl e ↦ absurd (h e)
+  | inr e ↦ on-refused a next (e .0) (e .1) ∙ ap (λ (n : ℕ). refuses n (a .line)) (sym (e .1))
+]
+
+module _ (ranked : Bool) (text : List ℕ) (r : Reading) (is : r ≡ reading (readTable ranked text)) where
+  abbrev answer : Answer
+  answer = readTable ranked text
+
+  pub refused-is : r .refused ≡ answer .refused
+  refused-is = ap (λ (x : Reading). x .refused) is
+
+  pub accepts : r .refused ≡ 0 → Accepts ranked text
+  accepts e = sym refused-is ∙ e
+
+  pub refusal-is : (next : Outcome) → (r .refused ≡ 0 → ⊥) → onTable answer next ≡ refuses (r .refused) (r .line)
+  refusal-is next h =
+      refused-call answer next (λ e. h (refused-is ∙ e))
+      ∙ ap (λ (x : Reading). refuses (x .refused) (x .line)) (sym is)
+
+  pub count-is : r .table .count ≡ length (answer .rows)
+  count-is = ap (λ (x : Reading). x .table .count) is
+
+  pub rows-front : take (r .table .count) (r .table .rows) ≡ answer .rows
+  rows-front =
+      ap (λ (x : Reading). take (x .table .count) (x .table .rows)) is ∙ padded-front noRow (answer .rows)
+
+  module _ (ok : Accepts ranked text) where
+    abbrev sound : Accepted ranked answer
+    sound = read ranked text .sound ok
+
+    pub few : r .table .count ≤ maxTasks
+    few = omega (arith, count-is, sound .few-rows)
+
+    pub lent : Lent (r .table .rows) (r .table .count)
+    lent = record {
+      held = few;
+      counted = ap length rows-front ∙ sym count-is;
+      table = subst Table (sym rows-front)
+          (record { few = sound .few-rows; in-range = sound .rows-in-range; distinct = sound .rows-distinct });
+    }
+
+    pub board-is : r .table .board ≡ answer .board
+    board-is = ap (λ (x : Reading). x .table .board) is
+
+    pub board-fits : r .table .board ≤ 65535
+    board-fits = omega (arith, board-is, sound .board-high)
