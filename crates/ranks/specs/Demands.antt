@@ -46,10 +46,13 @@ abbrev pub EveryOrderFails : List Row → Type 0
 EveryOrderFails rows = (os : List Row) → Possible os rows → orderStable os ≡ false
 
 -- ---- the planner
+abbrev pub plannerRefusals : List ℕ
+plannerRefusals = 1 ∷ 2 ∷ 3 ∷ 4 ∷ 5 ∷ 8 ∷ 9 ∷ []
+
 pub record PlanDemands (text : List ℕ) (room : ℕ) : Type 0 where
   -- demand 1: a text is refused for its reason or accepted as it is written, and a refusal has a listed number
   pub read : Read false text
-  pub listed : (n p : ℕ) → planned text room ≡ refuses n p → isIn n (1 ∷ 2 ∷ 3 ∷ 4 ∷ 5 ∷ 8 ∷ 9 ∷ []) ≡ true
+  pub listed : (n p : ℕ) → planned text room ≡ refuses n p → isIn n plannerRefusals ≡ true
   pub nine-only :
       (p : ℕ) → planned text room ≡ refuses 9 p
       → (order : List Row) × (chosenOrder (readTable false text .rows) ≡ some order) × (p ≡ 0)
@@ -72,9 +75,12 @@ pub record PlanDemands (text : List ℕ) (room : ℕ) : Type 0 where
   pub has-room : planRoom ≤ room → (p : ℕ) → planned text room ≡ refuses 9 p → ⊥
 
 -- ---- the reviewer
+abbrev pub reviewerRefusals : List ℕ
+reviewerRefusals = 1 ∷ 2 ∷ 3 ∷ 4 ∷ 5 ∷ 6 ∷ 7 ∷ 9 ∷ []
+
 pub record ReviewDemands (text : List ℕ) (room : ℕ) : Type 0 where
   pub read : Read true text
-  pub listed : (n p : ℕ) → reviewed text room ≡ refuses n p → isIn n (1 ∷ 2 ∷ 3 ∷ 4 ∷ 5 ∷ 6 ∷ 7 ∷ 9 ∷ []) ≡ true
+  pub listed : (n p : ℕ) → reviewed text room ≡ refuses n p → isIn n reviewerRefusals ≡ true
   -- the order given: each row once and nothing else, its tasks those of the rank lines
   pub possible : Accepts true text → Possible (givenOrder text) (readTable true text .rows)
   pub tasks-are : Accepts true text → tasksOf (givenOrder text) ≡ readTable true text .order

@@ -3,13 +3,18 @@ ghost use mathlib.Core.Path.{_≡_};
 ghost use mathlib.Core.Bool.{true};
 ghost use Prim.Native.Nat.{_≤_};
 ghost use lib.ListN.{length, take};
+ghost use Rattle.io.specs.Counts.{Counts};
+ghost use Rattle.text.specs.Puts.{Wrote};
 ghost use Rattle.rows.specs.Rows.{maxTasks, inRange, allRows};
 ghost use Rattle.plans.specs.Outcomes.{Written};
-ghost use Rattle.ranks.specs.Calls.{ifInTime};
+ghost use Rattle.ranks.specs.Calls.{ifInTime, plannerPrints, reviewerPrints};
 ghost use Rattle.ranks.specs.Demands.{PlanSays, ReviewSays};
 use orders::order_of_first;
-use plans::Plan;
+pub use plans::Plan;
+pub use plans::ROOM;
+pub use plans::buffer;
 use plans::by_rank::entries_of;
+pub use responses::row_figures;
 use rows::MAX_TASKS;
 use rows::Row;
 use rows::rows_for;
@@ -66,4 +71,22 @@ pub fn review_order(text: &[u8], out: &mut [u8]) -> Plan
     let ordered = rows_for(tasks, n, rows, n);
     let board = reading.table.board as u16;
     plan_order(out, board, ordered, n)
+}
+
+// What the planner's program prints for the text it took: the plan, or the three lines of its refusal.
+pub fn print_plan(text: &[u8], out: &mut [u8; ROOM]) -> usize
+    ensures { λ r. ⌜ Wrote (plannerPrints (now (text .entry))) (now (out .entry)) (now (out .exit)) r ⌝ }
+    ensures { λ r. ⌜ Counts r (now (out .exit)) ⌝ }
+{
+    let plan = write_plan(text, out);
+    plan.printed(out)
+}
+
+// What the reviewer's program prints for the text it took.
+pub fn print_review(text: &[u8], out: &mut [u8; ROOM]) -> usize
+    ensures { λ r. ⌜ Wrote (reviewerPrints (now (text .entry))) (now (out .entry)) (now (out .exit)) r ⌝ }
+    ensures { λ r. ⌜ Counts r (now (out .exit)) ⌝ }
+{
+    let plan = review_order(text, out);
+    plan.printed(out)
 }

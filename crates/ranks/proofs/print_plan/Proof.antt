@@ -1,0 +1,38 @@
+-- `ranks::print_plan` meets its contract: every answer of `write_plan` is listed, so its
+-- text is the answer's, which stands in the buffer as `printed` leaves it.
+use mathlib.Core.Path.{_≡_, refl}
+use mathlib.Core.List.{List}
+use denote.Ref.{now}
+use borrow.Author.Needs.{needs}
+use lib.ListN.{length}
+use Rattle.plans.specs.Plans.{planRoom}
+use Rattle.plans.proofs.Outcomes.{long-fits}
+use Rattle.ranks.specs.Calls.{planned}
+use Rattle.ranks.specs.Demands.{plannerRefusals}
+use Rattle.ranks.proofs.Outcomes.{numbered}
+use Rattle.ranks.proofs.print_plan.Statement.{statement}
+use Rattle.ranks.proofs.print_plan.Tie as tie
+
+room : (c : tie.After-write-plan) → length (now (c .before .before .before .args .out)) ≡ planRoom
+room c = search needs
+
+write-plan-requires : tie.Need-write-plan-requires
+write-plan-requires c κs = search needs
+
+printed-requires : tie.Need-printed-requires
+printed-requires c κs = long-fits (c .before .write-plan .ensures .answer)
+
+returns : tie.Need-returns
+returns c =
+    let f = c .before .before in
+    let s = f .before .before .before in
+    let text = now (s .args .text) in
+    let says = f .write-plan .ensures in
+    let listed = rw (room f) at (says .demands .listed) in
+    let p = c .printed .ensures in (
+      p .text (planned text planRoom) (now (s .args .out)) (numbered _ plannerRefusals refl listed) (rw (room f) at (says .answer)),
+      p .counts,
+    )
+
+pub print-plan-spec : {M : Type 1} → statement M
+print-plan-spec = tie.close (tie.spec write-plan-requires printed-requires returns)
