@@ -20,6 +20,7 @@ use Rattle.tables.specs.declared.reader.Place.{Place}
 use Rattle.tables.specs.declared.reader.Reader.{Reader}
 use Rattle.tables.specs.Tables.{minBoard, maxBoard, fieldCount, fieldAt, rankAt, rowOf}
 
+-- a progress of its fields
 abbrev pub progress : Bool → Bool → ℕ → ℕ → ℕ → ℕ → ℕ → List ℕ → ℕ → List Row → ℕ → List ℕ → Progress
 progress ended ranked refused line board tasks position values count rows named order =
     record {
@@ -37,14 +38,16 @@ progress ended ranked refused line board tasks position values count rows named 
       order = order;
     }
 
--- nothing read yet; a reading that ends so is a refusal with its line
+-- nothing read
 abbrev pub nothingRead : Bool → Bool → ℕ → ℕ → Progress
 nothingRead ended ranked n k =
     progress ended ranked n k 0 0 0 (replicate fieldCount 0) 0 (replicate maxTasks noRow) 0 (replicate maxTasks 0)
 
+-- before the first line
 abbrev pub starting : Bool → Progress
 starting ranked = nothingRead false ranked 0 0
 
+-- a refusal with its line
 abbrev pub stopped : ℕ → ℕ → Progress
 stopped n k = nothingRead true false n k
 
@@ -68,6 +71,7 @@ expected p =
     (pick (ltb (p .count) (p .tasks)) (E.Field (p .position))
     (pick (p .ranked && ltb (p .named) (p .tasks)) E.Rank E.End)))
 
+-- the line that is expected
 abbrev pub lineFor : Expected → Progress → List ℕ → ℕ → ℕ → Line
 lineFor E.Board p text at k = lineAt (bytes "board=") minBoard maxBoard text at k
 lineFor E.Tasks p text at k = lineAt (bytes "tasks=") minTasks maxTasks text at k
@@ -100,11 +104,13 @@ withRank p v =
     progress (p .ended) (p .ranked) (p .refused) (p .line) (p .board) (p .tasks)
     (p .position) (p .values) (p .count) (p .rows) (p .named + 1) (set (p .order) (p .named) v)
 
+-- the end of the text
 abbrev pub ended : Progress → Progress
 ended p =
     progress true (p .ranked) (p .refused) (p .line) (p .board) (p .tasks)
     (p .position) (p .values) (p .count) (p .rows) (p .named) (p .order)
 
+-- by what was expected
 abbrev pub withNumber : Expected → Progress → ℕ → Progress
 withNumber E.Board p v = withBoard p v
 withNumber E.Tasks p v = withTasks p v
@@ -130,6 +136,7 @@ Due (E.Field i) p v =
 Due E.Rank p v = (p .named < maxTasks) × (v ≤ maxTask)
 Due E.End p v = Unit {0}
 
+-- and a line
 abbrev pub LineDue : Progress → Line → Type 0
 LineDue p l = (v next : ℕ) → l ≡ L.Number v next → Due (expected p) p v
 

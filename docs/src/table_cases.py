@@ -1,0 +1,281 @@
+#!/usr/bin/env python3
+"""The stored texts of the test program table_cases, and what each must read as.
+
+The answers come from the model below, a plain parser by splitting, written from document 01 alone; nothing of the
+proved reader is used. Run it from anywhere:
+
+    python3 docs/src/table_cases.py
+
+It writes crates/table_cases/stdin and crates/table_cases/stdout. In stdin each text stands after two lines, `length=`
+with its number of bytes and `ranked=` with 1 where rank lines are expected and 0 where not. In stdout each text has a
+line: the refusal's number and its line, or 0 and 0, then the board, the six numbers of each row, and the ranks. The
+last line says how many texts there are. `--list` prints each case's name with its answer, and writes nothing.
+"""
+import re
+import sys
+from pathlib import Path
+
+# ---- the model: document 01, "The table and the plan" and "Turned down because of the input"
+
+RANGES = {
+    "board": (1, 65_535),
+    "tasks": (1, 12),
+    "task": (1, 65_535),
+    "period": (1, 1_000_000),
+    "worst": (1, 1_000_000),
+    "best": (1, 1_000_000),
+    "alpha": (1_000, 100_000),
+    "beta": (0, 200_000_000_000),
+    "rank": (1, 65_535),
+}
+ROW_KEYS = ["task", "period", "worst", "best", "alpha", "beta"]
+NUMBER = re.compile(rb"0|[1-9][0-9]{0,11}")
+
+
+class Refused(Exception):
+    """A refusal: its number and its line."""
+
+
+def read(text, ranked):
+    """The board, the rows and the ranks of a text, or Refused."""
+    ended = text.split(b"\n")
+    rest = ended.pop()  # what stands after the last line feed
+    taken = 0
+
+    def number(key):
+        nonlocal taken
+        line = taken + 1
+        if line > len(ended) or not ended[taken].startswith(key.encode() + b"="):
+            raise Refused(1, line)
+        digits = ended[taken][len(key) + 1:]
+        if not NUMBER.fullmatch(digits):
+            raise Refused(2, line)
+        low, high = RANGES[key]
+        if not low <= int(digits) <= high:
+            raise Refused(3, line)
+        taken = line
+        return int(digits)
+
+    board = number("board")
+    rows = []
+    for _ in range(number("tasks")):
+        row = {}
+        for key in ROW_KEYS:
+            value = number(key)
+            if key == "worst" and value > row["period"] or key == "best" and value > row["worst"]:
+                raise Refused(4, taken)
+            if key == "task" and any(value == other["task"] for other in rows):
+                raise Refused(5, taken)
+            row[key] = value
+        rows.append(row)
+    ranks = []
+    for _ in range(len(rows) if ranked else 0):
+        value = number("rank")
+        if value in ranks or all(value != row["task"] for row in rows):
+            raise Refused(6, taken)
+        ranks.append(value)
+    if ended[taken:] or rest:
+        raise Refused(1, taken + 1)
+    return board, rows, ranks
+
+
+def answer(text, ranked):
+    """The line that the program prints for a text."""
+    try:
+        board, rows, ranks = read(text, ranked)
+    except Refused as refused:
+        return "{} {}".format(*refused.args)
+    numbers = [0, 0, board] + [row[key] for row in rows for key in ROW_KEYS] + ranks
+    return " ".join(map(str, numbers))
+
+
+# ---- the cases: (name, ranked, text)
+
+CASES = []
+
+
+def case(name, text, ranked=False):
+    CASES.append((name, ranked, text))
+
+
+def lined(lines):
+    """Lines as text, each with its line feed."""
+    return b"".join(line + b"\n" for line in lines)
+
+
+def table(rows, ranks=(), board=7, tasks=None):
+    """The lines of a table: six numbers to a row."""
+    lines = [b"board=%d" % board, b"tasks=%d" % (len(rows) if tasks is None else tasks)]
+    for row in rows:
+        lines += [b"%s=%d" % (key.encode(), value) for key, value in zip(ROW_KEYS, row)]
+    return lines + [b"rank=%d" % rank for rank in ranks]
+
+
+def changed(lines, k, line):
+    """The lines with line k, counted from 1, put in place of the one there."""
+    return lines[:k - 1] + [line] + lines[k:]
+
+
+PAPER = [(11, 24, 6, 6, 1000, 8000), (12, 18, 2, 2, 1000, 8000), (13, 200, 19, 17, 3000, 57000)]
+ONE = [(5, 9, 8, 7, 1000, 0)]
+TWO = [(5, 9, 8, 7, 1000, 0), (6, 90, 80, 70, 2000, 100)]
+FOUR = [(1, 10, 5, 3, 1000, 0), (2, 20, 9, 9, 1500, 10), (3, 30, 30, 1, 2000, 20), (4, 40, 8, 6, 2500, 30)]
+TWELVE = [(100 + i, 1000 + i, 500 + i, 400 + i, 1000 + i, 10 * i) for i in range(12)]
+ORDER = [100 + i for i in (7, 0, 11, 3, 1, 2, 10, 4, 9, 5, 8, 6)]
+
+# document 01's own: its table, and the cases about text of "Figures to hold against it"
+case("the table of document 01", lined(table(PAPER)))
+case("its table for the reviewer, as the plan ranks it", lined(table(PAPER, [12, 11, 13])), True)
+case("its table for the reviewer, in the order 11, 13, 12", lined(table(PAPER, [11, 13, 12])), True)
+case("empty input", b"")
+case("empty input for the reviewer", b"", True)
+case("board=07 with a line feed", b"board=07\n")
+case("tasks=13 after a good first line", b"board=7\ntasks=13\n")
+case("worst = period", lined(table([(5, 9, 9, 7, 1000, 0)])))
+case("worst = period + 1", lined(table([(5, 9, 10, 7, 1000, 0)])))
+case("beta of 13 at 54999: the reader accepts it", lined(table(PAPER[:2] + [(13, 200, 19, 17, 3000, 54999)])))
+
+# whole tables
+case("one row", lined(table(ONE)))
+case("one row and its rank", lined(table(ONE, [5])), True)
+case("twelve rows", lined(table(TWELVE)))
+case("twelve rows and twelve ranks", lined(table(TWELVE, ORDER)), True)
+
+# every line of a table of two rows with its ranks: refused on each line where that can happen
+whole = table(TWO, [6, 5])
+for k, line in enumerate(whole, 1):
+    key, value = line.split(b"=")
+    low, high = RANGES[key.decode()]
+    case(f"line {k} is missing", lined(whole[:k - 1]), True)
+    case(f"line {k} has no line feed", lined(whole[:k - 1]) + line, True)
+    case(f"line {k} begins with another key", lined(changed(whole, k, line.upper())), True)
+    case(f"line {k} is left out", lined(whole[:k - 1] + whole[k:]), True)
+    case(f"line {k} has a leading zero", lined(changed(whole, k, key + b"=0" + value)), True)
+    case(f"line {k} has an empty number", lined(changed(whole, k, key + b"=")), True)
+    case(f"line {k} is above its range", lined(changed(whole, k, b"%s=%d" % (key, high + 1))), True)
+    if low:
+        case(f"line {k} is below its range", lined(changed(whole, k, b"%s=%d" % (key, low - 1))), True)
+
+# every boundary of every range on its inner side, and next to it on its outer side
+for board in (0, 1, 65_535, 65_536):
+    case(f"board {board}", lined(table(ONE, board=board)))
+for tasks in (0, 2, 11, 13):
+    case(f"tasks {tasks} where one row stands", lined(table(ONE, tasks=tasks)))
+for task in (0, 1, 65_535, 65_536):
+    case(f"task {task}", lined(table([(task, 9, 8, 7, 1000, 0)])))
+    case(f"task and rank {task}", lined(table([(task, 9, 8, 7, 1000, 0)], [task])), True)
+    case(f"rank {task} where the task is 5", lined(table(ONE, [task])), True)
+for ticks in (0, 1, 1_000_000, 1_000_001):
+    case(f"period, worst and best {ticks}", lined(table([(5, ticks, ticks, ticks, 1000, 0)])))
+    case(f"worst {ticks} below the highest period", lined(table([(5, 1_000_000, ticks, 1, 1000, 0)])))
+    case(f"best {ticks} below the highest worst", lined(table([(5, 1_000_000, 1_000_000, ticks, 1000, 0)])))
+for alpha in (999, 1_000, 100_000, 100_001):
+    case(f"alpha {alpha}", lined(table([(5, 9, 8, 7, alpha, 0)])))
+for beta in (0, 1, 199_999_999_999, 200_000_000_000, 200_000_000_001):
+    case(f"beta {beta}", lined(table([(5, 9, 8, 7, 1000, beta)])))
+
+# one number beside another
+case("best = worst = period", lined(table([(5, 9, 9, 9, 1000, 0)])))
+case("best = worst + 1, within the period", lined(table([(5, 9, 7, 8, 1000, 0)])))
+case("worst above its range is 3, not 4", lined(table([(5, 9, 1_000_001, 7, 1000, 0)])))
+case("best above its range is 3, not 4", lined(table([(5, 9, 8, 1_000_001, 1000, 0)])))
+case("worst below its range is 3", lined(table([(5, 9, 0, 7, 1000, 0)])))
+for i, (task, period, worst, best, alpha, beta) in enumerate(FOUR):
+    above = FOUR[:i]
+    long, slow = (task, period, period + 1, best, alpha, beta), (task, period, worst, worst + 1, alpha, beta)
+    case(f"worst > period in row {i + 1}", lined(table(above + [long], tasks=4)))
+    case(f"best > worst in row {i + 1}", lined(table(above + [slow], tasks=4)))
+case("worst above another row's period", lined(table(ONE + [(6, 90, 80, 70, 1000, 0)])))
+
+# tasks and ranks
+for i in range(1, 4):
+    for j in range(i):
+        case(f"task {i + 1} is task {j + 1}", lined(table(FOUR[:i] + [FOUR[j]] + FOUR[i + 1:])))
+case("the twelfth task is the first", lined(table(TWELVE[:11] + [(100, 9, 8, 7, 1000, 0)])))
+case("a used task with a wrong period: its own line comes first", lined(table(ONE + [(5, 0, 0, 0, 0, 0)])))
+for i in range(4):
+    case(f"rank {i + 1} names no task", lined(table(FOUR, [4, 1, 3, 2][:i] + [5])), True)
+    for j in range(i):
+        case(f"rank {i + 1} is rank {j + 1}", lined(table(FOUR, [4, 1, 3, 2][:i] + [[4, 1, 3, 2][j]])), True)
+case("the twelfth rank is the first", lined(table(TWELVE, ORDER[:11] + ORDER[:1])), True)
+case("the twelfth rank names no task", lined(table(TWELVE, ORDER[:11] + [99])), True)
+case("a rank out of its range is 3, not 6", lined(table(TWO, [0, 5])), True)
+case("a rank with a leading zero is 2, not 6", lined(table(TWO) + [b"rank=05"]), True)
+case("a rank is missing", lined(table(TWO, [5])), True)
+case("no ranks", lined(table(TWO)), True)
+
+# bytes after the last line
+case("a rank line for the planner", lined(table(ONE, [5])))
+case("a rank too many", lined(table(ONE, [5, 5])), True)
+case("a byte after the last line", lined(table(ONE)) + b"x")
+case("a line feed after the last line", lined(table(ONE)) + b"\n")
+case("a NUL after the last line", lined(table(ONE)) + b"\0")
+case("a space after the last rank", lined(table(ONE, [5])) + b" ", True)
+case("a table after the table", lined(table(ONE)) * 2)
+case("a row too many", lined(table(TWO, tasks=1)))
+case("a byte after twelve rows", lined(table(TWELVE)) + b"b")
+case("a byte after twelve ranks", lined(table(TWELVE, ORDER)) + b"r", True)
+
+# line ends and other bytes
+case("CR LF throughout", lined(table(ONE)).replace(b"\n", b"\r\n"))
+case("CR LF at the last line", lined(table(ONE)[:-1]) + b"beta=0\r\n")
+case("CR alone", lined(table(ONE)).replace(b"\n", b"\r"))
+case("an empty line first", b"\n" + lined(table(ONE)))
+case("an empty line between", lined(changed(table(ONE), 3, b"\ntask=5")))
+case("only a line feed", b"\n")
+case("a NUL before the text", b"\0" + lined(table(ONE)))
+case("a NUL in a key", lined(changed(table(ONE), 3, b"ta\0k=5")))
+case("a NUL in a number", lined(changed(table(ONE), 3, b"task=5\0")))
+case("a NUL for a line feed", b"board=7\0tasks=1\n")
+case("a byte order mark", b"\xef\xbb\xbf" + lined(table(ONE)))
+case("a byte above 127 in a key", lined(changed(table(ONE), 4, b"peri\xf6d=9")))
+case("a byte above 127 in a number", lined(changed(table(ONE), 4, b"period=9\xb9")))
+case("a byte above 127 for a digit", lined(changed(table(ONE), 4, b"period=\xb9")))
+case("a digit and 128", lined(changed(table(ONE), 4, b"period=\xb5")))
+case("bytes 255 only", b"\xff" * 64)
+case("a tab before a key", b"\t" + lined(table(ONE)))
+
+# keys that are nearly right
+for key in (b"boar=7", b"board", b"board7", b"board:7", b"boards=7", b"board =7", b" board=7", b"=7", b"7", b"tasks=7"):
+    case(f"{key.decode()!r} for board=7", lined(changed(table(ONE), 1, key)))
+for key in (b"tas=5", b"task", b"task5", b"tasks=5", b"rank=5", b"Task=5", b"tak=5"):
+    case(f"{key.decode()!r} for task=5", lined(changed(table(ONE), 3, key)))
+case("'task=1' for tasks=1", lined(changed(table(ONE), 2, b"task=1")))
+case("'ranks=5' for rank=5", lined(table(ONE) + [b"ranks=5"]), True)
+case("'task=5' for rank=5", lined(table(ONE) + [b"task=5"]), True)
+case("best before worst", lined(table(ONE)[:4] + [b"best=7", b"worst=8", b"alpha=1000", b"beta=0"]))
+case("alpha for best", lined(table(ONE)[:5] + [b"alpha=1000", b"beta=0"]))
+
+# numbers that are nearly right, on the first line and on the last
+for number in (b"+7", b"-7", b"-0", b"00", b"0", b"7 ", b" 7", b"7.0", b"7e1", b"0x7", b"7_0", b"7,0", b"=7", b"7=7",
+               b"a", b"/", b":", b"100000000000", b"999999999999", b"1000000000000", b"0000000000007",
+               b"000000000007", b"18446744073709551623", b"7" * 40):
+    case(f"board={number.decode()}", lined(changed(table(ONE), 1, b"board=" + number)))
+    case(f"beta={number.decode()}", lined(changed(table(ONE), 8, b"beta=" + number)))
+
+# the first fault ends the reading
+case("no key and no number: 1", lined(changed(table(ONE), 3, b"tusk=x")))
+case("no number and no range: 2", lined(changed(table(ONE), 3, b"task=00000")))
+case("two lines out of range: the first", lined(table([(5, 0, 8, 7, 0, 0)])))
+case("a wrong number and no last feed: the number", lined(changed(table(ONE), 4, b"period=x"))[:-1])
+
+
+# ---- the two files
+
+def main():
+    answers = [answer(text, ranked) for _, ranked, text in CASES]
+    if "--list" in sys.argv[1:]:
+        for (name, ranked, _), said in zip(CASES, answers):
+            print(f"{said[:24]:24}  {'reviewer' if ranked else 'planner':8}  {name}")
+        return
+    stdin = b"".join(b"length=%d\nranked=%d\n%s" % (len(text), ranked, text) for _, ranked, text in CASES)
+    stdout = "".join(said + "\n" for said in answers) + f"texts={len(CASES)}\n"
+    if len(stdin) > 65_536:
+        sys.exit(f"the texts have {len(stdin)} bytes, and the program reads 65,536")
+    crate = Path(__file__).resolve().parents[2] / "crates" / "table_cases"
+    (crate / "stdin").write_bytes(stdin)
+    (crate / "stdout").write_text(stdout)
+
+
+if __name__ == "__main__":
+    main()
