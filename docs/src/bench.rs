@@ -1,0 +1,340 @@
+//! Times the proved planner against the same algorithm in plain Rust (`plain.rs`), on the same
+//! texts in one run, and looks for a slow table. See `docs/TESTING.md`.
+//!
+//! Built with `--cfg model_only` it needs no library: the model stands in for it.
+
+// The flag is given to rustc by hand, so that no list of known flags names it.
+#![allow(unexpected_cfgs)]
+
+mod dice;
+#[cfg(not(model_only))]
+mod library;
+// Of the model and the tables only a part is needed here.
+#[allow(dead_code)]
+mod model;
+mod plain;
+#[allow(dead_code)]
+mod tables;
+
+#[cfg(model_only)]
+mod library {
+    use crate::model::{self, Answer};
+
+    pub fn plan(text: &[u8], buffer: &mut [u8]) -> Answer {
+        model::written(&model::planned(text), buffer)
+    }
+
+    pub fn review(text: &[u8], buffer: &mut [u8]) -> Answer {
+        model::written(&model::reviewed(text), buffer)
+    }
+}
+
+use dice::Dice;
+use model::{Answer, Row};
+use std::hint::black_box;
+use std::process::ExitCode;
+
+/// Longer than any plan.
+const AMPLE: usize = 2_048;
+/// Calls of one measurement together last about this many seconds, for the clock to be fine
+/// enough.
+const BATCH: f64 = 1e-3;
+/// A slow table is the slowest of this many.
+const DRAWN_FOR_A_SLOW_ONE: usize = 100;
+
+const USAGE: &str = "usage: bench [--tables N] [--rounds N] [--climb MILLIONS] [--seed S]";
+
+type Function = fn(&[u8], &mut [u8]) -> Answer;
+
+/// The same call twice: in plain Rust and in the library.
+struct Pair {
+    plain: Function,
+    library: Function,
+}
+
+const PLAN: Pair = Pair { plain: plain::plan, library: library::plan };
+const REVIEW: Pair = Pair { plain: plain::review, library: library::review };
+
+/// A text on which the two do not print the same.
+struct Different(Vec<u8>);
+
+// ---- Measuring --------------------------------------------------------------------------
+
+unsafe extern "C" {
+    /// The processor time of this program in microseconds, by the C library that std links:
+    /// other programs on the machine do not lengthen it, as they would a wall clock's time.
+    safe fn clock() -> i64;
+}
+
+/// Seconds of the processor for one call of each.
+#[derive(Clone, Copy, Default)]
+struct Times {
+    plain: f64,
+    library: f64,
+}
+
+impl Times {
+    fn ratio(&self) -> f64 {
+        self.library / self.plain
+    }
+}
+
+fn printed(function: Function, text: &[u8]) -> (Answer, Vec<u8>) {
+    let mut buffer = vec![0; AMPLE];
+    let answer = function(text, &mut buffer);
+    (answer, buffer)
+}
+
+fn seconds(function: Function, text: &[u8], calls: u32) -> f64 {
+    let mut buffer = [0; AMPLE];
+    let started = clock();
+    for _ in 0..calls {
+        black_box(function(black_box(text), &mut buffer));
+    }
+    (clock() - started) as f64 * 1e-6 / f64::from(calls)
+}
+
+/// The shortest times of several rounds, which are disturbed least; the two take turns in going
+/// first.
+fn measure(pair: &Pair, text: &[u8], rounds: u32) -> Result<Times, Different> {
+    if printed(pair.plain, text) != printed(pair.library, text) {
+        return Err(Different(text.to_vec()));
+    }
+    let once = seconds(pair.plain, text, 1);
+    let calls = (BATCH / once).clamp(1.0, 10_000.0) as u32;
+    let mut times = Times { plain: f64::INFINITY, library: f64::INFINITY };
+    for round in 0..rounds {
+        if round % 2 == 0 {
+            times.plain = times.plain.min(seconds(pair.plain, text, calls));
+        }
+        times.library = times.library.min(seconds(pair.library, text, calls));
+        if round % 2 == 1 {
+            times.plain = times.plain.min(seconds(pair.plain, text, calls));
+        }
+    }
+    Ok(times)
+}
+
+/// Measures the texts for each number of tasks and prints a line for each: the time of a call,
+/// the ratio, and the growth of the library's time over one task fewer.
+fn print_times(
+    title: &str,
+    pair: &Pair,
+    texts: &[Vec<Vec<u8>>],
+    rounds: u32,
+) -> Result<(), Different> {
+    println!("{title}, microseconds a call");
+    println!("  tasks      plain    library   ratio  growth");
+    let (mut total, mut before) = (Times::default(), None);
+    for (tasks, texts) in texts.iter().enumerate() {
+        let mut sum = Times::default();
+        for text in texts {
+            let times = measure(pair, text, rounds)?;
+            sum.plain += times.plain;
+            sum.library += times.library;
+        }
+        let micros = 1e6 / texts.len() as f64;
+        let growth = before.map_or(String::new(), |before| format!("{:.2}", sum.library / before));
+        let (plain, library) = (sum.plain * micros, sum.library * micros);
+        println!("  {:5} {plain:10.2} {library:10.2} {:7.2} {growth:>7}", tasks + 1, sum.ratio());
+        before = Some(sum.library);
+        total.plain += sum.plain;
+        total.library += sum.library;
+    }
+    let (plain, library) = (total.plain * 1e3, total.library * 1e3);
+    println!("  total: plain {plain:.3} ms, library {library:.3} ms, ratio {:.3}", total.ratio());
+    Ok(())
+}
+
+// ---- Tables -----------------------------------------------------------------------------
+
+/// The terms added up in the search: its work, whatever the machine.
+fn work(rows: &[Row]) -> u64 {
+    plain::chosen::<true>(rows).1
+}
+
+fn typical(dice: &mut Dice, tasks: usize) -> Vec<Row> {
+    let family = dice.pick(&tables::FAMILIES);
+    tables::rows(dice, family, tasks, false)
+}
+
+fn slow(dice: &mut Dice, tasks: usize) -> Vec<Row> {
+    let mut slowest = typical(dice, tasks);
+    for _ in 1..DRAWN_FOR_A_SLOW_ONE {
+        let rows = typical(dice, tasks);
+        if work(&rows) > work(&slowest) {
+            slowest = rows;
+        }
+    }
+    slowest
+}
+
+type Draw = fn(&mut Dice, usize) -> Vec<Row>;
+
+/// Tables for each number of tasks from 1 to 12.
+fn draw_tables(dice: &mut Dice, draw: Draw, count: usize) -> Vec<Vec<Vec<Row>>> {
+    (1..=12).map(|tasks| (0..count).map(|_| draw(dice, tasks)).collect()).collect()
+}
+
+fn texts_of(tables: &[Vec<Vec<Row>>], text: fn(&[Row]) -> Vec<u8>) -> Vec<Vec<Vec<u8>>> {
+    tables.iter().map(|tables| tables.iter().map(|rows| text(rows)).collect()).collect()
+}
+
+fn table_text(rows: &[Row]) -> Vec<u8> {
+    tables::text(1, rows)
+}
+
+/// A table with the plan's order as rank lines, or by period where no order is stable.
+fn ranked_text(rows: &[Row]) -> Vec<u8> {
+    let mut by_period: Vec<usize> = (0..rows.len()).collect();
+    by_period.sort_by_key(|&index| rows[index].period);
+    let order = plain::chosen::<false>(rows).0.unwrap_or(by_period);
+    let ranks = order.iter().flat_map(|&index| format!("rank={}\n", rows[index].task).into_bytes());
+    table_text(rows).into_iter().chain(ranks).collect()
+}
+
+// ---- The search for a slow table --------------------------------------------------------
+
+fn near(dice: &mut Dice, number: u64, low: u64, high: u64) -> u64 {
+    let moved = match dice.below(5) {
+        0 => number + 1,
+        1 => number.saturating_sub(1),
+        2 => number * dice.between(2, 10),
+        3 => number / dice.between(2, 10),
+        _ => dice.any_size(high),
+    };
+    moved.clamp(low, high)
+}
+
+/// A beta that is no limit, or that the row just misses below some of the others.
+fn some_beta(dice: &mut Dice, rows: &[Row], index: usize) -> u64 {
+    let set = dice.next();
+    let above = (0..rows.len()).filter(|&other| other != index && set >> other & 1 == 1);
+    let above: Vec<&Row> = above.map(|other| &rows[other]).collect();
+    match tables::boundary(&rows[index], &above) {
+        Some(beta) if dice.once_in(2) => beta - 1,
+        _ => 200_000_000_000,
+    }
+}
+
+/// A table a step away.
+fn step_from(dice: &mut Dice, rows: &[Row]) -> Vec<Row> {
+    let mut rows = rows.to_vec();
+    let (index, other) = (dice.below(rows.len()), dice.below(rows.len()));
+    let mut row = rows[index];
+    match dice.below(7) {
+        0 => row.period = near(dice, row.period, row.worst, 1_000_000),
+        1 => row.worst = near(dice, row.worst, 1, row.period),
+        2 => row.best = near(dice, row.best, 1, row.worst),
+        3 => row.alpha = dice.pick(&[1_000, 2_000, 100_000]),
+        4 => row.beta = some_beta(dice, &rows, index),
+        5 => row = Row { task: row.task, ..rows[other] },
+        _ => {}
+    }
+    row.best = row.best.min(row.worst);
+    rows[index] = row;
+    if dice.once_in(4) {
+        rows.swap(index, other);
+    }
+    rows
+}
+
+/// A table made to be slow: short tasks that leave one tick in 1806 free, so that the search of a
+/// latest response creeps; long tasks that all fit below them, so that every set of these is
+/// tried; and, last in the table, a task that is never stable, so that all of it is in vain.
+fn creeping() -> Vec<Row> {
+    let loose =
+        |period| Row { task: 0, period, worst: 1, best: 1, alpha: 1_000, beta: 200_000_000_000 };
+    let mut rows = [1_000_000; 7].into_iter().chain([43, 7, 3, 2]).map(loose).collect::<Vec<_>>();
+    rows.push(Row { beta: 0, ..rows[0] });
+    rows.iter_mut().zip(1..).for_each(|(row, task)| row.task = task);
+    rows
+}
+
+/// Climbs from a table to slower ones until the work of all tables tried passes `budget`.
+fn climb(dice: &mut Dice, start: Vec<Row>, budget: u64) -> (u64, Vec<Row>) {
+    let (mut most, mut rows, mut spent) = (work(&start), start, 0);
+    while spent < budget {
+        let next = step_from(dice, &rows);
+        let needed = work(&next);
+        spent += needed;
+        if needed >= most {
+            (most, rows) = (needed, next);
+        }
+    }
+    (most, rows)
+}
+
+/// Climbs from a drawn table and from the made one, each with half of the budget, and times the
+/// slowest table that was met.
+fn print_slowest(dice: &mut Dice, millions: u64, rounds: u32) -> Result<(), Different> {
+    let starts = [slow(dice, 12), creeping()];
+    let ends = starts.map(|start| climb(dice, start, millions * 500_000));
+    println!("climbed to {} and {} terms", ends[0].0, ends[1].0);
+    let (_, rows) = ends.into_iter().max_by_key(|end| end.0).expect("two climbs");
+    let text = table_text(&rows);
+    let times = measure(&PLAN, &text, rounds)?;
+    let (plain, library) = (times.plain * 1e3, times.library * 1e3);
+    println!(
+        "slowest table found: plain {plain:.3} ms, library {library:.3} ms, ratio {:.3}",
+        times.ratio()
+    );
+    print!("{}", String::from_utf8_lossy(&text));
+    Ok(())
+}
+
+// ---- The program ------------------------------------------------------------------------
+
+struct Options {
+    tables: usize,
+    rounds: u32,
+    climb: u64,
+    seed: u64,
+}
+
+fn options() -> Option<Options> {
+    let mut options = Options { tables: 20, rounds: 6, climb: 1_000, seed: 1 };
+    let mut words = std::env::args().skip(1);
+    while let Some(word) = words.next() {
+        let value = words.next()?;
+        match word.as_str() {
+            "--tables" => options.tables = value.parse().ok().filter(|&tables| tables > 0)?,
+            "--rounds" => options.rounds = value.parse().ok().filter(|&rounds| rounds > 1)?,
+            "--climb" => options.climb = value.parse().ok()?,
+            "--seed" => options.seed = value.parse().ok()?,
+            _ => return None,
+        }
+    }
+    Some(options)
+}
+
+fn run(options: &Options) -> Result<(), Different> {
+    let mut dice = Dice::new(options.seed);
+    let typical = draw_tables(&mut dice, typical, options.tables);
+    let slow = draw_tables(&mut dice, slow, options.tables);
+    print_times("planner, typical tables", &PLAN, &texts_of(&typical, table_text), options.rounds)?;
+    print_times("planner, slow tables", &PLAN, &texts_of(&slow, table_text), options.rounds)?;
+    print_times(
+        "reviewer, typical tables",
+        &REVIEW,
+        &texts_of(&typical, ranked_text),
+        options.rounds,
+    )?;
+    if options.climb > 0 {
+        print_slowest(&mut dice, options.climb, options.rounds)?;
+    }
+    Ok(())
+}
+
+fn main() -> ExitCode {
+    let Some(options) = options() else {
+        eprintln!("{USAGE}");
+        return ExitCode::from(2);
+    };
+    println!("seed {}, {} tables for each number of tasks", options.seed, options.tables);
+    let Err(Different(text)) = run(&options) else {
+        return ExitCode::SUCCESS;
+    };
+    println!("DIFFERENCE between plain and library, text:\n  \"{}\"", text.escape_ascii());
+    ExitCode::FAILURE
+}

@@ -1,0 +1,229 @@
+//! Holds the proved planner and reviewer to the model of document 01, and their plans to the
+//! board. See `docs/TESTING.md`.
+//!
+//! Built with `--cfg model_only` it needs no library: `plain.rs` stands in for it.
+
+// The flag is given to rustc by hand, so that no list of known flags names it.
+#![allow(unexpected_cfgs)]
+
+mod board_runs;
+mod boards;
+mod calls;
+mod dice;
+#[cfg(not(model_only))]
+mod library;
+#[cfg(model_only)]
+#[path = "plain.rs"]
+mod library;
+mod model;
+mod tables;
+mod texts;
+
+use calls::{compare, Call, Tally, AMPLE};
+use dice::Dice;
+use model::{Outcome, Row};
+use std::io::{Read, Write};
+use std::process::ExitCode;
+use std::time::Instant;
+
+/// A plan longer than this is seldom tried with every buffer length.
+const SHORT_PLAN: usize = 200;
+/// How often a table's betas are lowered at most.
+const MOST_SQUEEZES: u64 = 3;
+
+const USAGE: &str = "usage: compare [--texts N] [--tables N] [--boards N] [--seed S]
+       compare --says plan|review    print what the model says to standard input";
+
+/// A line ten times in a run, so that a long one is seen to go on.
+fn progress(what: &str, done: u64, of: u64, started: Instant) {
+    if done * 10 / of != (done - 1) * 10 / of {
+        println!("  {done} of {of} {what}, {} s", started.elapsed().as_secs());
+        // The line is to be seen at once even where the output is a file or a pipe.
+        let _ = std::io::stdout().flush();
+    }
+}
+
+// ---- Texts ------------------------------------------------------------------------------
+
+/// The buffer lengths to try a text with: one, or now and then all up to past the plan.
+fn lengths(dice: &mut Dice, outcome: &Outcome) -> Vec<usize> {
+    let Ok(plan) = outcome else {
+        return vec![dice.pick(&[0, 1, 7, 100, AMPLE])];
+    };
+    let whole = plan.len();
+    if dice.once_in(if whole <= SHORT_PLAN { 50 } else { 2_000 }) {
+        return (0..whole + 4).collect();
+    }
+    let inside = dice.below(whole);
+    vec![dice.pick(&[whole, whole, whole - 1, whole + 1, inside, whole + inside, AMPLE])]
+}
+
+/// Both calls on one text; how many of its plans were tried with every buffer length.
+fn compare_text(dice: &mut Dice, tally: &mut Tally, text: &[u8]) -> Result<u64, String> {
+    let mut swept = 0;
+    for call in [Call::Plan, Call::Review] {
+        let outcome = call.by_model()(text);
+        let lengths = lengths(dice, &outcome);
+        swept += (lengths.len() > 1) as u64;
+        for length in lengths {
+            compare(tally, call, text, &outcome, length)?;
+        }
+    }
+    Ok(swept)
+}
+
+fn run_texts(dice: &mut Dice, count: u64) -> Result<(), String> {
+    let (mut tally, mut swept, started) = (Tally::default(), 0, Instant::now());
+    for done in 1..=count {
+        let text = texts::any(dice);
+        swept += compare_text(dice, &mut tally, &text)?;
+        progress("texts", done, count, started);
+    }
+    println!("{count} texts, {} calls, no difference", tally.calls());
+    tally.print();
+    println!("  plans tried with every buffer length from 0 to past their own: {swept}");
+    Ok(())
+}
+
+// ---- Tables -----------------------------------------------------------------------------
+
+/// The planner on a table; the order that both found, if there is one.
+fn compare_plan(tally: &mut Tally, board: u64, rows: &[Row]) -> Result<Option<Vec<usize>>, String> {
+    let text = tables::text(board, rows);
+    let outcome = model::planned(&text);
+    compare(tally, Call::Plan, &text, &outcome, AMPLE)?;
+    let ranks = outcome.ok().and_then(|plan| calls::ranks_in(&plan, rows));
+    Ok(ranks.map(|ranks| ranks.iter().map(|rank| rank.index).collect()))
+}
+
+/// The reviewer on a table and an order.
+fn compare_review(
+    tally: &mut Tally,
+    board: u64,
+    rows: &[Row],
+    order: &[usize],
+) -> Result<(), String> {
+    let mut text = tables::text(board, rows);
+    for &index in order {
+        text.extend(format!("rank={}\n", rows[index].task).into_bytes());
+    }
+    compare(tally, Call::Review, &text, &model::reviewed(&text), AMPLE)
+}
+
+/// The planner on a table, and the reviewer on the plan's order (by period where there is none)
+/// and on another at random; the plan's order.
+fn compare_table(
+    dice: &mut Dice,
+    tally: &mut Tally,
+    rows: &[Row],
+) -> Result<Option<Vec<usize>>, String> {
+    let board = dice.any_size(65_535);
+    let chosen = compare_plan(tally, board, rows)?;
+    let mut order: Vec<usize> = (0..rows.len()).collect();
+    order.sort_by_key(|&index| rows[index].period);
+    compare_review(tally, board, rows, chosen.as_ref().unwrap_or(&order))?;
+    dice.shuffle(&mut order);
+    compare_review(tally, board, rows, &order)?;
+    Ok(chosen)
+}
+
+/// Lowers the beta of one task of an order to its boundary or just below.
+fn lower_a_beta(dice: &mut Dice, rows: &mut [Row], order: &[usize]) {
+    let rank = dice.below(order.len());
+    let above: Vec<&Row> = order[..rank].iter().map(|&index| &rows[index]).collect();
+    let boundary = tables::boundary(&rows[order[rank]], &above);
+    rows[order[rank]].beta = boundary.map_or(0, |beta| beta - dice.between(0, 1));
+}
+
+/// The planner on a table whose betas are lowered one after another, so that ever fewer orders
+/// are stable and each table stands on a boundary; how many tables that were.
+fn squeeze(
+    dice: &mut Dice,
+    tally: &mut Tally,
+    mut rows: Vec<Row>,
+    mut order: Option<Vec<usize>>,
+) -> Result<u64, String> {
+    let mut steps = 0;
+    while let Some(stable) = order.filter(|_| steps < MOST_SQUEEZES) {
+        lower_a_beta(dice, &mut rows, &stable);
+        order = compare_plan(tally, 1, &rows)?;
+        steps += 1;
+    }
+    Ok(steps)
+}
+
+fn run_tables(dice: &mut Dice, count: u64) -> Result<(), String> {
+    let (mut tally, started) = (Tally::default(), Instant::now());
+    let (mut accepted, mut squeezed) = ([0; 12], 0);
+    for done in 1..=count {
+        let tasks = (done as usize - 1) % 12;
+        let family = dice.pick(&tables::FAMILIES);
+        let rows = tables::rows(dice, family, tasks + 1, false);
+        let order = compare_table(dice, &mut tally, &rows)?;
+        accepted[tasks] += order.is_some() as u64;
+        squeezed += squeeze(dice, &mut tally, rows, order)?;
+        progress("tables", done, count, started);
+    }
+    print!("{count} tables of 1 to 12 tasks and {squeezed} made from them, ");
+    println!("{} calls, no difference", tally.calls());
+    tally.print();
+    println!("  with a stable order, by number of tasks: {accepted:?}");
+    Ok(())
+}
+
+// ---- The program ------------------------------------------------------------------------
+
+struct Options {
+    texts: u64,
+    tables: u64,
+    boards: u64,
+    seed: u64,
+    says: Option<Call>,
+}
+
+fn options() -> Option<Options> {
+    let mut options = Options { texts: 20_000, tables: 1_200, boards: 100, seed: 1, says: None };
+    let mut words = std::env::args().skip(1);
+    while let Some(word) = words.next() {
+        let value = words.next()?;
+        match (word.as_str(), value.as_str()) {
+            ("--texts", count) => options.texts = count.parse().ok()?,
+            ("--tables", count) => options.tables = count.parse().ok()?,
+            ("--boards", count) => options.boards = count.parse().ok()?,
+            ("--seed", seed) => options.seed = seed.parse().ok()?,
+            ("--says", "plan") => options.says = Some(Call::Plan),
+            ("--says", "review") => options.says = Some(Call::Review),
+            _ => return None,
+        }
+    }
+    Some(options)
+}
+
+fn say(call: Call) -> std::io::Result<()> {
+    let mut input = Vec::new();
+    std::io::stdin().read_to_end(&mut input)?;
+    std::io::stdout().write_all(&model::printed(call.by_model(), &input))
+}
+
+/// Each part has dice of its own, so that its texts do not depend on the counts of the others.
+fn run_all(options: &Options) -> Result<(), String> {
+    run_texts(&mut Dice::new(options.seed), options.texts)?;
+    run_tables(&mut Dice::new(options.seed ^ 1 << 32), options.tables)?;
+    board_runs::run(&mut Dice::new(options.seed ^ 2 << 32), options.boards)
+}
+
+fn main() -> ExitCode {
+    let Some(options) = options() else {
+        eprintln!("{USAGE}");
+        return ExitCode::from(2);
+    };
+    if let Some(call) = options.says {
+        return if say(call).is_ok() { ExitCode::SUCCESS } else { ExitCode::from(2) };
+    }
+    println!("seed {}", options.seed);
+    let Err(found) = run_all(&options) else {
+        return ExitCode::SUCCESS;
+    };
+    println!("{found}seed {}", options.seed);
+    ExitCode::FAILURE
+}

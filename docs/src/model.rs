@@ -1,0 +1,553 @@
+//! The planner and the reviewer of document 01, written from that paper alone.
+//!
+//! Nothing here is clever, and nothing follows the product: lines are an indexed list, figures
+//! are found by walking the points where a sum can change, and orders by trying every
+//! permutation (up to seven tasks) or by growing stable orders from the highest rank down.
+
+use std::collections::BTreeMap;
+
+/// Tables with more tasks than this are ordered by `order_by_growing`.
+const PERMUTED_AT_MOST: usize = 7;
+
+/// The bytes of its input that a program takes.
+const PROGRAM_TAKES: usize = 16_384;
+
+#[derive(Clone, Copy, Debug, PartialEq)]
+pub struct Row {
+    pub task: u64,
+    pub period: u64,
+    pub worst: u64,
+    pub best: u64,
+    pub alpha: u64,
+    pub beta: u64,
+}
+
+#[derive(Clone, Copy, Debug, PartialEq)]
+pub struct Figures {
+    pub best: u64,
+    pub worst: u64,
+    pub jitter: u64,
+    pub margin: i64,
+}
+
+/// A refusal's number, and its line or rank, or 0.
+#[derive(Clone, Copy, Debug, PartialEq)]
+pub struct Refusal {
+    pub number: u64,
+    pub place: u64,
+}
+
+/// What a call answers beside the buffer: the number and the place are 0 for a written plan.
+#[derive(Clone, Copy, Debug, PartialEq)]
+pub struct Answer {
+    pub number: u64,
+    pub place: u64,
+    pub length: u64,
+}
+
+/// What a text comes to before the buffer's length is looked at: a plan's text or a refusal.
+pub type Outcome = Result<Vec<u8>, Refusal>;
+
+#[derive(Debug, PartialEq)]
+pub struct Table {
+    pub board: u64,
+    pub rows: Vec<Row>,
+}
+
+// ---- Reading ----------------------------------------------------------------------------
+
+/// The text as a list of lines; each still has its line feed, save perhaps the last.
+fn lines_of(text: &[u8]) -> Vec<&[u8]> {
+    text.split_inclusive(|&byte| byte == b'\n').collect()
+}
+
+/// The number of the form allowed, if these bytes are one.
+fn decimal(bytes: &[u8]) -> Option<u64> {
+    let digits = std::str::from_utf8(bytes).ok()?;
+    let plain = digits.bytes().all(|byte| byte.is_ascii_digit());
+    let padded = digits.len() > 1 && digits.starts_with('0');
+    if !plain || padded || digits.len() > 12 {
+        return None;
+    }
+    digits.parse().ok()
+}
+
+/// What follows `key=` on a line that has its line feed.
+fn after_key<'a>(line: &'a [u8], key: &str) -> Option<&'a [u8]> {
+    line.strip_suffix(b"\n")?.strip_prefix(key.as_bytes())?.strip_prefix(b"=")
+}
+
+/// The number on a line, or the refusal (1, 2 or 3) of that line.
+fn number_at(
+    lines: &[&[u8]],
+    place: usize,
+    key: &str,
+    low: u64,
+    high: u64,
+) -> Result<u64, Refusal> {
+    let refusal = |number| Refusal { number, place: place as u64 };
+    let line = lines.get(place - 1).ok_or(refusal(1))?;
+    let bytes = after_key(line, key).ok_or(refusal(1))?;
+    let number = decimal(bytes).ok_or(refusal(2))?;
+    if number < low || number > high {
+        return Err(refusal(3));
+    }
+    Ok(number)
+}
+
+fn refuse_if(condition: bool, number: u64, place: usize) -> Result<(), Refusal> {
+    if condition {
+        return Err(Refusal { number, place: place as u64 });
+    }
+    Ok(())
+}
+
+/// The row whose first line is at `place`, after the rows `before`.
+fn row_at(lines: &[&[u8]], place: usize, before: &[Row]) -> Result<Row, Refusal> {
+    let task = number_at(lines, place, "task", 1, 65_535)?;
+    refuse_if(before.iter().any(|row| row.task == task), 5, place)?;
+    let period = number_at(lines, place + 1, "period", 1, 1_000_000)?;
+    let worst = number_at(lines, place + 2, "worst", 1, 1_000_000)?;
+    refuse_if(worst > period, 4, place + 2)?;
+    let best = number_at(lines, place + 3, "best", 1, 1_000_000)?;
+    refuse_if(best > worst, 4, place + 3)?;
+    let alpha = number_at(lines, place + 4, "alpha", 1_000, 100_000)?;
+    let beta = number_at(lines, place + 5, "beta", 0, 200_000_000_000)?;
+    Ok(Row { task, period, worst, best, alpha, beta })
+}
+
+/// The table at the start of the text, and how many lines it takes.
+fn table_at_start(lines: &[&[u8]]) -> Result<(Table, usize), Refusal> {
+    let board = number_at(lines, 1, "board", 1, 65_535)?;
+    let tasks = number_at(lines, 2, "tasks", 1, 12)? as usize;
+    let mut rows = Vec::new();
+    for index in 0..tasks {
+        let row = row_at(lines, 3 + 6 * index, &rows)?;
+        rows.push(row);
+    }
+    Ok((Table { board, rows }, 2 + 6 * tasks))
+}
+
+/// Refusal 1 at the first line too many.
+fn nothing_after(lines: &[&[u8]], taken: usize) -> Result<(), Refusal> {
+    refuse_if(lines.len() > taken, 1, taken + 1)
+}
+
+pub fn read_table(text: &[u8]) -> Result<Table, Refusal> {
+    let lines = lines_of(text);
+    let (table, taken) = table_at_start(&lines)?;
+    nothing_after(&lines, taken)?;
+    Ok(table)
+}
+
+/// A table and the rows in the order given by the rank lines, highest first.
+fn read_ranked(text: &[u8]) -> Result<(Table, Vec<usize>), Refusal> {
+    let lines = lines_of(text);
+    let (table, mut taken) = table_at_start(&lines)?;
+    let mut order = Vec::new();
+    for _ in &table.rows {
+        taken += 1;
+        let task = number_at(&lines, taken, "rank", 1, 65_535)?;
+        let found = table.rows.iter().position(|row| row.task == task);
+        let unnamed = found.filter(|index| !order.contains(index));
+        order.push(unnamed.ok_or(Refusal { number: 6, place: taken as u64 })?);
+    }
+    nothing_after(&lines, taken)?;
+    Ok((table, order))
+}
+
+// ---- Figures ----------------------------------------------------------------------------
+
+/// The latest response of a row below `above`, or none if it is late.
+///
+/// The right side of the equation changes only just after a multiple of a period above, so it
+/// has one value from there up to the next such point, that point included. The first stretch
+/// whose value does not lie past the stretch's end holds the smallest solution.
+pub fn latest(row: &Row, above: &[&Row]) -> Option<u64> {
+    let mut points: Vec<u64> = above.iter().map(|over| over.period).collect();
+    let mut demand = row.worst + above.iter().map(|over| over.worst).sum::<u64>();
+    while demand <= row.period {
+        let end = points.iter().copied().min().unwrap_or(row.period);
+        if demand <= end {
+            return Some(demand);
+        }
+        for (point, over) in points.iter_mut().zip(above) {
+            if *point == end {
+                *point += over.period;
+                demand += over.worst;
+            }
+        }
+    }
+    None
+}
+
+/// The earliest response of a row whose latest is `latest`: the stretches on which the right
+/// side has one value are walked downward, and the first that holds its own value has it.
+pub fn earliest(row: &Row, above: &[&Row], latest: u64) -> u64 {
+    let mut whole: Vec<u64> = above.iter().map(|over| latest.div_ceil(over.period) - 1).collect();
+    loop {
+        let begins = whole.iter().zip(above).map(|(count, over)| count * over.period);
+        let begin = begins.max().unwrap_or(0);
+        let rest: u64 = whole.iter().zip(above).map(|(count, over)| count * over.best).sum();
+        if row.best + rest > begin {
+            return row.best + rest;
+        }
+        for (count, over) in whole.iter_mut().zip(above) {
+            if *count * over.period == begin {
+                *count -= 1;
+            }
+        }
+    }
+}
+
+/// All figures of a row below `above`, or none if it is late.
+pub fn figures(row: &Row, above: &[&Row]) -> Option<Figures> {
+    let worst = latest(row, above)?;
+    let best = earliest(row, above, worst);
+    let jitter = worst - best;
+    let cost = 1_000 * best + row.alpha * jitter;
+    Some(Figures { best, worst, jitter, margin: row.beta as i64 - cost as i64 })
+}
+
+// ---- Orders -----------------------------------------------------------------------------
+
+/// The rows of a set; bit i of the set stands for row i.
+fn rows_in(rows: &[Row], set: u16) -> Vec<&Row> {
+    let named = rows.iter().enumerate().filter(|(index, _)| set >> index & 1 == 1);
+    named.map(|(_, row)| row).collect()
+}
+
+fn is_stable(rows: &[Row], index: usize, above: u16) -> bool {
+    figures(&rows[index], &rows_in(rows, above)).is_some_and(|figures| figures.margin >= 0)
+}
+
+/// Steps to the next permutation in the sequence of dictionaries; false after the last.
+fn next_permutation(list: &mut [usize]) -> bool {
+    let Some(pivot) = (1..list.len()).rev().find(|&at| list[at - 1] < list[at]) else {
+        return false;
+    };
+    let larger = (pivot..list.len()).rev().find(|&at| list[at] > list[pivot - 1]);
+    list.swap(pivot - 1, larger.expect("the pivot itself is larger"));
+    list[pivot..].reverse();
+    true
+}
+
+/// The first stable permutation, lowest rank first: written so, the sequence of dictionaries is
+/// the paper's rule.
+fn order_by_permutations(rows: &[Row]) -> Option<Vec<usize>> {
+    let mut known = vec![None; rows.len() << rows.len()];
+    let mut order: Vec<usize> = (0..rows.len()).collect();
+    loop {
+        let mut above = (1u16 << rows.len()) - 1;
+        let stable = order.iter().all(|&index| {
+            above &= !(1 << index);
+            let slot = &mut known[index << rows.len() | above as usize];
+            *slot.get_or_insert_with(|| is_stable(rows, index, above))
+        });
+        if stable {
+            return Some(order);
+        }
+        if !next_permutation(&mut order) {
+            return None;
+        }
+    }
+}
+
+/// Grows stable orders from the highest rank down, one rank a round. A round keeps, for each
+/// set of rows that has a stable order, the first of them by the rule, lowest rank first.
+fn order_by_growing(rows: &[Row]) -> Option<Vec<usize>> {
+    let mut kept = BTreeMap::from([(0u16, Vec::new())]);
+    for _ in rows {
+        let mut grown: BTreeMap<u16, Vec<usize>> = BTreeMap::new();
+        for (&above, order) in &kept {
+            let outside = (0..rows.len()).filter(|index| above >> index & 1 == 0);
+            for index in outside.filter(|&index| is_stable(rows, index, above)) {
+                let longer = [&[index], order.as_slice()].concat();
+                let first = grown.entry(above | 1 << index).or_insert_with(|| longer.clone());
+                if longer < *first {
+                    *first = longer;
+                }
+            }
+        }
+        kept = grown;
+    }
+    kept.into_values().next()
+}
+
+/// The order of the plan as rows of the table, highest rank first.
+pub fn chosen_order(rows: &[Row]) -> Option<Vec<usize>> {
+    let method =
+        if rows.len() <= PERMUTED_AT_MOST { order_by_permutations } else { order_by_growing };
+    let mut order = method(rows)?;
+    order.reverse();
+    Some(order)
+}
+
+// ---- Writing ----------------------------------------------------------------------------
+
+/// The figures of an order, highest rank first, or refusal 7 at its first late rank.
+fn figures_of_order(rows: &[Row], order: &[usize]) -> Result<Vec<Figures>, Refusal> {
+    let mut all = Vec::new();
+    let mut above = Vec::new();
+    for &index in order {
+        let late = Refusal { number: 7, place: all.len() as u64 + 1 };
+        all.push(figures(&rows[index], &above).ok_or(late)?);
+        above.push(&rows[index]);
+    }
+    Ok(all)
+}
+
+fn plan_text(table: &Table, order: &[usize]) -> Outcome {
+    let figures = figures_of_order(&table.rows, order)?;
+    let mut text = format!("plan=1\nboard={}\ntasks={}\n", table.board, table.rows.len());
+    for (rank, (&index, Figures { best, worst, jitter, margin })) in
+        order.iter().zip(figures).enumerate()
+    {
+        text += &format!("rank={}\ntask={}\n", rank + 1, table.rows[index].task);
+        text += &format!("best={best}\nworst={worst}\njitter={jitter}\nmargin={margin}\n");
+    }
+    Ok(text.into_bytes())
+}
+
+pub fn planned(text: &[u8]) -> Outcome {
+    let table = read_table(text)?;
+    let order = chosen_order(&table.rows).ok_or(Refusal { number: 8, place: 0 })?;
+    plan_text(&table, &order)
+}
+
+pub fn reviewed(text: &[u8]) -> Outcome {
+    let (table, order) = read_ranked(text)?;
+    plan_text(&table, &order)
+}
+
+/// What the call answers with this buffer, and what the buffer then holds.
+pub fn written(outcome: &Outcome, buffer: &mut [u8]) -> Answer {
+    let refused = |Refusal { number, place }| Answer { number, place, length: 0 };
+    match outcome {
+        Err(refusal) => refused(*refusal),
+        Ok(plan) if plan.len() > buffer.len() => refused(Refusal { number: 9, place: 0 }),
+        Ok(plan) => {
+            buffer[..plan.len()].copy_from_slice(plan);
+            Answer { number: 0, place: 0, length: plan.len() as u64 }
+        }
+    }
+}
+
+/// What a program prints for its input; `call` is `planned` or `reviewed`.
+pub fn printed(call: fn(&[u8]) -> Outcome, input: &[u8]) -> Vec<u8> {
+    call(&input[..input.len().min(PROGRAM_TAKES)]).unwrap_or_else(|Refusal { number, place }| {
+        format!("plan=0\nrefusal={number}\nline={place}\n").into_bytes()
+    })
+}
+
+#[cfg(test)]
+mod tests {
+    use super::*;
+    use crate::dice::Dice;
+
+    const TABLE: &str = "board=7\ntasks=3\n\
+        task=11\nperiod=24\nworst=6\nbest=6\nalpha=1000\nbeta=8000\n\
+        task=12\nperiod=18\nworst=2\nbest=2\nalpha=1000\nbeta=8000\n\
+        task=13\nperiod=200\nworst=19\nbest=17\nalpha=3000\nbeta=57000\n";
+
+    const PLAN: &str = "plan=1\nboard=7\ntasks=3\n\
+        rank=1\ntask=12\nbest=2\nworst=2\njitter=0\nmargin=6000\n\
+        rank=2\ntask=11\nbest=6\nworst=8\njitter=2\nmargin=0\n\
+        rank=3\ntask=13\nbest=25\nworst=35\njitter=10\nmargin=2000\n";
+
+    fn rows() -> Vec<Row> {
+        read_table(TABLE.as_bytes()).unwrap().rows
+    }
+
+    /// E, W, jitter and margin of a row of the example below others of it.
+    fn figured(index: usize, above: &[usize]) -> Option<(u64, u64, u64, i64)> {
+        let rows = rows();
+        let above: Vec<&Row> = above.iter().map(|&index| &rows[index]).collect();
+        figures(&rows[index], &above).map(|f| (f.best, f.worst, f.jitter, f.margin))
+    }
+
+    fn refused(number: u64, place: u64) -> Outcome {
+        Err(Refusal { number, place })
+    }
+
+    /// The example with changes, each a text and what stands in its place, once.
+    fn changed(changes: &[(&str, &str)]) -> String {
+        changes.iter().fold(TABLE.to_string(), |text, (from, to)| {
+            assert!(text.contains(from));
+            text.replacen(from, to, 1)
+        })
+    }
+
+    fn tasks_of(outcome: Outcome) -> Vec<String> {
+        let text = String::from_utf8(outcome.unwrap()).unwrap();
+        text.lines().filter_map(|line| line.strip_prefix("task=").map(str::to_string)).collect()
+    }
+
+    #[test]
+    fn the_example_prints_whole() {
+        assert_eq!(planned(TABLE.as_bytes()), Ok(PLAN.into()));
+        assert_eq!(printed(planned, TABLE.as_bytes()), PLAN.as_bytes());
+        let ranked = format!("{TABLE}rank=12\nrank=11\nrank=13\n");
+        assert_eq!(reviewed(ranked.as_bytes()), Ok(PLAN.into()));
+    }
+
+    #[test]
+    fn the_figures_of_the_example() {
+        assert_eq!(figured(2, &[]), Some((17, 19, 2, 34000)));
+        assert_eq!(figured(2, &[1]), Some((19, 23, 4, 26000)));
+        assert_eq!(figured(2, &[0]), Some((17, 31, 14, -2000)));
+        assert_eq!(figured(2, &[0, 1]), Some((25, 35, 10, 2000)));
+        assert_eq!(figured(1, &[2]), None);
+        assert_eq!(figured(1, &[0]), Some((2, 8, 6, 0)));
+    }
+
+    #[test]
+    fn the_orders_of_the_example() {
+        assert_eq!(chosen_order(&rows()), Some(vec![1, 0, 2]));
+        let text = changed(&[("57000", "55000")]);
+        assert!(String::from_utf8(planned(text.as_bytes()).unwrap())
+            .unwrap()
+            .ends_with("margin=0\n"));
+        let text = changed(&[("57000", "54999")]);
+        assert_eq!(planned(text.as_bytes()), refused(8, 0));
+        let text = changed(&[("beta=8000", "beta=7999")]);
+        assert_eq!(tasks_of(planned(text.as_bytes())), ["11", "12", "13"]);
+        let text = changed(&[("beta=8000", "beta=7999"), ("beta=8000", "beta=7999")]);
+        assert_eq!(planned(text.as_bytes()), refused(8, 0));
+    }
+
+    #[test]
+    fn one_task_at_its_line() {
+        let one = |beta| {
+            let text = format!(
+                "board=1\ntasks=1\ntask=1\nperiod=10\nworst=10\nbest=10\nalpha=1000\nbeta={beta}\n"
+            );
+            planned(text.as_bytes())
+        };
+        assert!(one(10000).is_ok());
+        assert_eq!(one(9999), refused(8, 0));
+    }
+
+    #[test]
+    fn refusals_of_the_paper() {
+        let ranked = format!("{TABLE}rank=11\nrank=13\nrank=12\n");
+        assert_eq!(reviewed(ranked.as_bytes()), refused(7, 3));
+        assert_eq!(planned(b""), refused(1, 1));
+        assert_eq!(reviewed(b""), refused(1, 1));
+        assert_eq!(planned(b"board=07\n"), refused(2, 1));
+        assert_eq!(planned(b"board=7\ntasks=13\n"), refused(3, 2));
+        assert!(read_table(changed(&[("worst=2", "worst=18")]).as_bytes()).is_ok());
+        assert_eq!(planned(changed(&[("worst=2", "worst=19")]).as_bytes()), refused(4, 11));
+        assert_eq!(printed(planned, b""), b"plan=0\nrefusal=1\nline=1\n");
+    }
+
+    #[test]
+    fn each_number_at_its_place() {
+        let refuses = |from, to, number, place| {
+            assert_eq!(
+                planned(changed(&[(from, to)]).as_bytes()),
+                refused(number, place),
+                "{from} {to}"
+            );
+        };
+        refuses("board=7", "board7", 1, 1);
+        refuses("board=7\n", "board=7", 2, 1);
+        refuses("beta=57000\n", "beta=57000", 1, 20);
+        refuses("beta=57000\n", "beta=57000\n\n", 1, 21);
+        refuses("beta=57000\n", "beta=57000\nrank=11\n", 1, 21);
+        refuses("board=7", "board=", 2, 1);
+        refuses("board=7", "board=+7", 2, 1);
+        refuses("board=7", "board=7\r", 2, 1);
+        refuses("board=7", "board=999999999999", 3, 1);
+        refuses("board=7", "board=1000000000000", 2, 1);
+        refuses("board=7", "board=0", 3, 1);
+        refuses("tasks=3", "tasks=0", 3, 2);
+        refuses("best=6", "best=7", 4, 6);
+        refuses("task=12", "task=11", 5, 9);
+        refuses("alpha=1000", "alpha=999", 3, 7);
+        refuses("beta=8000", "beta=200000000001", 3, 8);
+        refuses("worst=6", "worst=1000001", 3, 5);
+    }
+
+    #[test]
+    fn rank_lines_named_twice_or_unknown() {
+        let review = |ranks: &str| reviewed(format!("{TABLE}{ranks}").as_bytes());
+        assert_eq!(review("rank=11\nrank=11\nrank=13\n"), refused(6, 22));
+        assert_eq!(review("rank=14\nrank=11\nrank=13\n"), refused(6, 21));
+        assert_eq!(review("rank=65536\n"), refused(3, 21));
+        assert_eq!(review("rank=11\nrank=12\n"), refused(1, 23));
+        assert_eq!(review("rank=11\nrank=12\nrank=13\nrank=13\n"), refused(1, 24));
+    }
+
+    #[test]
+    fn a_refusal_keeps_the_buffer_and_a_plan_only_its_length() {
+        let outcome = planned(TABLE.as_bytes());
+        let mut short = vec![200; PLAN.len() - 1];
+        assert_eq!(written(&outcome, &mut short), Answer { number: 9, place: 0, length: 0 });
+        assert!(short.iter().all(|&byte| byte == 200));
+        let mut long = vec![200; PLAN.len() + 2];
+        assert_eq!(
+            written(&outcome, &mut long),
+            Answer { number: 0, place: 0, length: PLAN.len() as u64 }
+        );
+        assert_eq!(long, [PLAN.as_bytes(), &[200, 200]].concat());
+    }
+
+    #[test]
+    fn a_program_takes_no_more_than_its_bytes() {
+        let mut input = TABLE.as_bytes().to_vec();
+        input.resize(PROGRAM_TAKES, b'x');
+        assert_eq!(printed(planned, &input), b"plan=0\nrefusal=1\nline=21\n");
+        // A first line cut off by the limit has no line feed.
+        let long = [&[b'x'; PROGRAM_TAKES], TABLE.as_bytes()].concat();
+        assert_eq!(printed(planned, &long), b"plan=0\nrefusal=1\nline=1\n");
+    }
+
+    /// The definitions of W and E tried number by number.
+    fn figures_by_trying(row: &Row, above: &[&Row]) -> Option<(u64, u64)> {
+        let high =
+            |w: u64| row.worst + above.iter().map(|r| w.div_ceil(r.period) * r.worst).sum::<u64>();
+        let low = |e: u64| {
+            row.best + above.iter().map(|r| (e.div_ceil(r.period) - 1) * r.best).sum::<u64>()
+        };
+        let worst = (1..=row.period).find(|&w| w == high(w))?;
+        let best = (1..=worst).rev().find(|&e| e == low(e))?;
+        Some((best, worst))
+    }
+
+    fn small_rows(dice: &mut Dice, count: usize) -> Vec<Row> {
+        let mut row = |index| {
+            let period = dice.between(1, 60);
+            let worst = dice.between(1, period.min(8));
+            let best = dice.between(1, worst);
+            let alpha = dice.pick(&[1000, 1500, 4000]);
+            let beta = dice.between(1000, 1000 * 2 * period);
+            Row { task: index as u64 + 1, period, worst, best, alpha, beta }
+        };
+        (0..count).map(&mut row).collect()
+    }
+
+    #[test]
+    fn figures_agree_with_trying_every_number() {
+        let mut dice = Dice::new(1);
+        for round in 0..20_000 {
+            let rows = small_rows(&mut dice, 1 + round % 6);
+            let above: Vec<&Row> = rows[1..].iter().collect();
+            let found = figures(&rows[0], &above).map(|f| (f.best, f.worst));
+            assert_eq!(found, figures_by_trying(&rows[0], &above), "{rows:?}");
+        }
+    }
+
+    #[test]
+    fn both_ways_to_an_order_agree() {
+        let mut dice = Dice::new(2);
+        let mut accepted = 0;
+        for round in 0..4_000 {
+            let rows = small_rows(&mut dice, 1 + round % PERMUTED_AT_MOST);
+            let order = order_by_permutations(&rows);
+            assert_eq!(order, order_by_growing(&rows), "{rows:?}");
+            accepted += order.is_some() as usize;
+        }
+        assert!(accepted > 500 && accepted < 3_500, "{accepted} of 4000 have an order");
+    }
+}

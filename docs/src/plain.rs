@@ -1,0 +1,319 @@
+//! The product's algorithm in plain Rust, written to be fast: what `bench` measures against, and
+//! what stands in for the library where none is linked.
+//!
+//! Sets of rows are bit masks. One byte a set says whether it has a stable order and which row is
+//! then the lowest; the search starts from the whole set, so only sets that matter are visited.
+
+use crate::model::{Answer, Refusal, Row};
+
+const MOST_TASKS: usize = 12;
+const UNKNOWN: u8 = 255;
+const NONE: u8 = 254;
+
+// ---- Reading ----------------------------------------------------------------------------
+
+struct Reader<'a> {
+    rest: &'a [u8],
+    line: u64,
+}
+
+impl Reader<'_> {
+    fn refusal(&self, number: u64) -> Refusal {
+        Refusal { number, place: self.line }
+    }
+
+    /// The number on the next line; `key` ends with its equals sign.
+    fn number(&mut self, key: &[u8], low: u64, high: u64) -> Result<u64, Refusal> {
+        self.line += 1;
+        let after = self.rest.strip_prefix(key).ok_or(self.refusal(1))?;
+        let end = after.iter().position(|&byte| byte == b'\n').ok_or(self.refusal(1))?;
+        let number = digits(&after[..end]).ok_or(self.refusal(2))?;
+        self.rest = &after[end + 1..];
+        if (low..=high).contains(&number) {
+            Ok(number)
+        } else {
+            Err(self.refusal(3))
+        }
+    }
+
+    fn row(&mut self, before: &[Row]) -> Result<Row, Refusal> {
+        let task = self.number(b"task=", 1, 65_535)?;
+        self.refuse_if(before.iter().any(|row| row.task == task), 5)?;
+        let period = self.number(b"period=", 1, 1_000_000)?;
+        let worst = self.number(b"worst=", 1, 1_000_000)?;
+        self.refuse_if(worst > period, 4)?;
+        let best = self.number(b"best=", 1, 1_000_000)?;
+        self.refuse_if(best > worst, 4)?;
+        let alpha = self.number(b"alpha=", 1_000, 100_000)?;
+        let beta = self.number(b"beta=", 0, 200_000_000_000)?;
+        Ok(Row { task, period, worst, best, alpha, beta })
+    }
+
+    fn table(&mut self) -> Result<(u64, Vec<Row>), Refusal> {
+        let board = self.number(b"board=", 1, 65_535)?;
+        let tasks = self.number(b"tasks=", 1, MOST_TASKS as u64)?;
+        let mut rows = Vec::with_capacity(MOST_TASKS);
+        for _ in 0..tasks {
+            rows.push(self.row(&rows)?);
+        }
+        Ok((board, rows))
+    }
+
+    fn ranks(&mut self, rows: &[Row]) -> Result<Vec<usize>, Refusal> {
+        let mut order = Vec::with_capacity(MOST_TASKS);
+        for _ in rows {
+            let task = self.number(b"rank=", 1, 65_535)?;
+            let index = rows.iter().position(|row| row.task == task).ok_or(self.refusal(6))?;
+            self.refuse_if(order.contains(&index), 6)?;
+            order.push(index);
+        }
+        Ok(order)
+    }
+
+    fn end(&mut self) -> Result<(), Refusal> {
+        self.line += 1;
+        self.refuse_if(!self.rest.is_empty(), 1)
+    }
+
+    fn refuse_if(&self, condition: bool, number: u64) -> Result<(), Refusal> {
+        if condition {
+            Err(self.refusal(number))
+        } else {
+            Ok(())
+        }
+    }
+}
+
+fn digits(bytes: &[u8]) -> Option<u64> {
+    if bytes.is_empty() || bytes.len() > 12 || bytes[0] == b'0' && bytes.len() > 1 {
+        return None;
+    }
+    let mut number = 0;
+    for byte in bytes {
+        if !byte.is_ascii_digit() {
+            return None;
+        }
+        number = number * 10 + u64::from(byte - b'0');
+    }
+    Some(number)
+}
+
+// ---- Figures ----------------------------------------------------------------------------
+
+/// The rows above as columns, and how many terms have been added up so far if `COUNTED`: a
+/// measure of work that does not depend on the machine.
+struct Above<const COUNTED: bool> {
+    count: usize,
+    period: [u64; MOST_TASKS],
+    worst: [u64; MOST_TASKS],
+    best: [u64; MOST_TASKS],
+    work: u64,
+}
+
+struct Figures {
+    best: u64,
+    worst: u64,
+    margin: i64,
+}
+
+impl<const COUNTED: bool> Above<COUNTED> {
+    fn new() -> Self {
+        Above {
+            count: 0,
+            period: [1; MOST_TASKS],
+            worst: [0; MOST_TASKS],
+            best: [0; MOST_TASKS],
+            work: 0,
+        }
+    }
+
+    fn push(&mut self, row: &Row) {
+        self.period[self.count] = row.period;
+        self.worst[self.count] = row.worst;
+        self.best[self.count] = row.best;
+        self.count += 1;
+    }
+
+    fn fill(&mut self, rows: &[Row], mut set: usize) {
+        self.count = 0;
+        while set != 0 {
+            self.push(&rows[set.trailing_zeros() as usize]);
+            set &= set - 1;
+        }
+    }
+
+    fn count_a_sum(&mut self) {
+        if COUNTED {
+            self.work += 1 + self.count as u64;
+        }
+    }
+
+    fn latest(&mut self, row: &Row) -> Option<u64> {
+        let mut time = row.worst;
+        loop {
+            self.count_a_sum();
+            let mut next = row.worst;
+            for (period, worst) in self.period[..self.count].iter().zip(&self.worst) {
+                next += time.div_ceil(*period) * worst;
+            }
+            if next == time {
+                return Some(time);
+            }
+            if next > row.period {
+                return None;
+            }
+            time = next;
+        }
+    }
+
+    fn earliest(&mut self, row: &Row, latest: u64) -> u64 {
+        let mut time = latest;
+        loop {
+            self.count_a_sum();
+            let mut next = row.best;
+            for (period, best) in self.period[..self.count].iter().zip(&self.best) {
+                next += (time.div_ceil(*period) - 1) * best;
+            }
+            if next == time {
+                return time;
+            }
+            time = next;
+        }
+    }
+
+    fn figures(&mut self, row: &Row) -> Option<Figures> {
+        let worst = self.latest(row)?;
+        let best = self.earliest(row, worst);
+        let cost = 1_000 * best + row.alpha * (worst - best);
+        Some(Figures { best, worst, margin: row.beta as i64 - cost as i64 })
+    }
+}
+
+// ---- The search -------------------------------------------------------------------------
+
+struct Search<'a, const COUNTED: bool> {
+    rows: &'a [Row],
+    lowest: Vec<u8>,
+    above: Above<COUNTED>,
+}
+
+impl<const COUNTED: bool> Search<'_, COUNTED> {
+    fn has_order(&mut self, set: usize) -> bool {
+        if self.lowest[set] == UNKNOWN {
+            self.lowest[set] = self.find_lowest(set);
+        }
+        self.lowest[set] != NONE
+    }
+
+    fn find_lowest(&mut self, set: usize) -> u8 {
+        for index in 0..self.rows.len() {
+            let rest = set & !(1 << index);
+            if rest != set && self.is_stable(index, rest) && self.has_order(rest) {
+                return index as u8;
+            }
+        }
+        NONE
+    }
+
+    fn is_stable(&mut self, index: usize, rest: usize) -> bool {
+        self.above.fill(self.rows, rest);
+        self.above.figures(&self.rows[index]).is_some_and(|figures| figures.margin >= 0)
+    }
+
+    /// The order, highest rank first, read off the table of sets from the lowest up.
+    fn order(&self) -> Vec<usize> {
+        let mut set = self.lowest.len() - 1;
+        let mut order = vec![0; self.rows.len()];
+        for slot in order.iter_mut().rev() {
+            *slot = self.lowest[set] as usize;
+            set &= !(1 << *slot);
+        }
+        order
+    }
+}
+
+/// The order of the plan, highest rank first, and the work done to find it (0 unless `COUNTED`).
+pub fn chosen<const COUNTED: bool>(rows: &[Row]) -> (Option<Vec<usize>>, u64) {
+    let mut lowest = vec![UNKNOWN; 1 << rows.len()];
+    lowest[0] = 0;
+    let mut search = Search { rows, lowest, above: Above::<COUNTED>::new() };
+    let found = search.has_order((1 << rows.len()) - 1);
+    (found.then(|| search.order()), search.above.work)
+}
+
+// ---- Writing ----------------------------------------------------------------------------
+
+fn push_line(text: &mut Vec<u8>, key: &[u8], mut number: u64) {
+    text.extend_from_slice(key);
+    let mut reversed = [0; 20];
+    let mut start = reversed.len();
+    loop {
+        start -= 1;
+        reversed[start] = b'0' + (number % 10) as u8;
+        number /= 10;
+        if number == 0 {
+            break;
+        }
+    }
+    text.extend_from_slice(&reversed[start..]);
+    text.push(b'\n');
+}
+
+fn plan_text(board: u64, rows: &[Row], order: &[usize]) -> Result<Vec<u8>, Refusal> {
+    let mut text = Vec::with_capacity(1_024);
+    push_line(&mut text, b"plan=", 1);
+    push_line(&mut text, b"board=", board);
+    push_line(&mut text, b"tasks=", rows.len() as u64);
+    let mut above = Above::<false>::new();
+    for (&index, rank) in order.iter().zip(1..) {
+        let row = &rows[index];
+        let figures = above.figures(row).ok_or(Refusal { number: 7, place: rank })?;
+        push_line(&mut text, b"rank=", rank);
+        push_line(&mut text, b"task=", row.task);
+        push_line(&mut text, b"best=", figures.best);
+        push_line(&mut text, b"worst=", figures.worst);
+        push_line(&mut text, b"jitter=", figures.worst - figures.best);
+        let key: &[u8] = if figures.margin < 0 { b"margin=-" } else { b"margin=" };
+        push_line(&mut text, key, figures.margin.unsigned_abs());
+        above.push(row);
+    }
+    Ok(text)
+}
+
+fn planned(text: &[u8]) -> Result<Vec<u8>, Refusal> {
+    let mut reader = Reader { rest: text, line: 0 };
+    let (board, rows) = reader.table()?;
+    reader.end()?;
+    let order = chosen::<false>(&rows).0.ok_or(Refusal { number: 8, place: 0 })?;
+    plan_text(board, &rows, &order)
+}
+
+fn reviewed(text: &[u8]) -> Result<Vec<u8>, Refusal> {
+    let mut reader = Reader { rest: text, line: 0 };
+    let (board, rows) = reader.table()?;
+    let order = reader.ranks(&rows)?;
+    reader.end()?;
+    plan_text(board, &rows, &order)
+}
+
+fn deliver(plan: Result<Vec<u8>, Refusal>, buffer: &mut [u8]) -> Answer {
+    let fits = plan.and_then(|text| match buffer.get_mut(..text.len()) {
+        Some(start) => {
+            start.copy_from_slice(&text);
+            Ok(text.len())
+        }
+        None => Err(Refusal { number: 9, place: 0 }),
+    });
+    match fits {
+        Ok(length) => Answer { number: 0, place: 0, length: length as u64 },
+        Err(Refusal { number, place }) => Answer { number, place, length: 0 },
+    }
+}
+
+pub fn plan(text: &[u8], buffer: &mut [u8]) -> Answer {
+    deliver(planned(text), buffer)
+}
+
+pub fn review(text: &[u8], buffer: &mut [u8]) -> Answer {
+    deliver(reviewed(text), buffer)
+}

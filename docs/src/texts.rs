@@ -1,0 +1,264 @@
+//! Random texts for the planner and the reviewer: sound tables, with and without rank lines, and
+//! texts damaged in every way that a file can be.
+
+use crate::dice::Dice;
+use crate::model::Row;
+use crate::tables::{self, FAMILIES};
+
+/// Both sides of every limit, of the digits allowed and of the machine's own numbers.
+const EDGES: &str = "0 1 2 12 13 999 1000 65535 65536 99999 100000 100001 999999 1000000 1000001 \
+    200000000000 200000000001 999999999999 1000000000000 0000000000001 4294967297 \
+    18446744073709551617 00 01";
+
+const KEYS: [&str; 12] = [
+    "board", "tasks", "task", "period", "worst", "best", "alpha", "beta", "rank", "Board", "plan",
+    "",
+];
+
+const TAILS: [&[u8]; 9] =
+    [b"\n", b"x", b"\0", b"rank=1\n", b"task=1\n", b"board=7\n", b"rank=1", b"\r\n", b"\xff\xfe"];
+
+const BEFORE_NUMBER: [&[u8]; 7] = [b"0", b"+", b"-", b" ", b"=", b"0x", b"\xc2\xa0"];
+const AFTER_NUMBER: [&[u8]; 9] =
+    [b" ", b"\r", b"\0", b"\xe9", b".0", b"e3", b"_", b"000000000", b"="];
+
+fn odd_byte(dice: &mut Dice) -> u8 {
+    match dice.below(4) {
+        0 => dice.pick(b"0123456789"),
+        1 => dice.pick(b"=\n\r\0-+ aek\t./:"),
+        2 => dice.between(128, 255) as u8,
+        _ => dice.next() as u8,
+    }
+}
+
+// ---- Damage to lines --------------------------------------------------------------------
+
+fn split(text: &[u8]) -> Vec<Vec<u8>> {
+    text.split_inclusive(|&byte| byte == b'\n').map(<[u8]>::to_vec).collect()
+}
+
+/// Does something to the text's lines; a text without any is left alone.
+fn with_lines(text: &mut Vec<u8>, change: impl FnOnce(&mut Vec<Vec<u8>>)) {
+    let mut lines = split(text);
+    if !lines.is_empty() {
+        change(&mut lines);
+        *text = lines.concat();
+    }
+}
+
+fn double_a_line(dice: &mut Dice, lines: &mut Vec<Vec<u8>>) {
+    let from = dice.below(lines.len());
+    let to = if dice.once_in(2) { from } else { dice.below(lines.len() + 1) };
+    lines.insert(to, lines[from].clone());
+}
+
+fn drop_a_line(dice: &mut Dice, lines: &mut Vec<Vec<u8>>) {
+    lines.remove(dice.below(lines.len()));
+}
+
+fn swap_lines(dice: &mut Dice, lines: &mut [Vec<u8>]) {
+    let (one, other) = (dice.below(lines.len()), dice.below(lines.len()));
+    lines.swap(one, other);
+}
+
+/// A line as its key and its number; the line feed and the equals sign are left out.
+fn parts(line: &[u8]) -> Option<(&[u8], &[u8])> {
+    let line = line.strip_suffix(b"\n")?;
+    let equals = line.iter().position(|&byte| byte == b'=')?;
+    Some((&line[..equals], &line[equals + 1..]))
+}
+
+fn joined(key: &[u8], number: &[u8]) -> Vec<u8> {
+    [key, b"=", number, b"\n"].concat()
+}
+
+/// Puts a number at or past a limit on some line.
+fn set_a_number(dice: &mut Dice, lines: &mut [Vec<u8>]) {
+    let line = &mut lines[dice.below(lines.len())];
+    let edges: Vec<&str> = EDGES.split(' ').collect();
+    if let Some((key, _)) = parts(line) {
+        *line = joined(key, dice.pick(&edges).as_bytes());
+    }
+}
+
+/// Puts the number of another line, plus 0 or 1, on some line: that of the line before it, or of
+/// a row before it for a task. The way to worst above period, best above worst and tasks twice.
+fn set_a_number_from_another(dice: &mut Dice, lines: &mut [Vec<u8>]) {
+    let tasks: Vec<usize> =
+        (0..lines.len()).filter(|&at| lines[at].starts_with(b"task=")).collect();
+    let (at, from) = if tasks.len() > 1 && dice.once_in(2) {
+        let later = 1 + dice.below(tasks.len() - 1);
+        (tasks[later], tasks[dice.below(later)])
+    } else {
+        let at = dice.below(lines.len());
+        (at, at.saturating_sub(1))
+    };
+    let (Some((key, _)), Some((_, number))) = (parts(&lines[at]), parts(&lines[from])) else {
+        return;
+    };
+    let Ok(number) = String::from_utf8_lossy(number).parse::<u64>() else {
+        return;
+    };
+    let number = number.saturating_add(dice.between(0, 1));
+    lines[at] = joined(key, number.to_string().as_bytes());
+}
+
+/// Takes a number away, or puts something before or after it.
+fn spoil_a_number(dice: &mut Dice, lines: &mut [Vec<u8>]) {
+    let line = &mut lines[dice.below(lines.len())];
+    let Some((key, number)) = parts(line) else {
+        return;
+    };
+    let spoiled = match dice.below(5) {
+        0 => Vec::new(),
+        1 | 2 => [dice.pick(&BEFORE_NUMBER), number].concat(),
+        _ => [number, dice.pick(&AFTER_NUMBER)].concat(),
+    };
+    *line = joined(key, &spoiled);
+}
+
+/// Pads a number with zeros or gives it digits up to the twelve allowed and one more.
+fn stretch_a_number(dice: &mut Dice, lines: &mut [Vec<u8>]) {
+    let line = &mut lines[dice.below(lines.len())];
+    let Some((key, number)) = parts(line) else {
+        return;
+    };
+    let digits = dice.between(11, 14) as usize;
+    let missing = vec![b'0'; digits.saturating_sub(number.len())];
+    let stretched =
+        if dice.once_in(2) { [&missing, number].concat() } else { [number, &missing].concat() };
+    *line = joined(key, &stretched);
+}
+
+fn change_a_key(dice: &mut Dice, lines: &mut [Vec<u8>]) {
+    let line = &mut lines[dice.below(lines.len())];
+    if let Some((_, number)) = parts(line) {
+        *line = joined(dice.pick(&KEYS).as_bytes(), number);
+    }
+}
+
+/// CR LF at the end of one line or of all.
+fn end_lines_with_cr(dice: &mut Dice, lines: &mut [Vec<u8>]) {
+    let one = dice.below(lines.len());
+    let ended = if dice.once_in(2) { lines } else { &mut lines[one..=one] };
+    for line in ended {
+        if line.ends_with(b"\n") {
+            line.insert(line.len() - 1, b'\r');
+        }
+    }
+}
+
+// ---- Damage to bytes --------------------------------------------------------------------
+
+fn change_a_byte(dice: &mut Dice, text: &mut [u8]) {
+    if !text.is_empty() {
+        let at = dice.below(text.len());
+        text[at] = odd_byte(dice);
+    }
+}
+
+fn insert_a_byte(dice: &mut Dice, text: &mut Vec<u8>) {
+    let at = dice.below(text.len() + 1);
+    text.insert(at, odd_byte(dice));
+}
+
+fn remove_a_byte(dice: &mut Dice, text: &mut Vec<u8>) {
+    if !text.is_empty() {
+        text.remove(dice.below(text.len()));
+    }
+}
+
+fn damage(dice: &mut Dice, text: &mut Vec<u8>) {
+    match dice.below(16) {
+        0 => text.truncate(dice.below(text.len() + 1)),
+        1 | 2 => change_a_byte(dice, text),
+        3 => insert_a_byte(dice, text),
+        4 => remove_a_byte(dice, text),
+        5 => with_lines(text, |lines| double_a_line(dice, lines)),
+        6 => with_lines(text, |lines| swap_lines(dice, lines)),
+        7 => with_lines(text, |lines| drop_a_line(dice, lines)),
+        8 | 9 => with_lines(text, |lines| set_a_number(dice, lines)),
+        10 | 11 => with_lines(text, |lines| set_a_number_from_another(dice, lines)),
+        12 => with_lines(text, |lines| spoil_a_number(dice, lines)),
+        13 => with_lines(text, |lines| stretch_a_number(dice, lines)),
+        14 => with_lines(text, |lines| match dice.below(3) {
+            0 => end_lines_with_cr(dice, lines),
+            _ => change_a_key(dice, lines),
+        }),
+        _ => text.extend_from_slice(dice.pick(&TAILS)),
+    }
+}
+
+// ---- Whole texts ------------------------------------------------------------------------
+
+/// Rank lines for a table: most of the time each task once, else one of the faults they can have.
+fn rank_lines(dice: &mut Dice, rows: &[Row]) -> Vec<u8> {
+    let mut order = rows.to_vec();
+    dice.shuffle(&mut order);
+    if dice.once_in(2) {
+        order.sort_by_key(|row| row.period);
+    }
+    let mut ranks: Vec<u64> = order.iter().map(|row| row.task).collect();
+    let (one, other) = (dice.below(ranks.len()), dice.below(ranks.len()));
+    match dice.below(12) {
+        0 => ranks[one] = ranks[other],
+        1 => ranks[one] = dice.any_size(65_535),
+        2 => drop(ranks.remove(one)),
+        3 => ranks.insert(one, ranks[other]),
+        4 => ranks[one] = dice.pick(&[0, 65_535, 65_536]),
+        _ => {}
+    }
+    ranks.iter().flat_map(|task| format!("rank={task}\n").into_bytes()).collect()
+}
+
+/// Rows of a table, few most of the time, so that a million texts take a minute or two.
+fn few_rows(dice: &mut Dice) -> Vec<Row> {
+    let most = if dice.once_in(16) { 12 } else { 4 };
+    let count = 1 + dice.below(most);
+    let family = dice.pick(&FAMILIES);
+    tables::rows(dice, family, count, false)
+}
+
+/// Bytes that are no table at all, up to far beyond any table's length.
+fn garbage(dice: &mut Dice) -> Vec<u8> {
+    let length = dice.any_size(60_000) as usize;
+    let kind = dice.below(4);
+    (0..length)
+        .map(|_| match kind {
+            0 => dice.next() as u8,
+            1 => dice.pick(b"board=tasks\n0123456789"),
+            2 => b'\n',
+            _ => odd_byte(dice),
+        })
+        .collect()
+}
+
+/// A first line with far too long a number, or a great many lines.
+fn overlong(dice: &mut Dice) -> Vec<u8> {
+    let mut text = b"board=".to_vec();
+    text.resize(dice.any_size(40_000) as usize, dice.pick(b"0179\n="));
+    text.push(b'\n');
+    text
+}
+
+/// The next text, sound or damaged.
+pub fn any(dice: &mut Dice) -> Vec<u8> {
+    match dice.below(400) {
+        0 => return Vec::new(),
+        1 => return garbage(dice),
+        2 => return overlong(dice),
+        _ => {}
+    }
+    let rows = few_rows(dice);
+    let mut text = tables::text(dice.any_size(65_535), &rows);
+    if dice.once_in(2) {
+        text.extend(rank_lines(dice, &rows));
+    }
+    for _ in 0..dice.pick(&[0, 1, 1, 1, 1, 2, 3]) {
+        damage(dice, &mut text);
+    }
+    if dice.once_in(200) {
+        text.extend(garbage(dice));
+    }
+    text
+}
