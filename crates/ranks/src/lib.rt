@@ -68,9 +68,9 @@ pub fn review_order(text: &[u8], out: &mut [u8]) -> Plan
     let rows = reading.table.rows;
     let n = reading.table.count;
     let tasks = reading.order.tasks;
-    let ordered = rows_for(tasks, n, rows, n);
+    let given = rows_for(tasks, n, rows, n);
     let board = reading.table.board as u16;
-    plan_order(out, board, ordered, n)
+    plan_order(out, board, given, n)
 }
 
 // What the planner's program prints for the text it took: the plan, or the three lines of its refusal.
@@ -87,6 +87,6 @@ pub fn print_review(text: &[u8], out: &mut [u8; ROOM]) -> usize
     ensures { λ r. ⌜ Wrote (reviewerPrints (now (text .entry))) (now (out .entry)) (now (out .exit)) r ⌝ }
     ensures { λ r. ⌜ Counts r (now (out .exit)) ⌝ }
 {
-    let plan = review_order(text, out);
-    plan.printed(out)
+    let review = review_order(text, out);
+    review.printed(out)
 }
