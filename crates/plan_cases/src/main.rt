@@ -1,0 +1,228 @@
+// Document 01's cases, as texts: what has to be answered stands beside each, and the whole buffer is compared.
+use trials::Answer;
+use trials::SPACE;
+ghost use Rattle.io.specs.Counts.{Counts};
+
+// The document's table up to the last beta, and its plan.
+const EXAMPLE: [u8; 171] = *b"board=7
+tasks=3
+task=11
+period=24
+worst=6
+best=6
+alpha=1000
+beta=8000
+task=12
+period=18
+worst=2
+best=2
+alpha=1000
+beta=8000
+task=13
+period=200
+worst=19
+best=17
+alpha=3000
+";
+
+const PLAN: [u8; 176] = *b"plan=1
+board=7
+tasks=3
+rank=1
+task=12
+best=2
+worst=2
+jitter=0
+margin=6000
+rank=2
+task=11
+best=6
+worst=8
+jitter=2
+margin=0
+rank=3
+task=13
+best=25
+worst=35
+jitter=10
+margin=2000
+";
+
+fn print_verdict(expected: Answer, same: bool) {
+    if expected.number == 0 {
+        io::write_all(1, b": the plan, ");
+        io::print_decimal(1, expected.long as u64);
+        io::write_all(1, b" bytes: ");
+    } else {
+        io::write_all(1, b": refusal ");
+        io::print_decimal(1, expected.number as u64);
+        io::write_all(1, b", place ");
+        io::print_decimal(1, expected.place as u64);
+        io::write_all(1, b": ");
+    }
+    if same {
+        io::write_all(1, b"ok\n");
+    } else {
+        io::write_all(1, b"DIFFERS\n");
+    }
+}
+
+// The call on a text, against the answer and the bytes that it has to write.
+fn hold(name: &[u8], review: bool, text: &[u8], expected: Answer, plan: &[u8]) {
+    let mut wanted = [7u8; SPACE];
+    let mut got = [7u8; SPACE];
+    trials::put_bytes(&mut wanted, 0, plan);
+    let answer = trial_calls::call(review, text, &mut got);
+    let same = trials::same_answer(expected, &wanted, answer, &got);
+    io::write_all(1, name);
+    print_verdict(expected, same);
+}
+
+fn plans(name: &[u8], review: bool, text: &[u8], plan: &[u8], long: u32) {
+    hold(
+        name,
+        review,
+        text,
+        Answer {
+            number: 0,
+            place: 0,
+            long,
+        },
+        plan,
+    );
+}
+
+fn refuses(name: &[u8], review: bool, text: &[u8], number: u8, place: u32) {
+    hold(
+        name,
+        review,
+        text,
+        Answer {
+            number,
+            place,
+            long: 0,
+        },
+        b"",
+    );
+}
+
+// The document's table with the rest of a text.
+fn put_example(out: &mut [u8], rest: &[u8]) -> usize
+    ensures { λ r. ⌜ Counts r (now (out .exit)) ⌝ }
+{
+    let to = trials::put_bytes(out, 0, &EXAMPLE);
+    let n = trials::put_bytes(out, to, rest);
+    trials::within(n, out)
+}
+
+fn example_plans(name: &[u8], review: bool, rest: &[u8]) {
+    let mut text = [0u8; SPACE];
+    let n = put_example(&mut text, rest);
+    plans(name, review, &text[..n], &PLAN, 176);
+}
+
+fn example_refuses(name: &[u8], review: bool, rest: &[u8], number: u8, place: u32) {
+    let mut text = [0u8; SPACE];
+    let n = put_example(&mut text, rest);
+    refuses(name, review, &text[..n], number, place);
+}
+
+fn planner_cases() {
+    example_plans(b"the document's example", false, b"beta=57000\n");
+    example_refuses(b"beta of 13 at 54999", false, b"beta=54999\n", 8, 0);
+    example_refuses(b"no line feed at the end", false, b"beta=57000", 1, 20);
+    example_refuses(b"a line too many", false, b"beta=57000\nrank=12\n", 1, 21);
+}
+
+fn reviewer_cases() {
+    example_plans(
+        b"order 12, 11, 13",
+        true,
+        b"beta=57000\nrank=12\nrank=11\nrank=13\n",
+    );
+    example_refuses(
+        b"order 11, 13, 12",
+        true,
+        b"beta=57000\nrank=11\nrank=13\nrank=12\n",
+        7,
+        3,
+    );
+    example_refuses(
+        b"rank of no task",
+        true,
+        b"beta=57000\nrank=12\nrank=14\nrank=13\n",
+        6,
+        22,
+    );
+    example_refuses(
+        b"rank named twice",
+        true,
+        b"beta=57000\nrank=12\nrank=13\nrank=12\n",
+        6,
+        23,
+    );
+    example_refuses(b"ranks missing", true, b"beta=57000\n", 1, 21);
+}
+
+fn line_cases() {
+    refuses(b"empty input", false, b"", 1, 1);
+    refuses(b"empty input, reviewer", true, b"", 1, 1);
+    refuses(b"board=07", false, b"board=07\n", 2, 1);
+    refuses(b"tasks=13", false, b"board=7\ntasks=13\n", 3, 2);
+}
+
+fn row_plans() {
+    plans(
+        b"worst = period = 10",
+        false,
+        b"board=7\ntasks=1\ntask=5\nperiod=10\nworst=10\nbest=10\nalpha=1000\nbeta=10000\n",
+        b"plan=1\nboard=7\ntasks=1\nrank=1\ntask=5\nbest=10\nworst=10\njitter=0\nmargin=0\n",
+        72,
+    );
+    plans(
+        b"worst = period = 1000000",
+        false,
+        b"board=7\ntasks=1\ntask=5\nperiod=1000000\nworst=1000000\nbest=1\nalpha=1000\nbeta=1000000001\n",
+        b"plan=1\nboard=7\ntasks=1\nrank=1\ntask=5\nbest=1\nworst=1000000\njitter=999999\nmargin=1\n",
+        81,
+    );
+}
+
+fn row_refusals() {
+    refuses(
+        b"worst = period + 1 = 11",
+        false,
+        b"board=7\ntasks=1\ntask=5\nperiod=10\nworst=11\n",
+        4,
+        5,
+    );
+    refuses(
+        b"worst = period + 1 = 1000000",
+        false,
+        b"board=7\ntasks=1\ntask=5\nperiod=999999\nworst=1000000\n",
+        4,
+        5,
+    );
+    refuses(
+        b"best = worst + 1",
+        false,
+        b"board=7\ntasks=1\ntask=5\nperiod=10\nworst=9\nbest=10\n",
+        4,
+        6,
+    );
+    refuses(
+        b"a task number used before",
+        false,
+        b"board=7\ntasks=2\ntask=5\nperiod=10\nworst=9\nbest=1\nalpha=1000\nbeta=0\ntask=5\n",
+        5,
+        9,
+    );
+}
+
+fn main() {
+    planner_cases();
+    reviewer_cases();
+    line_cases();
+    row_plans();
+    row_refusals();
+}
