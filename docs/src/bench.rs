@@ -34,6 +34,11 @@ use model::{Answer, Row};
 use std::hint::black_box;
 use std::process::ExitCode;
 
+/// Tables of twelve tasks, this many with an order and as many without.
+const FULL_BOARDS: usize = 120;
+/// The terms that the search adds up for each of them at the least, so that it is the search that
+/// is timed, and not reading and writing.
+const FULL_WORK: u64 = 3_000;
 /// Longer than any plan.
 const AMPLE: usize = 2_048;
 /// Calls of one measurement together last about this many seconds, for the clock to be fine
@@ -193,6 +198,39 @@ fn ranked_text(rows: &[Row]) -> Vec<u8> {
     table_text(rows).into_iter().chain(ranks).collect()
 }
 
+/// Times full boards that have an order and full boards that have none, drawn until there are
+/// enough of each that the search has work with.
+fn print_full_boards(dice: &mut Dice, rounds: u32) -> Result<(), Different> {
+    let mut texts = [Vec::new(), Vec::new()];
+    while texts.iter().any(|texts| texts.len() < FULL_BOARDS) {
+        let rows = typical(dice, 12);
+        if work(&rows) < FULL_WORK {
+            continue;
+        }
+        let half = &mut texts[usize::from(plain::chosen::<false>(&rows).0.is_none())];
+        if half.len() < FULL_BOARDS {
+            half.push(table_text(&rows));
+        }
+    }
+    println!("planner, {} tables of twelve tasks with much to search, microseconds a call", 2 * FULL_BOARDS);
+    let mut total = Times::default();
+    for (name, texts) in ["with an order", "with no order"].iter().zip(&texts) {
+        let mut sum = Times::default();
+        for text in texts {
+            let times = measure(&PLAN, text, rounds)?;
+            sum.plain += times.plain;
+            sum.library += times.library;
+        }
+        let micros = 1e6 / texts.len() as f64;
+        let (plain, library) = (sum.plain * micros, sum.library * micros);
+        println!("  {name}: plain {plain:.2}, library {library:.2}, ratio {:.3}", sum.ratio());
+        total.plain += sum.plain;
+        total.library += sum.library;
+    }
+    println!("  all: ratio {:.3}", total.ratio());
+    Ok(())
+}
+
 // ---- The search for a slow table --------------------------------------------------------
 
 fn near(dice: &mut Dice, number: u64, low: u64, high: u64) -> u64 {
@@ -320,6 +358,7 @@ fn run(options: &Options) -> Result<(), Different> {
         &texts_of(&typical, ranked_text),
         options.rounds,
     )?;
+    print_full_boards(&mut dice, options.rounds)?;
     if options.climb > 0 {
         print_slowest(&mut dice, options.climb, options.rounds)?;
     }

@@ -134,11 +134,13 @@ impl<const COUNTED: bool> Above<COUNTED> {
         self.count += 1;
     }
 
-    fn fill(&mut self, rows: &[Row], mut set: usize) {
-        self.count = 0;
-        while set != 0 {
-            self.push(&rows[set.trailing_zeros() as usize]);
-            set &= set - 1;
+    fn fill(&mut self, rows: &[Row], set: usize) {
+        (self.count, self.period) = (0, [0; MOST_TASKS]);
+        (self.worst, self.best) = ([0; MOST_TASKS], [0; MOST_TASKS]);
+        for (index, row) in rows.iter().enumerate() {
+            if set >> index & 1 == 1 {
+                self.push(row);
+            }
         }
     }
 
@@ -208,7 +210,8 @@ impl<const COUNTED: bool> Search<'_, COUNTED> {
     fn find_lowest(&mut self, set: usize) -> u8 {
         for index in 0..self.rows.len() {
             let rest = set & !(1 << index);
-            if rest != set && self.is_stable(index, rest) && self.has_order(rest) {
+            let may_go = rest != set && self.lowest[rest] != NONE;
+            if may_go && self.is_stable(index, rest) && self.has_order(rest) {
                 return index as u8;
             }
         }
