@@ -134,13 +134,11 @@ impl<const COUNTED: bool> Above<COUNTED> {
         self.count += 1;
     }
 
-    fn fill(&mut self, rows: &[Row], set: usize) {
-        (self.count, self.period) = (0, [0; MOST_TASKS]);
-        (self.worst, self.best) = ([0; MOST_TASKS], [0; MOST_TASKS]);
-        for (index, row) in rows.iter().enumerate() {
-            if set >> index & 1 == 1 {
-                self.push(row);
-            }
+    fn fill(&mut self, rows: &[Row], mut set: usize) {
+        self.count = 0;
+        while set != 0 {
+            self.push(&rows[set.trailing_zeros() as usize]);
+            set &= set - 1;
         }
     }
 
