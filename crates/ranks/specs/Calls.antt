@@ -41,10 +41,7 @@ reviewed text room =
     let a = readTable true text in
     onTable a (ifInTime room (a .board) (givenOrder text))
 
--- ---- the programs: how much of its input each takes as the text, and what it prints for it
-abbrev pub textMax : ℕ
-textMax = 16384
-
+-- ---- the programs: what each prints for the text that it took
 abbrev pub plannerPrints : List ℕ → List ℕ
 plannerPrints text = printed (planned text planRoom)
 
