@@ -1,11 +1,12 @@
 -- The rows of a set gathered as columns, one row of the table after another: after j rows the columns hold the times of
 -- the set's rows among them. So the figures found in the columns are those under the set.
-use mathlib.Core.Path.{_≡_, refl, sym, ap, ap₂, subst, _∙_}
-use mathlib.Core.Bool.{Bool, true, false}
+use mathlib.Core.Path.{_≡_, refl, sym, ap, ap₂, _∙_}
+use mathlib.Core.Bool.{Bool, true}
 use mathlib.Core.List.{List, [], _∷_, _++_, map, append-nil}
-use mathlib.Core.Logic.{inl, inr}
-use Prim.Native.Nat.{ℕ, suc, _+_, _-_, _/_, _%_, _^_, _≤_, _<_}
+use Prim.Native.Nat.{ℕ, zero, suc, _+_, _/_, _%_, _^_, _≤_, _<_}
 use native.Mathlib.Decide.{ℕ-discrete}
+use native.Mathlib.Nat.{add-zero}
+use native.Mathlib.Numerals.{add-one}
 use native.Mathlib.Omega.{arith}
 use borrow.Author.Tests.{eq-eqb, ne-eqb}
 use lib.Dec.{eqb}
@@ -14,16 +15,14 @@ use lib.Seq.{getD-take, length-take-le, take-length}
 use Rattle.basics.proofs.Tests.{and-both}
 use Rattle.rows.specs.Rows.{maxTasks, inRange, timesInRange, allRows, noRow}
 use Rattle.rows.specs.declared.Row.{Row}
-use Rattle.rows.proofs.Limits.{head-passes, tail-passes, all-times, at-passes}
+use Rattle.rows.proofs.Limits.{head-passes, tail-passes, all-times}
 use Rattle.responses.specs.declared.Figures.{Figures}
-use Rattle.responses.specs.Columns.{rowsFrom, rowsAbove, columnsMax, Posed}
+use Rattle.responses.specs.Columns.{rowsFrom, rowsAbove, Posed}
 use Rattle.responses.specs.Figures.{figuresUnder, isStable}
-use Rattle.responses.proofs.Gathered.{bare, bare-same, bare-times, rows-more}
+use Rattle.responses.proofs.Gathered.{bare, bare-same, bare-times, rows-kept, rows-more}
 use Rattle.responses.proofs.Responses.{stable-is}
 use Rattle.responses.proofs.Same.{same-figures}
-use Rattle.orders.specs.Sets.{rowAt, keep, members, fits}
-use Rattle.orders.specs.Stability.{stable}
-use Rattle.orders.specs.Search.{Lent}
+use Rattle.orders.specs.Sets.{rowAt, keep, members}
 use Rattle.orders.proofs.Sets.{halved-after, before-next}
 
 -- ---- the first n rows of an array
@@ -58,12 +57,6 @@ pub record Gathering (table : List Row) (m : ℕ) (ps ws bs : List ℕ) (count r
   pub rest-is : rest ≡ m / 2 ^ j
   pub rows-are : rowsAbove count ps ws bs ≡ map bare (members m (take j table))
 
--- the same columns under other names
-pub gathering-same : {table : List Row} {m : ℕ} {ps ps′ ws ws′ bs bs′ : List ℕ} {count count′ rest j : ℕ}
-    → ps′ ≡ ps → ws′ ≡ ws → bs′ ≡ bs → count′ ≡ count
-    → Gathering table m ps ws bs count rest j → Gathering table m ps′ ws′ bs′ count′ rest j
-gathering-same p w b k g = rw (p, w, b, k) g
-
 module _ (table : List Row) (m : ℕ) (small : length table ≤ maxTasks) where
   pub gathering-none : (ps ws bs : List ℕ) → length ps ≡ maxTasks → length ws ≡ maxTasks → length bs ≡ maxTasks
       → Gathering table m ps ws bs 0 m 0
@@ -79,48 +72,45 @@ module _ (table : List Row) (m : ℕ) (small : length table ≤ maxTasks) where
   }
 
   module _ (ps ws bs : List ℕ) (count rest j : ℕ) (g : Gathering table m ps ws bs count rest j) (more : j < length table) where
-    next-rest : rest / 2 ≡ m / 2 ^ suc j
-    next-rest = ap (λ (k : ℕ). k / 2) (g .rest-is) ∙ sym (halved-after m j)
+    -- row j is written after the others: it counts if its bit b is set
+    module _ (r : Row) (is : r ≡ rowAt table j) where
+      abbrev ps′ : List ℕ
+      ps′ = set ps count (r .period)
 
-    -- row j is in the set: it is stored
-    pub gathering-in : rest % 2 ≡ 1 → (r : Row) → r ≡ rowAt table j
-        → Gathering table m (set ps count (r .period)) (set ws count (r .worst)) (set bs count (r .best)) (suc count)
-        (rest / 2) (suc j)
-    gathering-in h r is =
-        let hp : count < length ps = omega (arith, g .periods-long, g .few) in
-        let hw : count < length ws = omega (arith, g .worsts-long, g .few) in
-        let hb : count < length bs = omega (arith, g .bests-long, g .few) in
-        let bit = eq-eqb (m / 2 ^ j % 2) 1 (ap (λ (k : ℕ). k % 2) (sym (g .rest-is)) ∙ h) in
-        let front = before-next 1 table j m more
-        ∙ ap (λ (b : Bool). members m (take j table) ++ keep b (rowAt table j) []) bit in
-        record {
-          periods-long = length-set ps count (r .period) ∙ g .periods-long;
-          worsts-long = length-set ws count (r .worst) ∙ g .worsts-long;
-          bests-long = length-set bs count (r .best) ∙ g .bests-long;
-          few = omega (arith, g .few);
-          passed = more;
-          rest-is = next-rest;
-          rows-are = rows-more (r .period) (r .worst) (r .best) ps ws bs count hp hw hb
-              ∙ ap₂ (λ (l : List Row) (x : Row). l ++ (bare x ∷ [])) (g .rows-are) is
-              ∙ sym (ap (map bare) front ∙ map-more (members m (take j table)) (rowAt table j));
-        }
+      abbrev ws′ : List ℕ
+      ws′ = set ws count (r .worst)
 
-    -- it is not: nothing changes
-    pub gathering-out : (rest % 2 ≡ 1 → ⊥) → Gathering table m ps ws bs count (rest / 2) (suc j)
-    gathering-out h =
-        let bit = ne-eqb (m / 2 ^ j % 2) 1 (λ e. h (ap (λ (k : ℕ). k % 2) (g .rest-is) ∙ e)) in
-        let front = before-next 1 table j m more
-        ∙ ap (λ (b : Bool). members m (take j table) ++ keep b (rowAt table j) []) bit
-        ∙ append-nil (members m (take j table)) in
-        record {
-          periods-long = g .periods-long;
-          worsts-long = g .worsts-long;
-          bests-long = g .bests-long;
-          few = omega (arith, g .few);
-          passed = more;
-          rest-is = next-rest;
-          rows-are = g .rows-are ∙ sym (ap (map bare) front);
-        }
+      abbrev bs′ : List ℕ
+      bs′ = set bs count (r .best)
+
+      written : (b : ℕ) → b < 2
+          → rowsAbove (count + b) ps′ ws′ bs′ ≡ map bare (members m (take j table) ++ keep (eqb b 1) (rowAt table j) [])
+      written zero h =
+          rw (add-zero count, append-nil (members m (take j table)))
+          (rows-kept (r .period) (r .worst) (r .best) ps ws bs count 0 count (omega arith) ∙ g .rows-are)
+      written (suc zero) h =
+          let hp : count < length ps = omega (arith, g .periods-long, g .few) in
+          let hw : count < length ws = omega (arith, g .worsts-long, g .few) in
+          let hb : count < length bs = omega (arith, g .bests-long, g .few) in
+          rw (add-one count)
+          (rows-more (r .period) (r .worst) (r .best) ps ws bs count hp hw hb
+          ∙ ap₂ (λ (l : List Row) (x : Row). l ++ (bare x ∷ [])) (g .rows-are) is
+          ∙ sym (map-more (members m (take j table)) (rowAt table j)))
+      written (suc (suc b)) h = absurd (omega arith)
+
+      pub gathering-next : Gathering table m ps′ ws′ bs′ (count + rest % 2) (rest / 2) (suc j)
+      gathering-next =
+          let bit : rest % 2 < 2 = omega arith in
+          let front = rw (sym (g .rest-is)) at (before-next 1 table j m more) in
+          record {
+            periods-long = length-set ps count (r .period) ∙ g .periods-long;
+            worsts-long = length-set ws count (r .worst) ∙ g .worsts-long;
+            bests-long = length-set bs count (r .best) ∙ g .bests-long;
+            few = omega (arith, g .few, bit);
+            passed = more;
+            rest-is = ap (λ (k : ℕ). k / 2) (g .rest-is) ∙ sym (halved-after m j);
+            rows-are = written (rest % 2) bit ∙ ap (map bare) (sym front);
+          }
 
   -- ---- all rows are passed: the columns hold the set
   module _ (ok : allRows inRange table ≡ true) (ps ws bs : List ℕ) (count rest j : ℕ)

@@ -40,14 +40,13 @@ fn stable_under(rows: [Row; MAX_TASKS], n: usize, m: usize, i: usize) -> bool
     let mut count: usize = 0;
     let mut rest = m - power(i);
     let mut j: usize = 0;
+    // Every row is written, and the next overwrites one outside the set: no branch for the processor to mispredict.
     while j < n {
-        if rest % 2 == 1 {
-            let row = rows[j];
-            periods[count] = row.period as u64;
-            worsts[count] = row.worst as u64;
-            bests[count] = row.best as u64;
-            count += 1;
-        }
+        let row = rows[j];
+        periods[count] = row.period as u64;
+        worsts[count] = row.worst as u64;
+        bests[count] = row.best as u64;
+        count += rest % 2;
         rest = rest / 2;
         j += 1;
     }

@@ -48,7 +48,7 @@ rows-end ps ws bs (suc n) i =
     rw e (ap (λ (rs : List Row). rowAbove (getD ps i 0) (getD ws i 0) (getD bs i 0) ∷ rs) (rows-end ps ws bs n (suc i)))
 
 module _ (p w b : ℕ) (ps ws bs : List ℕ) where
-  rows-kept : (n i j : ℕ) → i + n ≤ j
+  pub rows-kept : (n i j : ℕ) → i + n ≤ j
       → rowsFrom i n (set ps j p) (set ws j w) (set bs j b) ≡ rowsFrom i n ps ws bs
   unfolding rowsFrom
   rows-kept zero i j h = refl

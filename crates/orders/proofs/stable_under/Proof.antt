@@ -1,9 +1,6 @@
 -- `orders::stable_under` meets its contract. Invariant: the columns hold the set's rows among those passed (`Gathering`).
 use mathlib.Core.Path.{_≡_, refl, sym, ap, subst, _∙_}
-use mathlib.Core.Bool.{true}
-use mathlib.Core.Logic.{⊎-elim}
-use mathlib.Core.List.{List}
-use Prim.Native.Nat.{ℕ, suc, _+_, _-_, _^_, _≤_, _<_}
+use Prim.Native.Nat.{ℕ, _-_, _^_, _≤_, _<_}
 use native.Mathlib.Omega.{arith}
 use native.Mathlib.Numerals.{add-one}
 use borrow.Author.Needs.{needs}
@@ -14,8 +11,8 @@ use Rattle.rows.specs.declared.Row.{Row}
 use Rattle.responses.specs.Figures.{isStable}
 use Rattle.orders.specs.Sets.{rowAt, members}
 use Rattle.orders.proofs.Sets.{bit-le}
-use Rattle.orders.proofs.Gathering.{front-length, front-at, Gathering, gathering-none, gathering-in, gathering-out}
-use Rattle.orders.proofs.Gathering.{gathering-same, gathered-posed, gathered-stable}
+use Rattle.orders.proofs.Gathering.{front-length, front-at, Gathering, gathering-none, gathering-next}
+use Rattle.orders.proofs.Gathering.{gathered-posed, gathered-stable}
 use Rattle.orders.proofs.stable_under.Statement.{statement}
 use Rattle.orders.proofs.stable_under.Tie as tie
 use Rattle.orders.proofs.stable_under.Reads as reads
@@ -103,20 +100,14 @@ loop-less c = search needs
 
 loop-again : tie.Need-loop-again Inv-loop μ-loop
 loop-again c =
-    let s = c .before .before .before .before in
-    let x = c .before .before .loop in
+    let test = c .before .before .before .before .loop-test in
+    let x = c .before .before .before .before .before .loop in
+    let s = c .before .before .before .before .before .before .before in
     let table = take (s .args .n) (s .args .t1) in
     let set = s .args .m - 2 ^ s .args .i in
-    let more : x .j < length table = omega (arith, long s, c .before .loop-test .taken) in
     rw (add-one (x .j))
-    (⊎-elim
-    (λ w. gathering-same (w .5) (w .6) (w .7) (w .8 ∙ add-one (x .count))
-    (gathering-in table set (small s) (x .periods) (x .worsts) (x .bests) (x .count) (x .rest) (x .j) (x .inv) more
-    (w .0 .taken) (getD (s .args .t1) (x .j) noRow) (row-is s (x .j) (c .before .loop-test .taken))))
-    (λ w. gathering-same (w .1) (w .2) (w .3) (w .4)
-    (gathering-out table set (small s) (x .periods) (x .worsts) (x .bests) (x .count) (x .rest) (x .j) (x .inv) more
-    (w .0 .left)))
-    (c .if1 .came))
+    (gathering-next table set (small s) (x .periods) (x .worsts) (x .bests) (x .count) (x .rest) (x .j) (x .inv)
+    (omega (arith, long s, test .taken)) (getD (s .args .t1) (x .j) noRow) (row-is s (x .j) (test .taken)))
 
 mul-figures-under : tie.Need-mul-figures-under Inv-loop μ-loop
 mul-figures-under c = search needs
