@@ -11,4 +11,3 @@ pub mod Record
 pub mod Listed
 pub mod Gathering
 pub mod Searched
-pub mod Holding

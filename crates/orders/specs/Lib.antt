@@ -3,4 +3,3 @@ pub mod Orders
 pub mod Stability
 pub mod Sets
 pub mod Search
-pub mod Held

@@ -7,7 +7,6 @@ ghost use Rattle.orders.specs.Sets.{rowAt, fits, Settled};
 ghost use Rattle.orders.specs.Stability.{stable};
 ghost use Rattle.orders.specs.Search.{Lent, Searching, MayGo, Told};
 ghost use Rattle.orders.specs.Search.{LowestRow, Ordered, Pushed, Listed, Table, Answered};
-ghost use Rattle.orders.specs.Held.{noneHeld, addRow, addRows};
 use responses::figures_under;
 use rows::MAX_TASKS;
 use rows::Order;
@@ -178,57 +177,18 @@ fn order_in(rows: [Row; MAX_TASKS], n: usize) -> Answer
     }
 }
 
-// Rows by value: the first `count` of an array.
-struct Held {
-    rows: [Row; MAX_TASKS],
-    count: usize,
-}
-
-impl Held {
-    fn none() -> Self
-        ensures { λ t. ⌜ t ≡ noneHeld ⌝ }
-    {
-        let blank = rows::no_row();
-        Held {
-            rows: [blank; MAX_TASKS],
-            count: 0,
-        }
-    }
-
-    // One row more, where there is room.
-    fn with(self, row: Row) -> Self
-        ensures { λ t. ⌜ t ≡ addRow self row ⌝ }
-    {
-        let n = self.count;
-        let mut more = self;
-        if n < MAX_TASKS {
-            more.rows[n] = row;
-            more.count = n + 1;
-        }
-        more
-    }
-}
-
-// The rows by value, fetched one at a time.
-fn gathered(rows: &[Row]) -> Held
-    ensures { λ t. ⌜ t ≡ addRows noneHeld (now (rows .entry)) ⌝ }
+// The rows by value, each stored in its place.
+fn gathered(rows: &[Row]) -> [Row; MAX_TASKS]
+    requires { ⌜ length (now rows) ≤ maxTasks ⌝ }
+    ensures { λ r. ⌜ take (length (now (rows .entry))) r ≡ now (rows .entry) ⌝ }
 {
-    let mut held = Held::none();
+    let mut held = [rows::no_row(); MAX_TASKS];
     let mut i = 0;
     while i < rows.len() {
-        held = held.with(rows[i]);
+        held[i] = rows[i];
         i += 1;
     }
     held
-}
-
-fn order_held(t: Held) -> Answer
-    requires { ⌜ Lent (t .rows) (t .count) ⌝ }
-    ensures { λ r. ⌜ Answered (take (t .count) (t .rows)) r ⌝ }
-{
-    let rows = t.rows;
-    let n = t.count;
-    order_in(rows, n)
 }
 
 // The order of a table's rows by the rule.
@@ -236,7 +196,8 @@ pub fn order_of(rows: &[Row]) -> Answer
     requires { ⌜ Table (now rows) ⌝ }
     ensures { λ r. ⌜ Answered (now (rows .entry)) r ⌝ }
 {
-    order_held(gathered(rows))
+    let n = rows.len();
+    order_in(gathered(rows), n)
 }
 
 // The order of the first n rows of an array, which are lent as a slice.
