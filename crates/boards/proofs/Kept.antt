@@ -10,14 +10,14 @@ use native.Mathlib.Omega.{arith}
 use native.Mathlib.Nat.{le-refl, le-trans, le-of-eq, lt-of-not-le, lt-trans}
 use lib.ListN.{length, take}
 use Rattle.basics.proofs.Tests.{le-or-lt}
-use Rattle.rows.specs.Rows.{timesInRange, allRows}
+use Rattle.rows.specs.Rows.{timesInRange, allRows, rowAt}
 use Rattle.rows.specs.declared.Row.{Row}
 use Rattle.rows.proofs.Limits.{Times, times, at-passes, front-passes}
 use Rattle.responses.specs.Interference.{ceiling}
 use Rattle.responses.specs.Figures.{worstIn, bestIn}
 use Rattle.responses.specs.Claims.{Figured}
 use Rattle.responses.proofs.Responses.{figured}
-use Rattle.boards.specs.Claims.{rowAt, LastsInRange, Finishes, Kept, latestAt, earliestAt, NoneLate}
+use Rattle.boards.specs.Claims.{LastsInRange, Finishes, Kept, latestAt, earliestAt, NoneLate}
 use Rattle.boards.proofs.Sums.{Above}
 use Rattle.boards.proofs.Releases.{ceiling-short, released-before, unreleased, needed, needed-grows}
 use Rattle.boards.proofs.Service.{service, Run, service-within, settled, room}

@@ -12,9 +12,9 @@ use lib.ListN.{length, getD}
 use borrow.Author.Tests.{eqb-true, eq-eqb, leb-true, le-leb}
 use Rattle.basics.specs.Basics.{pick}
 use Rattle.basics.proofs.Tests.{test-of, true-not-false, and-left, and-right}
+use Rattle.rows.specs.Rows.{rowAt}
 use Rattle.rows.specs.declared.Row.{Row}
 use Rattle.boards.specs.Boards.{Job, Done, noJobs, releases, withReleases, afterWork, finishes, isDone}
-use Rattle.boards.specs.Claims.{rowAt}
 
 -- rank j's queue
 abbrev pub queueAt : List (List Job) → ℕ → List Job

@@ -12,9 +12,10 @@ use lib.Dec.{eqb}
 use lib.ListN.{length}
 use borrow.Author.Tests.{eqb-true}
 use Rattle.basics.proofs.Tests.{test-of, true-not-false, or-cases, or-right}
+use Rattle.rows.specs.Rows.{rowAt}
 use Rattle.rows.specs.declared.Row.{Row}
 use Rattle.boards.specs.Boards.{Job, Done, noJobs, releases, withReleases, isDone, afterTicks}
-use Rattle.boards.specs.Claims.{rowAt, Finishes}
+use Rattle.boards.specs.Claims.{Finishes}
 use Rattle.boards.proofs.Releases.{released, released-grows, unreleased, needed, needed-grows, needed-one}
 use Rattle.boards.proofs.Releases.{release-yes, release-no}
 use Rattle.boards.proofs.Service.{mark, service, service-step, served-by, Run}

@@ -6,12 +6,13 @@ use Prim.Native.Nat.{ℕ, suc, _+_, _*_, _≤_, _<_}
 use native.Mathlib.Omega.{arith}
 use native.Mathlib.Nat.{le-trans, lt-of-lt-of-le, mul-le-mul-right}
 use lib.ListN.{length, take}
+use Rattle.rows.specs.Rows.{rowAt}
 use Rattle.rows.specs.declared.Row.{Row}
 use Rattle.rows.proofs.Limits.{Times}
 use Rattle.responses.specs.Interference.{ceiling}
 use Rattle.responses.specs.Figures.{worstIn}
 use Rattle.responses.proofs.Sums.{ceiling-under}
-use Rattle.boards.specs.Claims.{rowAt, LastsInRange}
+use Rattle.boards.specs.Claims.{LastsInRange}
 use Rattle.boards.proofs.Sums.{Above, sum-le, sum-add, sum-last}
 use Rattle.boards.proofs.Releases.{released-most, released-least, needed-most, needed-least, needed-grows}
 use Rattle.boards.proofs.Service.{workAbove}

@@ -13,7 +13,7 @@ use lib.Dec.{eqb}
 use lib.ListN.{length, getD, take, set, length-set}
 use lib.Seq.{getD-take, length-take-le, take-length}
 use Rattle.basics.proofs.Tests.{and-both}
-use Rattle.rows.specs.Rows.{maxTasks, inRange, timesInRange, allRows, noRow}
+use Rattle.rows.specs.Rows.{maxTasks, inRange, timesInRange, allRows, noRow, rowAt}
 use Rattle.rows.specs.declared.Row.{Row}
 use Rattle.rows.proofs.Limits.{head-passes, tail-passes, all-times}
 use Rattle.responses.specs.declared.Figures.{Figures}
@@ -22,7 +22,7 @@ use Rattle.responses.specs.Figures.{figuresUnder, isStable}
 use Rattle.responses.proofs.Gathered.{bare, bare-same, bare-times, rows-kept, rows-more}
 use Rattle.responses.proofs.Responses.{stable-is}
 use Rattle.responses.proofs.Same.{same-figures}
-use Rattle.orders.specs.Sets.{rowAt, keep, members}
+use Rattle.orders.specs.Sets.{keep, members}
 use Rattle.orders.proofs.Sets.{halved-after, before-next}
 
 -- ---- the first n rows of an array

@@ -7,8 +7,8 @@ use native.Mathlib.Omega.{arith}
 use lib.ListN.{length, take}
 use Rattle.rows.specs.declared.Row.{Row}
 use Rattle.orders.specs.Orders.{theOrder}
-use Rattle.orders.specs.Sets.{rowAt, LowestIs}
-use Rattle.rows.specs.Rows.{maxTasks}
+use Rattle.orders.specs.Sets.{LowestIs}
+use Rattle.rows.specs.Rows.{maxTasks, rowAt}
 use Rattle.orders.specs.Stability.{stable}
 use Rattle.orders.specs.Search.{tasksIn, Pushed, Listed}
 use Rattle.orders.proofs.Sets.{no-members}

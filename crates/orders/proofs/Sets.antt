@@ -11,9 +11,10 @@ use borrow.Author.Tests.{eq-eqb, ne-eqb}
 use lib.Dec.{eqb}
 use lib.ListN.{length, take, drop}
 use lib.Pow.{shr-shr, pow-pos}
+use Rattle.rows.specs.Rows.{rowAt}
 use Rattle.rows.specs.declared.Row.{Row}
 use Rattle.orders.specs.Orders.{Taken, here, later}
-use Rattle.orders.specs.Sets.{keep, withBit, members, others, rowAt}
+use Rattle.orders.specs.Sets.{keep, withBit, members, others}
 
 pub halved : (m i : ℕ) → m / 2 ^ suc i ≡ m / 2 / 2 ^ i
 halved m i = let e : 1 + i ≡ suc i = omega arith in sym (rw e at (shr-shr m 1 i))

@@ -7,12 +7,9 @@ use mathlib.Core.Logic.{_⊎_}
 use Prim.Native.Nat.{ℕ, _-_, _/_, _%_, _^_, _≤_, _<_}
 use lib.Dec.{eqb}
 use lib.ListN.{length, getD}
-use Rattle.rows.specs.Rows.{noRow}
+use Rattle.rows.specs.Rows.{rowAt}
 use Rattle.rows.specs.declared.Row.{Row}
 use Rattle.orders.specs.Orders.{ByLowest, overSet, theOrder}
-
-abbrev pub rowAt : List Row → ℕ → Row
-rowAt table i = getD table i noRow
 
 abbrev pub keep : Bool → Row → List Row → List Row
 keep true r rs = r ∷ rs

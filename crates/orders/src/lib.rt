@@ -2,8 +2,8 @@
 ghost use mathlib.Core.Path.{_≡_};
 ghost use Prim.Native.Nat.{_+_, _*_, _/_, _%_, _^_, _≤_, _<_};
 ghost use lib.ListN.{length, take};
-ghost use Rattle.rows.specs.Rows.{maxTasks};
-ghost use Rattle.orders.specs.Sets.{rowAt, fits, Settled};
+ghost use Rattle.rows.specs.Rows.{maxTasks, rowAt};
+ghost use Rattle.orders.specs.Sets.{fits, Settled};
 ghost use Rattle.orders.specs.Stability.{stable};
 ghost use Rattle.orders.specs.Search.{Lent, Searching, MayGo, Told};
 ghost use Rattle.orders.specs.Search.{LowestRow, Ordered, Pushed, Listed, Table, Answered};

@@ -14,7 +14,7 @@ use lib.Signed.{leZ}
 use borrow.Author.Tests.{not-true}
 use Rattle.basics.specs.Basics.{isIn}
 use Rattle.basics.proofs.Tests.{and-left, and-right, true-not-false, le-or-lt}
-use Rattle.rows.specs.Rows.{inRange, allRows}
+use Rattle.rows.specs.Rows.{inRange, allRows, rowAt}
 use Rattle.rows.specs.declared.Row.{Row}
 use Rattle.tables.specs.Tables.{Answer, readTable}
 use Rattle.tables.specs.Claims.{Accepted, Reason, Read}
@@ -25,7 +25,7 @@ use Rattle.orders.specs.Orders.{Possible, Chosen}
 use Rattle.orders.specs.Stability.{stable, chosenOrder}
 use Rattle.orders.proofs.Possible.{possible-length, possible-passes}
 use Rattle.orders.proofs.Stable.{stable-at, chosen}
-use Rattle.boards.specs.Claims.{rowAt, NoneLate}
+use Rattle.boards.specs.Claims.{NoneLate}
 use Rattle.plans.specs.Entries.{entries}
 use Rattle.plans.specs.Plans.{planText, planRoom}
 use Rattle.plans.specs.Outcomes.{Outcome, writes, refuses, fitted}

@@ -6,12 +6,12 @@ use mathlib.Core.List.{List, [], _∷_}
 use Prim.Native.Nat.{ℕ, zero, suc, _+_, _≤_, _<_}
 use native.Mathlib.Omega.{arith}
 use lib.ListN.{length, getD, take}
-use Rattle.rows.specs.Rows.{inRange, timesInRange, allRows}
+use Rattle.rows.specs.Rows.{inRange, timesInRange, allRows, rowAt}
 use Rattle.rows.specs.declared.Row.{Row}
 use Rattle.rows.proofs.Limits.{all-times, at-passes, front-passes}
 use Rattle.responses.specs.Claims.{Figured}
 use Rattle.responses.proofs.Responses.{figured}
-use Rattle.boards.specs.Claims.{rowAt, LastsInRange, Kept, latestAt, earliestAt, NoneLate}
+use Rattle.boards.specs.Claims.{LastsInRange, Kept, latestAt, earliestAt, NoneLate}
 use Rattle.boards.proofs.Kept as Boards
 use Rattle.plans.specs.Entries.{entry, entries, noEntry}
 use Rattle.plans.proofs.Entries.{entry-at}

@@ -9,7 +9,7 @@ use native.Mathlib.Omega.{arith}
 use lib.ListN.{length, getD, take}
 use Rattle.basics.specs.Basics.{isIn}
 use Rattle.basics.proofs.Tests.{true-not-false, le-or-lt}
-use Rattle.rows.specs.Rows.{inRange, allRows, tasksOf, rowsFor}
+use Rattle.rows.specs.Rows.{inRange, allRows, tasksOf, rowsFor, rowAt}
 use Rattle.rows.specs.declared.Row.{Row}
 use Rattle.tables.specs.Tables.{Answer, readTable}
 use Rattle.tables.specs.Claims.{Accepted, Reason, Read}
@@ -19,7 +19,7 @@ use Rattle.responses.specs.Figures.{isLate}
 use Rattle.orders.specs.Orders.{Possible}
 use Rattle.orders.proofs.Possible.{possible-length, possible-passes}
 use Rattle.orders.proofs.Tasks.{possible-tasks}
-use Rattle.boards.specs.Claims.{rowAt, NoneLate}
+use Rattle.boards.specs.Claims.{NoneLate}
 use Rattle.plans.specs.Entries.{entries, firstLate}
 use Rattle.plans.specs.Plans.{planText, planRoom}
 use Rattle.plans.specs.Outcomes.{Outcome, writes, refuses, fitted}

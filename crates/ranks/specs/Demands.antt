@@ -8,7 +8,7 @@ use lib.IntN.{ℤ, pos}
 use lib.ListN.{length, getD, take}
 use lib.Signed.{leZ}
 use Rattle.basics.specs.Basics.{isIn}
-use Rattle.rows.specs.Rows.{tasksOf}
+use Rattle.rows.specs.Rows.{tasksOf, rowAt}
 use Rattle.rows.specs.declared.Row.{Row}
 use Rattle.tables.specs.Tables.{readTable}
 use Rattle.tables.specs.Claims.{Read}
@@ -16,7 +16,7 @@ use Rattle.responses.specs.Figures.{isLate}
 use Rattle.responses.specs.Claims.{Figured}
 use Rattle.orders.specs.Orders.{Possible, Chosen}
 use Rattle.orders.specs.Stability.{stable, orderStable, chosenOrder}
-use Rattle.boards.specs.Claims.{rowAt, LastsInRange, Kept}
+use Rattle.boards.specs.Claims.{LastsInRange, Kept}
 use Rattle.plans.specs.declared.Entry.{Entry}
 use Rattle.plans.specs.declared.Plan.{Plan}
 use Rattle.plans.specs.Entries.{entry, entries, noEntry}

@@ -3,7 +3,7 @@ use mathlib.Core.Bool.{Bool, true, false, _&&_}
 use mathlib.Core.List.{List, [], _∷_}
 use Prim.Native.Nat.{ℕ}
 use lib.Dec.{eqb, leb}
-use lib.ListN.{length}
+use lib.ListN.{length, getD}
 use Rattle.basics.specs.Basics.{within, isIn, distinct}
 use Rattle.rows.specs.declared.Row.{Row}
 
@@ -48,6 +48,10 @@ row t p w b a e = record { task = t; period = p; worst = w; best = b; alpha = a;
 
 abbrev pub noRow : Row
 noRow = row 0 0 0 0 0 0
+
+-- row i of a table
+abbrev pub rowAt : List Row → ℕ → Row
+rowAt table i = getD table i noRow
 
 -- each number is within its limits, and best ≤ worst ≤ period
 abbrev pub inRange : Row → Bool

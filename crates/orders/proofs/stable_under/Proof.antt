@@ -5,11 +5,11 @@ use native.Mathlib.Omega.{arith}
 use native.Mathlib.Numerals.{add-one}
 use borrow.Author.Needs.{needs}
 use lib.ListN.{length, getD, take}
-use Rattle.rows.specs.Rows.{inRange, noRow}
+use Rattle.rows.specs.Rows.{inRange, noRow, rowAt}
 use Rattle.rows.proofs.Limits.{at-passes}
 use Rattle.rows.specs.declared.Row.{Row}
 use Rattle.responses.specs.Figures.{isStable}
-use Rattle.orders.specs.Sets.{rowAt, members}
+use Rattle.orders.specs.Sets.{members}
 use Rattle.orders.proofs.Sets.{bit-le}
 use Rattle.orders.proofs.Gathering.{front-length, front-at, Gathering, gathering-none, gathering-next}
 use Rattle.orders.proofs.Gathering.{gathered-posed, gathered-stable}
