@@ -6,8 +6,7 @@ ghost use lib.ListN.{take};
 ghost use Rattle.rows.specs.Rows.{maxTasks, inRange, allRows};
 ghost use Rattle.plans.specs.Entries.{noEntry};
 ghost use Rattle.plans.specs.Ranked.{RankedAs};
-use responses::Above;
-use responses::figures_in;
+use responses::figures_under;
 use rows::MAX_TASKS;
 use rows::Row;
 
@@ -36,11 +35,13 @@ pub fn entries_of(rows: [Row; MAX_TASKS], n: usize) -> Ranked
     ensures { λ r. ⌜ RankedAs (take n rows) r ⌝ }
 {
     let mut entries = [no_entry(); MAX_TASKS];
-    let mut above = Above::none();
+    let mut periods = [0u64; MAX_TASKS];
+    let mut worsts = [0u64; MAX_TASKS];
+    let mut bests = [0u64; MAX_TASKS];
     let mut i = 0;
     while i < n {
         let row = rows[i];
-        let figures = figures_in(row, above);
+        let figures = figures_under(row, &periods, &worsts, &bests, i);
         if figures.late {
             let rank = i as u32 + 1;
             return Ranked {
@@ -55,7 +56,9 @@ pub fn entries_of(rows: [Row; MAX_TASKS], n: usize) -> Ranked
             jitter: figures.jitter,
             margin: figures.margin,
         };
-        above = above.with(row);
+        periods[i] = row.period as u64;
+        worsts[i] = row.worst as u64;
+        bests[i] = row.best as u64;
         i += 1;
     }
     Ranked { late: 0, entries }

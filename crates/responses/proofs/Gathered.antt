@@ -204,6 +204,14 @@ pub bare-times : (ys : List Row) → allRows timesInRange (map bare ys) ≡ allR
 bare-times [] = refl
 bare-times (r ∷ rs) = ap (λ (b : Bool). timesInRange r && b) (bare-times rs)
 
+-- columns that hold rows, by their times: what is so of the columns is what is so of the rows
+pub held-times : {xs : List Row} (ys : List Row) → xs ≡ map bare ys → allRows inRange ys ≡ true
+    → allRows timesInRange xs ≡ true
+held-times ys e ok = ap (allRows timesInRange) e ∙ bare-times ys ∙ all-times ys ok
+
+pub held-figures : (t : Row) {xs : List Row} (ys : List Row) → xs ≡ map bare ys → figuresUnder t xs ≡ figuresUnder t ys
+held-figures t ys e = ap (figuresUnder t) e ∙ figures-same t (bare-same ys)
+
 rows-held : (ys : List Row) → addRows noneAbove ys .posed ≡ true → rowsIn (addRows noneAbove ys) ≡ map bare ys
 unfolding rowsFrom
 rows-held ys e = holds ys noneAbove room-none e .rows-are
@@ -211,8 +219,7 @@ rows-held ys e = holds ys noneAbove room-none e .rows-are
 pub gathered-sound : (ys : List Row) → Sound (addRows noneAbove ys)
 gathered-sound ys = record {
   few = λ e. holds ys noneAbove room-none e .few;
-  times-in-range = λ e. ap (allRows timesInRange) (rows-held ys e)
-      ∙ (bare-times ys ∙ all-times ys (holds ys noneAbove room-none e .in-range));
+  times-in-range = λ e. held-times ys (rows-held ys e) (holds ys noneAbove room-none e .in-range);
 }
 
 no-figures : (a b : Bool) (x : Figures) → b ≡ false → pick (a && b) x noFigures ≡ noFigures
@@ -225,9 +232,8 @@ gathered-figures t ys =
     let z = addRows noneAbove ys in
     elim (test-of (z .posed)) [
       | inl e ↦ (
-          let f : figuresUnder t (rowsIn z) ≡ figuresUnder t ys = ap (figuresUnder t) (rows-held ys e)
-          ∙ figures-same t (bare-same ys) in
-          ap₂ (λ (b : Bool) (x : Figures). pick (inRange t && b) x noFigures) (posed-is ys) f)
+          ap₂ (λ (b : Bool) (x : Figures). pick (inRange t && b) x noFigures) (posed-is ys)
+          (held-figures t ys (rows-held ys e)))
       | inr e ↦ no-figures (inRange t) _ _ e ∙ sym (no-figures (inRange t) _ _ (sym (posed-is ys) ∙ e))
     ]
 

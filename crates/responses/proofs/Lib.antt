@@ -7,3 +7,4 @@ pub mod Same
 pub mod As03
 pub mod Columns
 pub mod Gathered
+pub mod Filled
