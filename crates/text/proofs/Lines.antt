@@ -1,10 +1,11 @@
 -- The line at an offset, by the text from there on: the line is there exactly where the text is what `keyLine` writes
 -- and a rest. So the text alone decides the answer, and says one of three: no such line, no number in it, or a number.
+-- Where the key has no line feed, the line can be read by its parts: the key, and then the line behind the key.
 use mathlib.Core.Path.{_≡_, refl, sym, ap, ap₂, _∙_}
 use mathlib.Core.Bool.{Bool, true, false, _&&_}
 use mathlib.Core.List.{List, [], _∷_, _++_, append-assoc, append-nil}
 use mathlib.Core.Logic.{inl, inr}
-use Prim.Native.Nat.{ℕ, suc, _+_, _/_, _%_, _^_, _<_}
+use Prim.Native.Nat.{ℕ, suc, _+_, _/_, _%_, _^_, _≤_, _<_}
 use native.Mathlib.Omega.{arith}
 use lib.Dec.{eqb, ltb}
 use lib.ListN.{length, drop, length-append}
@@ -198,3 +199,34 @@ module _ (key : List ℕ) (no-feed : isIn lineFeed key ≡ false) where
 
       pub line-number : within low high v ≡ true → lineAt key low high text at k ≡ L.Number v next
       line-number e = line-reads ∙ ap (λ b. pick b (L.Number v next) (L.OutOfRange k)) e
+
+    -- ---- and so it can be read by its parts: the key, and then what stands up to the first feed behind it
+    module _ (rest : List ℕ) (r : rest ≡ drop at text) where
+      pub other-missing : begins key rest ≡ false → lineAt key low high text at k ≡ L.Missing k
+      other-missing b =
+          line-missing (λ value after is.
+          let whole = r ∙ is ∙ key-line-is key value after in
+          let keyed-so = ap (begins key) whole ∙ key-begins key (value ++ (lineFeed ∷ after)) in
+          true-not-false (begins key rest) keyed-so b)
+
+      module _ (tail value : List ℕ) (t : tail ≡ drop (length key) rest) (l : value ≡ lineOf tail) where
+        pub unended-missing : length tail ≤ length value → lineAt key low high text at k ≡ L.Missing k
+        unended-missing h =
+            line-missing (λ other after is.
+            let s = other ++ (lineFeed ∷ after) in
+            let whole = r ∙ is ∙ key-line-is key other after in
+            let tail-is : tail ≡ s = t ∙ ap (drop (length key)) whole ∙ drop-append-seam key s in
+            let value-is : value ≡ lineOf s = l ∙ ap lineOf tail-is in
+            omega (arith, line-ended other after, ap length tail-is, ap length value-is))
+
+        pub ended-ranged : begins key rest ≡ true → length value < length tail → (d : Digits) → numberOf value ≡ d
+            → lineAt key low high text at k ≡ ranged d low high k (at + suc (length key + length value))
+        ended-ranged b h d n =
+            let after = restAfter tail in
+            let split : tail ≡ lineOf tail ++ (lineFeed ∷ after) = line-splits tail (omega (arith, ap length l)) in
+            let behind : drop (length key) rest ≡ value ++ (lineFeed ∷ after) =
+            sym t ∙ split ∙ ap (λ x. x ++ (lineFeed ∷ after)) (sym l) in
+            let whole = key-splits key rest b ∙ ap (λ x. key ++ x) behind ∙ sym (key-line-is key value after) in
+            let long = key-line-length key value ∙ ap suc (length-append key value) in
+            line-holds value after (sym r ∙ whole) (ap (isIn lineFeed) l ∙ line-no-feed tail)
+            ∙ ap₂ (λ x m. ranged x low high k (at + m)) n long

@@ -1,7 +1,7 @@
 -- Lines, keys and digits, one byte after another: what a loop over a text needs at each turn. What is left to be read
 -- decides what the whole answers, so that one equation is the whole invariant.
-use mathlib.Core.Path.{_≡_, refl, sym, ap, _∙_}
-use mathlib.Core.Bool.{true, false}
+use mathlib.Core.Path.{_≡_, refl, ap}
+use mathlib.Core.Bool.{false}
 use mathlib.Core.List.{List, [], _∷_}
 use mathlib.Core.Logic.{inl, inr}
 use Prim.Native.Nat.{ℕ, suc, _+_, _-_, _*_, _≤_, _<_}
@@ -10,12 +10,10 @@ use lib.Dec.{eqb}
 use lib.ListN.{length, getD, take, drop}
 use lib.Seq.{drop-cons}
 use borrow.Author.Tests.{eq-eqb, ne-eqb, le-leb, lt-leb, le-ltb, lt-ltb}
-use Rattle.basics.specs.Basics.{within}
 use Rattle.basics.proofs.Tests.{test-of, true-within}
-use Rattle.text.specs.declared.Digits.the-variants.{Value, Malformed}
-use Rattle.text.specs.declared.Line.the-variants as L
+use Rattle.text.specs.declared.Digits.the-variants.{Malformed}
 use Rattle.text.specs.Text.{lineFeed, digitZero, digitNine}
-use Rattle.text.specs.Lines.{maxDigits, lineOf, begins, digitsFrom, numberOf, lineAt}
+use Rattle.text.specs.Lines.{maxDigits, lineOf, begins, digitsFrom, numberOf}
 
 -- ---- the first line, from an offset on
 module _ (s : List ℕ) (i : ℕ) (h : i < length s) where
@@ -104,34 +102,3 @@ module _ (s : List ℕ) (some : 1 ≤ length s) (few : length s ≤ maxDigits) w
         | inl e ↦ simp (true-within 1 maxDigits (length s) some few, e, le-ltb 1 (length s) h)
         | inr e ↦ simp (true-within 1 maxDigits (length s) some few, e)
       ]
-
--- ---- a line's answer, by its tests: `l` is the line that begins at `at`
-module _ (key : List ℕ) (low high : ℕ) (text : List ℕ) (at k : ℕ)
-    (rest l : List ℕ) (r : rest ≡ drop at text) (e : l ≡ lineOf rest) where
-  same : lineOf (drop at text) ≡ l
-  same = sym (e ∙ ap lineOf r)
-
-  pub unended-missing : length rest ≤ length l → lineAt key low high text at k ≡ L.Missing k
-  unfolding lineAt
-  unended-missing h = rw (same, ← r, le-ltb (length l) (length rest) h)
-
-  module _ (h : length l < length rest) where
-    pub other-missing : begins key l ≡ false → lineAt key low high text at k ≡ L.Missing k
-    unfolding lineAt
-    other-missing b = rw (same, ← r, lt-ltb (length l) (length rest) h, b)
-
-    module _ (b : begins key l ≡ true) where
-      pub unread-malformed : numberOf (drop (length key) l) ≡ Malformed
-          → lineAt key low high text at k ≡ L.Malformed k
-      unfolding lineAt
-      unread-malformed n = rw (same, ← r, lt-ltb (length l) (length rest) h, b, n)
-
-      module _ (v : ℕ) (n : numberOf (drop (length key) l) ≡ Value v) where
-        pub read-outside : within low high v ≡ false → lineAt key low high text at k ≡ L.OutOfRange k
-        unfolding lineAt
-        read-outside w = rw (same, ← r, lt-ltb (length l) (length rest) h, b, n, w)
-
-        pub read-number : within low high v ≡ true
-            → lineAt key low high text at k ≡ L.Number v (at + suc (length l))
-        unfolding lineAt
-        read-number w = rw (same, ← r, lt-ltb (length l) (length rest) h, b, n, w)

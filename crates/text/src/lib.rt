@@ -9,8 +9,11 @@ pub use writers::put_number;
 pub use writers::put_signed;
 pub use writers::put_signed_line;
 ghost use mathlib.Core.Path.{_≡_};
+ghost use mathlib.Core.Bool.{false};
 ghost use Prim.Native.Nat.{_≤_};
 ghost use lib.ListN.{length, drop};
+ghost use Rattle.basics.specs.Basics.{isIn};
+ghost use Rattle.text.specs.Text.{lineFeed};
 ghost use Rattle.text.specs.Lines.{maxDigits, lineOf, begins, digitsFrom, numberOf};
 ghost use Rattle.text.specs.Lines.{lineAt, endAt, refusal, place};
 use basics::within;
@@ -126,27 +129,30 @@ fn first_line(s: &[u8]) -> &[u8]
     &s[..size]
 }
 
-// The line that begins at an offset: a key, a number in its range, and a line feed.
+// The line that begins at an offset: a key, a number in its range, and a line feed. As the key has no feed, it is
+// compared first, and the feed is sought only behind it.
 pub fn line_at(text: &[u8], offset: usize, line: u32, key: &[u8], low: u64, high: u64) -> Line
+    requires { ⌜ isIn lineFeed (now key) ≡ false ⌝ }
     ensures { λ r. ⌜ r ≡ lineAt (now (key .entry)) low high (now (text .entry)) offset line ⌝ }
 {
     let rest = rest_of(text, offset);
-    let content = first_line(rest);
-    let size = content.len();
-    if rest.len() <= size {
+    if !starts_with(rest, key) {
         return Line::Missing(line);
     }
-    if !starts_with(content, key) {
+    let tail = rest_of(rest, key.len());
+    let written = first_line(tail);
+    let size = written.len();
+    if tail.len() <= size {
         return Line::Missing(line);
     }
-    let digits = number_of(rest_of(content, key.len()));
+    let digits = number_of(written);
     let Digits::Value(value) = digits else {
         return Line::Malformed(line);
     };
     if !within(low, high, value) {
         return Line::OutOfRange(line);
     }
-    let next = offset + size + 1;
+    let next = offset + key.len() + size + 1;
     Line::Number(value, next)
 }
 

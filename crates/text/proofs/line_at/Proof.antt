@@ -1,74 +1,115 @@
 -- `text::line_at` meets its contract: each return is a law of `lineAt`, from the tests that led there.
 use mathlib.Core.Path.{_≡_, sym, _∙_, ap}
-use mathlib.Core.Bool.{true}
+use mathlib.Core.Bool.{Bool}
 use mathlib.Core.List.{List}
-use Prim.Native.Nat.{ℕ, _+_, _≤_}
+use Prim.Native.Nat.{ℕ, suc, _+_, _≤_}
 use native.Mathlib.Omega.{arith}
-use lib.ListN.{length, drop, length-drop}
+use lib.ListN.{length, length-drop}
 use borrow.Author.Needs.{needs}
 use borrow.Author.Tests.{not-true, not-false}
+use Rattle.basics.specs.Basics.{pick, within}
 use Rattle.text.specs.declared.Digits.{Digits}
+use Rattle.text.specs.declared.Digits.the-variants.{Value}
+use Rattle.text.specs.declared.Line.{Line}
 use Rattle.text.specs.declared.Line.the-variants as L
-use Rattle.text.specs.Lines.{begins, numberOf}
-use Rattle.text.proofs.Scans.{unended-missing, other-missing, unread-malformed, read-outside, read-number}
+use Rattle.text.specs.Lines.{ranged, lineAt}
+use Rattle.text.proofs.Lines.{other-missing, unended-missing, ended-ranged}
 use Rattle.text.proofs.line_at.Statement.{statement}
 use Rattle.text.proofs.line_at.Tie as tie
 
--- ---- the call, from where the line is found
-module _ (f : tie.After-first-line) where
+-- the answer of a call
+abbrev answer : tie.Start → Line
+answer s =
+    let a = s .args in
+    lineAt (a .key .now) (a .low) (a .high) (a .text .now) (a .offset) (a .line)
+
+-- ---- the call, from where its key is sought
+module _ (k : tie.After-starts-with) where
   abbrev start : tie.Start
-  start = f .before .before .before .before
+  start = k .before .before .before .before
 
   abbrev rest : List ℕ
-  rest = f .before .rest-of .result .now
+  rest = k .before .rest-of .result .now
 
-  abbrev content : List ℕ
-  content = f .first-line .result .now
+-- ---- from where the line behind the key is found
+module _ (f : tie.After-first-line) where
+  abbrev sought : tie.After-starts-with
+  sought = f .before .before .before
 
--- ---- past the test of the key, from where the number is told
+  abbrev tail : List ℕ
+  tail = f .before .rest-of2 .result .now
+
+  abbrev written : List ℕ
+  written = f .first-line .result .now
+
+-- ---- from where the number is told: the line is ended
 module _ (n : tie.After-number-of) where
   abbrev line : tie.After-first-line
-  line = n .before .before .before .before .before
+  line = n .before .before
 
-  keyed : begins (start line .args .key .now) (content line) ≡ true
-  keyed = sym (n .before .before .before .starts-with .ensures) ∙ not-false _ (n .before .before .if2 .left)
+  abbrev call : tie.Start
+  call = start (sought line)
+
+  abbrev next : ℕ
+  next = call .args .offset + suc (length (call .args .key .now) + length (written line))
 
   told : (d : Digits) → n .number-of .result ≡ d
-      → numberOf (drop (length (start line .args .key .now)) (content line)) ≡ d
-  told d e = ap numberOf (sym (n .before .rest-of2 .ensures)) ∙ sym (n .number-of .ensures) ∙ e
+      → answer call ≡ ranged d (call .args .low) (call .args .high) (call .args .line) next
+  told d e =
+      let a = call .args in
+      let f = line in
+      let k = sought f in
+      let ended = n .before .if2 .left in
+      let keyed = sym (k .starts-with .ensures) ∙ not-false _ (f .before .before .if1 .left) in
+      ended-ranged (a .key .now) (call .pre) (a .low) (a .high) (a .text .now) (a .offset) (a .line)
+      (rest k) (k .before .rest-of .ensures) (tail f) (written f) (f .before .rest-of2 .ensures) (f .first-line .ensures)
+      keyed ended d (sym (n .number-of .ensures) ∙ e)
+
+  decided : (v : ℕ) → n .number-of .result ≡ Value v → (b : Bool) → within (call .args .low) (call .args .high) v ≡ b
+      → pick b (L.Number v next) (L.OutOfRange (call .args .line)) ≡ answer call
+  decided v e b w = sym (told (Value v) e ∙ ap (λ x. pick x (L.Number v next) (L.OutOfRange (call .args .line))) w)
 
   -- the line and its feed stand within the text
-  within-text : start line .args .offset + length (rest line) ≤ length (start line .args .text .now)
+  within-text : next ≤ length (call .args .text .now)
   within-text =
-      let a = start line .args in
-      omega (arith, ap length (line .before .rest-of .ensures), length-drop (a .offset) (a .text .now))
+      let a = call .args in
+      let k = sought line in
+      omega (
+        arith,
+        n .before .if2 .left,
+        ap length (k .before .rest-of .ensures),
+        length-drop (a .offset) (a .text .now),
+        ap length (line .before .rest-of2 .ensures),
+        length-drop (length (a .key .now)) (rest k),
+      )
 
 rest-of-requires : tie.Need-rest-of-requires
 rest-of-requires c κs = search needs
 
-first-line-requires : tie.Need-first-line-requires
-first-line-requires c κs = search needs
-
-returns : tie.Need-returns
-returns c =
-    let f = c .before in
-    let a = start f .args in
-    sym (unended-missing (a .key .now) (a .low) (a .high) (a .text .now) (a .offset) (a .line) (rest f) (content f)
-    (f .before .rest-of .ensures) (f .first-line .ensures) (c .if1 .taken))
-
 starts-with-requires : tie.Need-starts-with-requires
 starts-with-requires c κs = search needs
 
-returns-2 : tie.Need-returns-2
-returns-2 c =
-    let f = c .before .before .before in
-    let a = start f .args in
-    sym (other-missing (a .key .now) (a .low) (a .high) (a .text .now) (a .offset) (a .line) (rest f) (content f)
-    (f .before .rest-of .ensures) (f .first-line .ensures) (omega arith)
-    (sym (c .before .starts-with .ensures) ∙ not-true _ (c .if2 .taken)))
+returns : tie.Need-returns
+returns c =
+    let k = c .before in
+    let a = start k .args in
+    sym (other-missing (a .key .now) (start k .pre) (a .low) (a .high) (a .text .now) (a .offset) (a .line)
+    (rest k) (k .before .rest-of .ensures) (sym (k .starts-with .ensures) ∙ not-true _ (c .if1 .taken)))
 
 rest-of-requires-2 : tie.Need-rest-of-requires-2
 rest-of-requires-2 c κs = search needs
+
+first-line-requires : tie.Need-first-line-requires
+first-line-requires c κs = search needs
+
+returns-2 : tie.Need-returns-2
+returns-2 c =
+    let f = c .before in
+    let k = sought f in
+    let a = start k .args in
+    sym (unended-missing (a .key .now) (start k .pre) (a .low) (a .high) (a .text .now) (a .offset) (a .line)
+    (rest k) (k .before .rest-of .ensures) (tail f) (written f) (f .before .rest-of2 .ensures) (f .first-line .ensures)
+    (c .if2 .taken))
 
 number-of-requires : tie.Need-number-of-requires
 number-of-requires c κs = search needs
@@ -80,57 +121,49 @@ enum-told : tie.Need-enum-told
 enum-told c = search needs
 
 returns-3 : tie.Need-returns-3
-returns-3 c =
-    let n = c .before .before in
-    let f = line n in
-    let a = start f .args in
-    sym (unread-malformed (a .key .now) (a .low) (a .high) (a .text .now) (a .offset) (a .line) (rest f) (content f)
-    (f .before .rest-of .ensures) (f .first-line .ensures) (omega arith) (keyed n) (told n _ (c .enum-told .given .1)))
+returns-3 c = sym (told (c .before .before) _ (c .enum-told .given .1))
 
 within-requires : tie.Need-within-requires
 within-requires c κs = search needs
 
 returns-4 : tie.Need-returns-4
 returns-4 c =
-    let n = c .before .before .before .before .before in
     let d = c .before .before .before .digits .given in
-    let f = line n in
-    let a = start f .args in
-    sym (read-outside (a .key .now) (a .low) (a .high) (a .text .now) (a .offset) (a .line) (rest f) (content f)
-    (f .before .rest-of .ensures) (f .first-line .ensures) (omega arith) (keyed n) (d .0 .0) (told n _ (d .1))
-    (sym (c .before .within .ensures) ∙ not-true _ (c .if3 .taken)))
+    decided (c .before .before .before .before .before) (d .0 .0) (d .1) _
+    (sym (c .before .within .ensures) ∙ not-true _ (c .if3 .taken))
 
 add-next : tie.Need-add-next
 add-next c =
     let n = c .before .before .before .before .before in
-    omega (arith, within-text n, start (line n) .good)
+    omega (arith, within-text n, call n .good)
 
 add-next-2 : tie.Need-add-next-2
 add-next-2 c =
     let n = c .before .before .before .before .before in
-    omega (arith, within-text n, start (line n) .good)
+    omega (arith, within-text n, call n .good)
+
+add-next-3 : tie.Need-add-next-3
+add-next-3 c =
+    let n = c .before .before .before .before .before in
+    omega (arith, within-text n, call n .good)
 
 returns-5 : tie.Need-returns-5
 returns-5 c =
-    let n = c .before .before .before .before .before in
     let d = c .before .before .before .digits .given in
-    let f = line n in
-    let a = start f .args in
     ap (L.Number (d .0 .0)) (omega arith)
-    ∙ sym (read-number (a .key .now) (a .low) (a .high) (a .text .now) (a .offset) (a .line) (rest f) (content f)
-    (f .before .rest-of .ensures) (f .first-line .ensures) (omega arith) (keyed n) (d .0 .0) (told n _ (d .1))
-    (sym (c .before .within .ensures) ∙ not-false _ (c .if3 .left)))
+    ∙ decided (c .before .before .before .before .before) (d .0 .0) (d .1) _
+    (sym (c .before .within .ensures) ∙ not-false _ (c .if3 .left))
 
 pub line-at-spec : {M : Type 1} → statement M
 line-at-spec =
     tie.close
     (tie.spec
     rest-of-requires
-    first-line-requires
-    returns
     starts-with-requires
-    returns-2
+    returns
     rest-of-requires-2
+    first-line-requires
+    returns-2
     number-of-requires
     enum-known-digits
     enum-told
@@ -139,4 +172,5 @@ line-at-spec =
     returns-4
     add-next
     add-next-2
+    add-next-3
     returns-5)
