@@ -47,17 +47,23 @@ entryFrom r x =
 
 -- ---- how far an order's entries have come
 pub record Turning (n : ℕ) (rows : List Row) (es : List Entry) (ps ws bs : List ℕ) (i : ℕ) : Type 0 where
+  pub few : n ≤ maxTasks
+  pub rows-long : length rows ≡ maxTasks
+  pub in-range : allRows inRange (take n rows) ≡ true
   pub reached : i ≤ n
   pub above : Filled (take i rows) ps ws bs i
   pub long : length es ≡ maxTasks
   pub entries-are : take i es ≡ entries (take i rows)
   pub late-is : firstLate (take n rows) ≡ lateFrom (suc i) (take i rows) (drop i (take n rows))
 
-module _ (n : ℕ) (rows : List Row) (few : n ≤ maxTasks) (all : length rows ≡ maxTasks)
-    (ok : allRows inRange (take n rows) ≡ true) where
-  pub starts : (es : List Entry) (ps ws bs : List ℕ) → length es ≡ maxTasks → length ps ≡ maxTasks → length ws ≡ maxTasks
+module _ {n : ℕ} {rows : List Row} where
+  pub starts : n ≤ maxTasks → length rows ≡ maxTasks → allRows inRange (take n rows) ≡ true
+      → (es : List Entry) (ps ws bs : List ℕ) → length es ≡ maxTasks → length ps ≡ maxTasks → length ws ≡ maxTasks
       → length bs ≡ maxTasks → Turning n rows es ps ws bs 0
-  starts es ps ws bs l p w b = record {
+  starts few all ok es ps ws bs l p w b = record {
+    few = few;
+    rows-long = all;
+    in-range = ok;
     reached = omega arith;
     above = filled-none ps ws bs p w b;
     long = l;
@@ -72,11 +78,12 @@ module _ (n : ℕ) (rows : List Row) (few : n ≤ maxTasks) (all : length rows �
     -- the next row may be asked for its figures under the columns
     pub posed : i < n → Posed r i ps ws bs
     posed more =
-        let in-range : inRange r ≡ true = ap inRange (sym (getD-take n rows i noRow more))
+        let ok = t .in-range in
+        let here : inRange r ≡ true = ap inRange (sym (getD-take n rows i noRow more))
         ∙ at-passes inRange (take n rows) i ok (omega (arith, length-take-le n rows (omega arith))) in
-        let above-in-range : allRows inRange (take i rows) ≡ true =
+        let above : allRows inRange (take i rows) ≡ true =
         ap (allRows inRange) (sym (take-take i n rows (omega arith))) ∙ front-passes inRange i (take n rows) ok in
-        filled-posed (t .above) (omega arith) above-in-range r in-range
+        filled-posed (t .above) (omega arith) above r here
 
     module _ (more : i < n) (x : Figures) (is : x ≡ figuresUnder r (rowsAbove i ps ws bs)) where
       figures-are : x ≡ figuresUnder r (take i rows)
@@ -110,6 +117,9 @@ module _ (n : ℕ) (rows : List Row) (few : n ≤ maxTasks) (all : length rows �
           let written : e ≡ entry r (take i rows) =
           s ∙ ap (entryFrom r) (figures-are ∙ entry-of r (take i rows) now) in
           record {
+            few = t .few;
+            rows-long = t .rows-long;
+            in-range = t .in-range;
             reached = more;
             above = filled-more (t .above) (omega arith) r one-more;
             long = length-set es i e ∙ t .long;

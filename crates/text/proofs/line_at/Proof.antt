@@ -7,7 +7,7 @@ use native.Mathlib.Omega.{arith}
 use lib.ListN.{length, length-drop}
 use borrow.Author.Needs.{needs}
 use borrow.Author.Tests.{not-true, not-false}
-use Rattle.basics.specs.Basics.{pick, within}
+use Rattle.basics.specs.Basics.{pick}
 use Rattle.text.specs.declared.Digits.{Digits}
 use Rattle.text.specs.declared.Digits.the-variants.{Value}
 use Rattle.text.specs.declared.Line.{Line}
@@ -65,10 +65,6 @@ module _ (n : tie.After-number-of) where
       (rest k) (k .before .rest-of .ensures) (tail f) (written f) (f .before .rest-of2 .ensures) (f .first-line .ensures)
       keyed ended d (sym (n .number-of .ensures) ∙ e)
 
-  decided : (v : ℕ) → n .number-of .result ≡ Value v → (b : Bool) → within (call .args .low) (call .args .high) v ≡ b
-      → pick b (L.Number v next) (L.OutOfRange (call .args .line)) ≡ answer call
-  decided v e b w = sym (told (Value v) e ∙ ap (λ x. pick x (L.Number v next) (L.OutOfRange (call .args .line))) w)
-
   -- the line and its feed stand within the text
   within-text : next ≤ length (call .args .text .now)
   within-text =
@@ -82,6 +78,21 @@ module _ (n : tie.After-number-of) where
         ap length (line .before .rest-of2 .ensures),
         length-drop (length (a .key .now)) (rest k),
       )
+
+-- ---- from where the number's range is tested
+module _ (w : tie.After-within) where
+  abbrev number : tie.After-number-of
+  number = w .before .before .before .before
+
+  abbrev value : ℕ
+  value = w .before .before .digits .given .0 .0
+
+  decided : (b : Bool) → w .within .result ≡ b
+      → pick b (L.Number value (next number)) (L.OutOfRange (call number .args .line)) ≡ answer (call number)
+  decided b e =
+      sym (told number (Value value) (w .before .before .digits .given .1)
+      ∙ ap (λ x. pick x (L.Number value (next number)) (L.OutOfRange (call number .args .line)))
+      (sym (w .within .ensures) ∙ e))
 
 rest-of-requires : tie.Need-rest-of-requires
 rest-of-requires c κs = search needs
@@ -127,32 +138,19 @@ within-requires : tie.Need-within-requires
 within-requires c κs = search needs
 
 returns-4 : tie.Need-returns-4
-returns-4 c =
-    let d = c .before .before .before .digits .given in
-    decided (c .before .before .before .before .before) (d .0 .0) (d .1) _
-    (sym (c .before .within .ensures) ∙ not-true _ (c .if3 .taken))
+returns-4 c = decided (c .before) _ (not-true _ (c .if3 .taken))
 
 add-next : tie.Need-add-next
-add-next c =
-    let n = c .before .before .before .before .before in
-    omega (arith, within-text n, call n .good)
+add-next c = omega (arith, within-text (number (c .before)), call (number (c .before)) .good)
 
 add-next-2 : tie.Need-add-next-2
-add-next-2 c =
-    let n = c .before .before .before .before .before in
-    omega (arith, within-text n, call n .good)
+add-next-2 c = omega (arith, within-text (number (c .before)), call (number (c .before)) .good)
 
 add-next-3 : tie.Need-add-next-3
-add-next-3 c =
-    let n = c .before .before .before .before .before in
-    omega (arith, within-text n, call n .good)
+add-next-3 c = omega (arith, within-text (number (c .before)), call (number (c .before)) .good)
 
 returns-5 : tie.Need-returns-5
-returns-5 c =
-    let d = c .before .before .before .digits .given in
-    ap (L.Number (d .0 .0)) (omega arith)
-    ∙ decided (c .before .before .before .before .before) (d .0 .0) (d .1) _
-    (sym (c .before .within .ensures) ∙ not-false _ (c .if3 .left))
+returns-5 c = ap (L.Number (value (c .before))) (omega arith) ∙ decided (c .before) _ (not-false _ (c .if3 .left))
 
 pub line-at-spec : {M : Type 1} → statement M
 line-at-spec =

@@ -61,7 +61,7 @@ no-entry-requires c κs = search needs
 loop-holds : tie.Need-loop-holds Inv-loop μ-loop
 loop-holds c =
     let s = c .before in
-    starts (s .args .n) (s .args .t1) (s .pre .0) (rows-long s) (s .pre .1) _ _ _ _ refl refl refl refl
+    starts (s .pre .0) (rows-long s) (s .pre .1) _ _ _ _ refl refl refl refl
 
 mul-row : tie.Need-mul-row Inv-loop μ-loop
 mul-row c = omega arith
@@ -81,8 +81,7 @@ slice-aggregate-figures-under-3 c = search needs
 figures-under-requires : tie.Need-figures-under-requires Inv-loop μ-loop
 figures-under-requires c κs =
     let k = c .before .before .before .before in
-    let s = k .before .before .before in
-    posed (s .args .n) (s .args .t1) (s .pre .0) (rows-long s) (s .pre .1) (k .before .loop .inv) (k .loop-test .taken)
+    posed (k .before .loop .inv) (k .loop-test .taken)
 
 cast-rank : tie.Need-cast-rank Inv-loop μ-loop
 cast-rank c = omega arith
@@ -93,11 +92,10 @@ add-rank c = omega arith
 returns : tie.Need-returns Inv-loop μ-loop
 returns c =
     let k = turn (c .before) in
-    let s = k .before .before .before in
     let x = k .before .loop in
     let f = c .before .figures-under in
-    found-late (s .args .n) (s .args .t1) (s .pre .0) (rows-long s) (s .pre .1) (x .inv) (k .loop-test .taken)
-    (f .result) (f .ensures) (c .if1 .taken) (x .entries) (x .i + 1) (add-one (x .i))
+    found-late (x .inv) (k .loop-test .taken) (f .result) (f .ensures) (c .if1 .taken) (x .entries) (x .i + 1)
+    (add-one (x .i))
 
 mul-entries : tie.Need-mul-entries Inv-loop μ-loop
 mul-entries c = omega arith
@@ -142,17 +140,13 @@ loop-again : tie.Need-loop-again Inv-loop μ-loop
 loop-again c =
     let told = c .before .before .before in
     let k = turn (told .before .before) in
-    let s = k .before .before .before in
     let x = k .before .loop in
     let f = told .before .before .figures-under in
     rw (add-one (x .i))
-    (turned (s .args .n) (s .args .t1) (s .pre .0) (rows-long s) (s .pre .1) (x .inv) (k .loop-test .taken) (f .result)
-    (f .ensures) (told .before .if1 .left) _ (same-margin told))
+    (turned (x .inv) (k .loop-test .taken) (f .result) (f .ensures) (told .before .if1 .left) _ (same-margin told))
 
 returns-2 : tie.Need-returns-2 Inv-loop μ-loop
-returns-2 c =
-    let s = c .before .before .before in
-    finished (s .args .n) (s .args .t1) (s .pre .0) (rows-long s) (s .pre .1) (c .before .loop .inv) (c .loop-test .left)
+returns-2 c = finished (c .before .loop .inv) (c .loop-test .left)
 
 pub entries-of-spec : {M : Type 1} → statement M
 entries-of-spec =
