@@ -88,14 +88,13 @@ no-cross (suc (suc zero)) vs rs k v l a b c = absurd (b refl)
 no-cross (suc (suc (suc zero))) vs rs k v l a b c = absurd (c refl)
 no-cross (suc (suc (suc (suc n)))) vs rs k v l a b c = refl
 
--- a position past the first five has the key and the range of the last
-pub last-position : (P : ℕ → Type 0) → ((m : ℕ) → P (suc (suc (suc (suc (suc m)))))) → (i : ℕ) → 4 < i → P i
+-- a position past the first four is the last
+pub last-position : (P : ℕ → Type 0) → ((m : ℕ) → P (suc (suc (suc (suc m))))) → (i : ℕ) → 3 < i → P i
 last-position P f zero h = absurd (omega arith)
 last-position P f (suc zero) h = absurd (omega arith)
 last-position P f (suc (suc zero)) h = absurd (omega arith)
 last-position P f (suc (suc (suc zero))) h = absurd (omega arith)
-last-position P f (suc (suc (suc (suc zero)))) h = absurd (omega arith)
-last-position P f (suc (suc (suc (suc (suc m))))) h = f m
+last-position P f (suc (suc (suc (suc m)))) h = f m
 
 -- ---- a rank line
 module _ (rs : List Row) (os text : List ℕ) (at k : ℕ) (l : Line)

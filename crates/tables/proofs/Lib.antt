@@ -6,6 +6,6 @@ pub mod Reasons
 pub mod Numbers
 pub mod Seeks
 pub mod Fields
-pub mod Taken
-pub mod Written
+pub mod Steps
+pub mod Parts
 pub mod Turns

@@ -1,271 +1,374 @@
--- One turn of the reader's loop: a line is read where the reader stands and taken in, and the reading goes on from the
--- next stage, or is over. What is left to be read answers as the whole text does, before the turn and after it, and
--- fewer lines may be left.
-use mathlib.Core.Path.{_≡_, refl, sym, ap, _∙_, subst}
-use mathlib.Core.Bool.{Bool, true, false, _&&_}
+-- Rows and rank lines, one after another: the reading of the whole section is that of what is left of it, so that one
+-- equation is the whole invariant of each loop.
+use mathlib.Core.Path.{_≡_, refl, sym, ap, ap₂, _∙_, subst}
+use mathlib.Core.Bool.{Bool, true, false, _&&_, not}
 use mathlib.Core.List.{List, [], _∷_, _++_}
 use mathlib.Core.Logic.{inl, inr}
 use Prim.Native.Nat.{ℕ, zero, suc, _+_, _-_, _*_, _≤_, _<_}
 use native.Mathlib.Omega.{arith}
 use native.Mathlib.Numerals.{add-one}
-use lib.Dec.{eqb, ltb}
-use lib.ListN.{length, drop, replicate, length-append}
-use borrow.Author.Tests.{eqb-true, eqb-false}
-use Rattle.basics.specs.Basics.{pick, within}
-use Rattle.basics.proofs.Tests.{test-of, true-not-false, never, within-true}
-use Rattle.text.specs.Lines.{lineOf, begins, numberOf, ranged, lineAt, endAt, refusal, place}
-use Rattle.text.specs.declared.Digits.{Digits}
-use Rattle.text.specs.declared.Digits.the-variants as D
+use lib.Dec.{ltb}
+use lib.ListN.{length, take, set, replicate, length-append}
+use lib.Seq.{append-snoc, take-append-seam, set-append-seam}
+use Rattle.basics.specs.Basics.{pick, isIn}
+use Rattle.basics.proofs.Tests.{test-of, within-true}
+use Rattle.text.specs.Text.{bytes}
+use Rattle.text.specs.Lines.{lineAt, endAt, refusal, place, onNumber}
 use Rattle.text.specs.declared.Line.{Line}
 use Rattle.text.specs.declared.Line.the-variants as L
-use Rattle.rows.specs.Rows.{minTasks, maxTasks}
+use Rattle.rows.specs.Rows.{minTask, maxTask, maxTasks, noRow, hasTask}
 use Rattle.rows.specs.declared.Row.{Row}
-use Rattle.tables.specs.declared.progress.Progress.{Progress}
-use Rattle.tables.specs.Tables.{fieldCount, rowOf, turnedDown, ranksFrom, readTable}
-use Rattle.tables.specs.Reasons.{Stage, at-board, at-tasks, at-field, at-rank, at-end}
-use Rattle.tables.specs.Reasons.{ranksStage, rowsStage, after, lowOf, highOf, isEnd}
-use Rattle.tables.specs.Reasons.{exceeds, repeats, impossible, Passes}
-use Rattle.tables.specs.Readings.{reading}
-use Rattle.tables.specs.Steps.{starting, Few, expected, lineFor, withNumber, taken, Due, LineDue}
-use Rattle.tables.specs.Steps.{maxLines, placeAfter, readingOf}
-use Rattle.tables.proofs.Accepted.{Known, after-known}
-use Rattle.tables.proofs.Fields.{no-number, refused-no-number}
-use Rattle.tables.proofs.Stages.{tested, stageLine, onTested, resume, board-resumes}
-use Rattle.tables.proofs.Answers.{on-number, on-refused}
-use Rattle.tables.proofs.Taken.{taken-number, taken-other, stops-refused, place-next}
-use Rattle.tables.proofs.Written.{written, numbers, Writes, awaited, expected-awaited, line-tested, few-written}
-use Rattle.tables.proofs.Written.{number-due, number-written}
+use Rattle.tables.specs.declared.Reading.{Reading}
+use Rattle.tables.specs.declared.progress.Part.the-variants as P
+use Rattle.tables.specs.declared.sections.RowRead.{RowRead}
+use Rattle.tables.specs.declared.sections.RowsRead.{RowsRead}
+use Rattle.tables.specs.declared.sections.RankRead.{RankRead}
+use Rattle.tables.specs.declared.sections.RanksRead.{RanksRead}
+use Rattle.tables.specs.Tables.{fieldCount, rankAt, Answer, turnedDown, accepted, Fields, fieldsFrom, rowOf}
+use Rattle.tables.specs.Tables.{rowsFrom, ranksFrom}
+use Rattle.tables.specs.Readings.{padded, reading}
+use Rattle.tables.specs.Steps.{started, readPart}
+use Rattle.tables.specs.Sections.{rowRead, rankRead, RowsAre, rows-refused, rows-read, RanksAre, ranks-refused}
+use Rattle.tables.specs.Sections.{ranks-read}
+use Rattle.tables.proofs.Fields.{no-number, refused-no-number, rank-stops, rank-number}
+use Rattle.tables.proofs.Parts.{Told, number, refused, row-is, task-told, row-unnamed, row-again, row-rest}
+use Rattle.tables.proofs.Parts.{stops, whole, rank-told}
 
--- ---- what a line answers
--- a number that P holds of, or a refusal
-data Answered (P : ℕ → Type 0) (l : Line) : Type 0 where
-  number : (v next : ℕ) → l ≡ L.Number v next → P v → Answered P l
-  refused : (n : ℕ) → refusal l ≡ suc n → Answered P l
+-- ---- lists in arrays: one more after those at the front
+padded-next : {A : Type 0} (d x : A) (xs : List A) → length xs < maxTasks
+    → set (padded d xs) (length xs) x ≡ padded d (xs ++ (x ∷ []))
+padded-next d x xs h =
+    let left = maxTasks - length (xs ++ (x ∷ [])) in
+    let more : maxTasks - length xs ≡ suc left = omega (arith, length-append xs (x ∷ [])) in
+    ap (λ n. set (xs ++ replicate n d) (length xs) x) more
+    ∙ set-append-seam xs d (replicate left d) x
+    ∙ sym (append-snoc xs x (replicate left d))
 
-abbrev InRange : ℕ → ℕ → ℕ → Type 0
-InRange low high v = within low high v ≡ true
+pub padded-front : {A : Type 0} (d : A) (xs : List A) → take (length xs) (padded d xs) ≡ xs
+padded-front d xs = take-append-seam xs _
 
-ranged-answers : (d : Digits) (low high k next : ℕ) → Answered (InRange low high) (ranged d low high k next)
-ranged-answers D.Malformed low high k next = refused 1 refl
-ranged-answers (D.Value v) low high k next =
-    elim (test-of (within low high v)) [ inl e ↦ rw e (number v next refl e) | inr e ↦ rw e (refused 2 refl) ]
-
-line-answers : (key : List ℕ) (low high : ℕ) (text : List ℕ) (at k : ℕ)
-    → Answered (InRange low high) (lineAt key low high text at k)
-unfolding lineAt
-line-answers key low high text at k =
-    let l = lineOf (drop at text) in
-    elim (test-of (ltb (length l) (length (drop at text)) && begins key l)) [
-      | inl e ↦ rw e (ranged-answers (numberOf (drop (length key) l)) low high k (at + suc (length l)))
-      | inr e ↦ rw e (refused 0 refl)
-    ]
-
-tested-answers : (st : Stage) (k : ℕ) (l : Line) → Answered (InRange (lowOf st) (highOf st)) l
-    → Answered (Passes st) (tested st k l)
-tested-answers st k l (number v next e w) =
-    subst (λ x. Answered (Passes st) (tested st k x)) (sym e)
-    (elim (test-of (exceeds st v)) [
-      | inl x ↦ rw x (refused 3 refl)
-      | inr x ↦ elim (test-of (repeats st v)) [
-        | inl r ↦ rw (x, r) (refused 4 refl)
-        | inr r ↦ elim (test-of (impossible st v)) [
-          | inl i ↦ rw (x, r, i) (refused 5 refl)
-          | inr i ↦
-              rw (x, r, i)
-              (number v next refl (record { in-range = w; not-exceeding = x; not-repeated = r; possible = i }))
+-- ---- the line after a row
+row-line : (rs : List Row) (text : List ℕ) (at k : ℕ) → row-is rs text at k .refused ≡ 0
+    → row-is rs text at k .line ≡ k + fieldCount
+row-line rs text at k z =
+    elim (task-told rs text at k) [
+      | number t next e w ↦ elim (test-of (hasTask t rs)) [
+        | inl h ↦ absurd (let y : 5 ≡ 0 = sym (ap (λ x. x .refused) (row-again rs text at k t next e h)) ∙ z in omega arith)
+        | inr h ↦ elim (row-rest rs text at k t next e h w (readPart text (started P.Rest next (k + 1))) (k + 1) refl refl) [
+          | stops n r x ↦ absurd (let y : suc n ≡ 0 = sym (ap (λ f. f .refused) x) ∙ z in omega arith)
+          | whole vs r l ns x i ↦ ap (λ f. f .line) x ∙ l ∙ omega arith
         ]
       ]
-    ])
-tested-answers st k l (refused n r) =
-    subst (Answered (Passes st)) (sym (no-number l _ l (refused-no-number l n r))) (refused n r)
-
--- ---- how many lines may be left, with one too many
-abbrev linesLeft : Stage → ℕ
-linesLeft at-board = maxLines
-linesLeft (at-tasks b) = maxLines - 1
-linesLeft (at-field n b rs vs) = fieldCount * suc n - length vs + (length rs + suc n) + 1
-linesLeft (at-rank n b rs os) = suc n + 1
-linesLeft (at-end b rs os) = 1
-
-ranks-left : (n b : ℕ) (rs : List Row) (os : List ℕ) → linesLeft (ranksStage n b rs os) ≡ n + 1
-ranks-left zero b rs os = refl
-ranks-left (suc n) b rs os = refl
-
-rows-left : (ranked : Bool) (n b : ℕ) (rs : List Row)
-    → linesLeft (rowsStage ranked n b rs) ≤ fieldCount * n + (length rs + n) + 1
-rows-left true zero b rs = omega (arith, ranks-left (length rs) b rs [])
-rows-left false zero b rs = omega arith
-rows-left ranked (suc n) b rs = omega arith
-
-lines-fall : (ranked : Bool) (st : Stage) (v : ℕ) → Known ranked st → Passes st v → isEnd st ≡ false
-    → linesLeft (after ranked st v) < linesLeft st
-lines-fall ranked at-board v h p e = omega arith
-lines-fall ranked (at-tasks b) v h p e =
-    omega (arith, rows-left ranked v b [], within-true minTasks maxTasks v (p .in-range) .le-high)
-lines-fall ranked (at-field n b rs vs) v h p e =
-    let ws = vs ++ (v ∷ []) in
-    let more = rs ++ (rowOf ws ∷ []) in
-    let short = h .short in
-    let next : Bool → Stage = λ last. pick last (rowsStage ranked n b more) (at-field n b rs ws) in
-    elim (test-of (eqb (suc (length vs)) fieldCount)) [
-      | inl t ↦
-          subst (λ x. linesLeft (next x) < linesLeft (at-field n b rs vs)) (sym t)
-          (omega (
-            arith,
-            rows-left ranked n b more,
-            length-append rs (rowOf ws ∷ []),
-            eqb-true (suc (length vs)) fieldCount t,
-          ))
-      | inr t ↦
-          subst (λ x. linesLeft (next x) < linesLeft (at-field n b rs vs)) (sym t)
-          (omega (arith, length-append vs (v ∷ []), eqb-false (suc (length vs)) fieldCount t))
+      | refused n r ↦
+          absurd (let y : suc n ≡ 0 = sym (ap (λ x. x .refused) (row-unnamed rs text at k n r)) ∙ z in omega arith)
     ]
-lines-fall ranked (at-rank n b rs os) v h p e = omega (arith, ranks-left n b rs (os ++ (v ∷ [])))
-lines-fall ranked (at-end b rs os) v h p e = never (sym e)
 
-some-left : (st : Stage) → 0 < linesLeft st
-some-left at-board = omega arith
-some-left (at-tasks b) = omega arith
-some-left (at-field n b rs vs) = omega arith
-some-left (at-rank n b rs os) = omega arith
-some-left (at-end b rs os) = omega arith
+-- ---- the rows
+module _ (text : List ℕ) (at₀ k₀ n : ℕ) where
+  -- some are read, and held at the front of an array
+  pub record RowsSoFar (rows : List Row) (at k i : ℕ) : Type 0 where
+    pub read : List Row
+    pub held : rows ≡ padded noRow read
+    pub many : length read ≡ i
+    pub within : i ≤ n
+    pub line : k ≡ k₀ + fieldCount * i
+    pub same : (ranked : Bool) (b : ℕ) → rowsFrom ranked (n - i) b read text at k ≡ rowsFrom ranked n b [] text at₀ k₀
 
--- ---- where the reading stands
-module _ (ranked : Bool) (text : List ℕ) where
-  -- with n lines left at most: at a stage, or over
-  pub data Stands (p : Progress) (at k : ℕ) : ℕ → Type 0 where
-    goes : (st : Stage) → Known ranked st → Writes ranked st p
-        → resume ranked text st at k ≡ readTable ranked text
-        → Stands p at k (linesLeft st)
-    over : p .ended ≡ true → readingOf p ≡ reading (readTable ranked text) → Stands p at k 0
+  pub rows-start : (rows : List Row) → rows ≡ padded noRow [] → RowsSoFar rows at₀ k₀ 0
+  rows-start rows e = record {
+    read = [];
+    held = e;
+    many = refl;
+    within = omega arith;
+    line = omega arith;
+    same = λ ranked b. ap (λ m. rowsFrom ranked m b [] text at₀ k₀) (omega arith);
+  }
 
-  pub first-stands : Stands (starting ranked) 0 1 maxLines
-  first-stands =
-      goes at-board tt (record { old = replicate fieldCount 0; six = refl; is = refl })
-      (sym (board-resumes ranked text 0 1))
+  module _ (rows : List Row) (at k i : ℕ) (so : RowsSoFar rows at k i) (more : i < n) (few : n ≤ maxTasks)
+      (r : RowRead) (is : r ≡ rowRead (fieldsFrom fieldCount 0 [] (take i rows) text at k)) where
+    -- what the definition says of the row that is read
+    abbrev x : Fields
+    x = row-is (so .read) text at k
 
-  pub last-stands : (p : Progress) (at k n : ℕ) → Stands p at k n → p .ended ≡ true
-      → readingOf p ≡ reading (readTable ranked text)
-  last-stands p at k n (goes st h w e) t =
-      absurd (true-not-false (p .ended) t (ap (λ q. q .ended) (w .is) ∙ goes-on st (w .old)))
-    where
-      goes-on : (s : Stage) (old : List ℕ) → written ranked s old .ended ≡ false
-      goes-on at-board old = refl
-      goes-on (at-tasks b) old = refl
-      goes-on (at-field m b rs vs) old = refl
-      goes-on (at-rank m b rs os) old = refl
-      goes-on (at-end b rs os) old = refl
-  last-stands p at k n (over t e) u = e
+    front : take i rows ≡ so .read
+    front = ap₂ take (sym (so .many)) (so .held) ∙ padded-front noRow (so .read)
 
-  -- ---- a turn
-  -- a line is taken in: the reading stands at another place, with fewer lines left
-  pub record Turned (n : ℕ) (q : Progress) (at k : ℕ) : Type 0 where
-    pub left : ℕ
-    pub stands : Stands q at k left
-    pub fewer : left < n
+    r-is : r ≡ rowRead x
+    r-is = is ∙ ap (λ rs. rowRead (row-is rs text at k)) front
 
-  abbrev Takes : ℕ → Progress → ℕ → ℕ → Line → Type 0
-  Takes n p at k l = Turned n (taken p l) (placeAfter l at k .offset) (placeAfter l at k .line)
+    -- the rows that are left
+    abbrev left : ℕ
+    left = n - (i + 1)
 
-  -- from a stage that is not the end
-  module _ (st : Stage) (h : Known ranked st) (old : List ℕ) (six : length (numbers st ++ old) ≡ fieldCount)
-      (at k : ℕ) (same : resume ranked text st at k ≡ readTable ranked text) (e : isEnd st ≡ false) where
-    abbrev p : Progress
-    p = written ranked st old
+    -- by the row's refusal
+    abbrev goes-by : Bool → ℕ → ℕ → Answer
+    goes-by ranked b refusal-is =
+        elim refusal-is [
+          | zero ↦ rowsFrom ranked left b (so .read ++ (rowOf (x .values) ∷ [])) text (x .offset) (x .line)
+          | suc m ↦ turnedDown (suc m) (x .line)
+        ]
 
-    abbrev here : Line
-    here = tested st k (stageLine ranked text st at k)
+    by-row : (ranked : Bool) (b : ℕ) → rowsFrom ranked (n - i) b (so .read) text at k ≡ goes-by ranked b (x .refused)
+    unfolding rowsFrom
+    by-row ranked b =
+        let one-less : n - i ≡ suc left = omega (arith, more) in
+        ap (λ m. rowsFrom ranked m b (so .read) text at k) one-less
 
-    answered : Answered (Passes st) here
-    answered = tested-answers st k _ (line-answers _ (lowOf st) (highOf st) text at k)
+    goes-on : x .refused ≡ 0 → (ranked : Bool) (b : ℕ)
+        → rowsFrom ranked (n - i) b (so .read) text at k
+        ≡ rowsFrom ranked left b (so .read ++ (rowOf (x .values) ∷ [])) text (x .offset) (x .line)
+    goes-on z ranked b = by-row ranked b ∙ ap (goes-by ranked b) z
 
-    takes : (l : Line) → here ≡ l → Answered (Passes st) l → Takes (linesLeft st) p at k l
-    takes l is (number v next n x) =
-        let q = withNumber (awaited st) p v in
-        subst (λ z. Turned (linesLeft st) z (placeAfter l at k .offset) (placeAfter l at k .line))
-        (taken-number p l v next (awaited st) n (sym (expected-awaited ranked old st h)))
-        (subst (λ to. Turned (linesLeft st) q (to .offset) (to .line)) (place-next l at k v next n)
-        (record {
-          left = linesLeft (after ranked st v);
-          stands = goes (after ranked st v) (after-known ranked st v h x e) (number-written ranked v st old six h x e)
-              (ap (resume ranked text (after ranked st v) next) (add-one k)
-              ∙ sym (on-number ranked text at k v next st h e)
-              ∙ sym (ap (onTested ranked text st at k) (is ∙ n))
-              ∙ same);
-          fewer = lines-fall ranked st v h x e;
-        }))
-    takes l is (refused n r) =
-        subst (λ z. Turned (linesLeft st) z (placeAfter l at k .offset) (placeAfter l at k .line))
-        (stops-refused p l (λ z. omega arith) ∙ taken-other p l (refused-no-number l n r))
-        (record {
-          left = 0;
-          stands = over refl
-              (ap (λ m. reading (turnedDown m (place l))) r
-              ∙ ap reading
-              (sym (on-refused ranked text at k l n r st e) ∙ sym (ap (onTested ranked text st at k) is) ∙ same));
-          fewer = some-left st;
-        })
+    stops-at : (m : ℕ) → x .refused ≡ suc m → (ranked : Bool) (b : ℕ)
+        → rowsFrom ranked (n - i) b (so .read) text at k ≡ turnedDown (suc m) (x .line)
+    stops-at m z ranked b = by-row ranked b ∙ ap (goes-by ranked b) z
 
-    due-here : (l : Line) → Answered (Passes st) l → (v next : ℕ) → l ≡ L.Number v next → Due (awaited st) p v
-    due-here l (number v next n x) w m y =
-        let value : v ≡ w = cc in subst (Due (awaited st) p) value (number-due ranked old v st six h x)
-    due-here l (refused n r) w m y = absurd (let z : suc n ≡ 0 = sym r ∙ ap refusal y in omega arith)
+    -- a row is refused, and with it the table
+    pub rows-stop : (r .refused ≡ 0 → ⊥) → (at′ : ℕ) (rows′ : List Row)
+        → RowsAre text at₀ k₀ n (record { refused = r .refused; line = r .line; offset = at′; rows = rows′ })
+    rows-stop z at′ rows′ = by-number (x .refused) refl
+      where
+        by-number : (m : ℕ) → x .refused ≡ m
+            → RowsAre text at₀ k₀ n (record { refused = r .refused; line = r .line; offset = at′; rows = rows′ })
+        by-number zero e = absurd (z (ap (λ q. q .refused) r-is ∙ e))
+        by-number (suc m) e =
+            rows-refused m (ap (λ q. q .refused) r-is ∙ e)
+            (λ ranked b.
+            sym (so .same ranked b) ∙ stops-at m e ranked b ∙ ap (λ q. turnedDown (suc m) (q .line)) (sym r-is))
 
-  -- from the end
-  end-takes : (b : ℕ) (rs : List Row) (os old : List ℕ) (at k : ℕ) → let st = at-end b rs os in
-      resume ranked text st at k ≡ readTable ranked text → Takes 1 (written ranked st old) at k (endAt text at k)
-  unfolding ranksFrom taken
-  end-takes b rs os old at k same =
-      let p = written ranked (at-end b rs os) old in
-      elim (test-of (ltb at (length text))) [
-        | inl t ↦ rw t (record { left = 0; stands = over refl (ap reading (rw t at same)); fewer = omega arith })
-        | inr t ↦ rw t (record { left = 0; stands = over refl (ap reading (rw t at same)); fewer = omega arith })
+    -- a row is put in its place
+    pub rows-next : r .refused ≡ 0 → RowsSoFar (set rows i (r .row)) (r .offset) (r .line) (i + 1)
+    rows-next z =
+        let none : x .refused ≡ 0 = sym (ap (λ q. q .refused) r-is) ∙ z in
+        let made = rowOf (x .values) in
+        let long = so .many in
+        record {
+          read = so .read ++ (made ∷ []);
+          held =
+              ap (λ q. set rows i (q .row)) r-is
+              ∙ ap₂ (λ qs j. set qs j made) (so .held) (sym long)
+              ∙ padded-next noRow made (so .read) (omega arith);
+          many = length-append (so .read) (made ∷ []) ∙ omega arith;
+          within = omega arith;
+          line = ap (λ q. q .line) r-is ∙ row-line (so .read) text at k none ∙ omega (arith, so .line);
+          same = λ ranked b.
+              ap (λ q. rowsFrom ranked left b (so .read ++ (made ∷ [])) text (q .offset) (q .line)) r-is
+              ∙ sym (goes-on none ranked b) ∙ so .same ranked b;
+        }
+
+  -- all are there
+  pub rows-end : (rows : List Row) (at k i : ℕ) → RowsSoFar rows at k i → n ≤ i
+      → RowsAre text at₀ k₀ n (record { refused = 0; line = k; offset = at; rows = rows })
+  unfolding rowsFrom
+  rows-end rows at k i so h =
+      let full : i ≡ n = omega (arith, so .within) in
+      let none : n - i ≡ 0 = omega arith in
+      rows-read (so .read) refl (so .many ∙ full) (so .held) (so .line ∙ ap (λ j. k₀ + fieldCount * j) full)
+      (λ ranked b.
+      sym (so .same ranked b)
+      ∙ ap (λ m. rowsFrom ranked m b (so .read) text at k) none
+      ∙ ap (λ m. ranksFrom (pick ranked m 0) b (so .read) [] text at k) (so .many ∙ full))
+
+-- ---- the rank lines
+module _ (rs : List Row) (os text : List ℕ) (at k : ℕ) where
+  -- a rank line names a task, or is refused
+  pub rank-read : Told (λ v. v ≤ maxTask) (rankAt rs os text at k)
+  rank-read =
+      elim (rank-told text at k) [
+        | number v next e w ↦
+            let answer = rank-number rs os text at k _ refl v next e in
+            elim (test-of (hasTask v rs && not (isIn v os))) [
+              | inl t ↦
+                  number v next (answer (hasTask v rs) (isIn v os) refl refl ∙ ap (λ b. pick b (L.Number v next) (L.Impossible k)) t)
+                  (within-true minTask maxTask v w .le-high)
+              | inr t ↦
+                  refused 5
+                  (ap refusal
+                  (answer (hasTask v rs) (isIn v os) refl refl ∙ ap (λ b. pick b (L.Number v next) (L.Impossible k)) t))
+            ]
+        | refused n r ↦
+            let l = lineAt (bytes "rank=") minTask maxTask text at k in
+            refused n (ap refusal (sym (rank-stops rs os text at k l refl (refused-no-number l n r))) ∙ r)
       ]
 
-  -- all that a turn asks and gives, at the line that is read
-  pub record Turn (p : Progress) (at k n : ℕ) (l : Line) : Type 0 where
-    pub few : Few p
-    pub due : LineDue p l
-    pub takes : Takes n p at k l
+module _ (text : List ℕ) (at₀ k₀ : ℕ) (rs : List Row) (n : ℕ) where
+  pub record RanksSoFar (tasks : List ℕ) (at k i : ℕ) : Type 0 where
+    pub read : List ℕ
+    pub held : tasks ≡ padded 0 read
+    pub many : length read ≡ i
+    pub within : i ≤ n
+    pub line : k ≡ k₀ + i
+    pub same : (b : ℕ) → ranksFrom (n - i) b rs read text at k ≡ ranksFrom n b rs [] text at₀ k₀
 
-  pub turn : (p : Progress) (at k n : ℕ) → Stands p at k n → p .ended ≡ false
-      → Turn p at k n (lineFor (expected p) p text at k)
-  turn p at k n (over t e) f = absurd (true-not-false (p .ended) t f)
-  turn p at k n (goes st h w same) f =
-      let q = written ranked st (w .old) in
-      subst (λ z. Turn z at k (linesLeft st) (lineFor (expected z) z text at k)) (sym (w .is))
-      (subst (λ x. Turn q at k (linesLeft st) (lineFor x q text at k))
-      (sym (expected-awaited ranked (w .old) st h))
-      (by-stage st h (w .old) (w .six) same))
-    where
-      turns : (s : Stage) (h : Known ranked s) (old : List ℕ) → length (numbers s ++ old) ≡ fieldCount
-          → resume ranked text s at k ≡ readTable ranked text → isEnd s ≡ false
-          → Turn (written ranked s old) at k (linesLeft s) (lineFor (awaited s) (written ranked s old) text at k)
-      turns s h old six same e =
-          let q = written ranked s old in
-          let l = here s h old six at k same e in
-          let a = answered s h old six at k same e in
-          subst (Turn q at k (linesLeft s)) (sym (line-tested ranked old s text at k e))
-          (record {
-            few = few-written ranked old s h;
-            due = λ v next y.
-                subst (λ z. Due z q v) (sym (expected-awaited ranked old s h))
-                (due-here s h old six at k same e l a v next y);
-            takes = takes s h old six at k same e l refl a;
-          })
+  pub ranks-start : RanksSoFar (padded 0 []) at₀ k₀ 0
+  ranks-start = record {
+    read = [];
+    held = refl;
+    many = refl;
+    within = omega arith;
+    line = omega arith;
+    same = λ b. ap (λ m. ranksFrom m b rs [] text at₀ k₀) (omega arith);
+  }
 
-      by-stage : (s : Stage) (h : Known ranked s) (old : List ℕ) → length (numbers s ++ old) ≡ fieldCount
-          → resume ranked text s at k ≡ readTable ranked text
-          → Turn (written ranked s old) at k (linesLeft s) (lineFor (awaited s) (written ranked s old) text at k)
-      by-stage at-board h old six same = turns at-board h old six same refl
-      by-stage (at-tasks b) h old six same = turns (at-tasks b) h old six same refl
-      by-stage (at-field m b rs vs) h old six same = turns (at-field m b rs vs) h old six same refl
-      by-stage (at-rank m b rs os) h old six same = turns (at-rank m b rs os) h old six same refl
-      by-stage (at-end b rs os) h old six same =
-          record {
-            few = few-written ranked old (at-end b rs os) h;
-            due = λ v next y.
-                subst (λ z. Due z (written ranked (at-end b rs os) old) v)
-                (sym (expected-awaited ranked old (at-end b rs os) h)) tt;
-            takes = end-takes b rs os old at k same;
-          }
+  module _ (tasks : List ℕ) (at k i : ℕ) (so : RanksSoFar tasks at k i) (more : i < n) (few : n ≤ maxTasks)
+      (r : RankRead) (is : r ≡ rankRead (rankAt rs (take i tasks) text at k) k) where
+    abbrev here : Line
+    here = rankAt rs (so .read) text at k
+
+    named : r ≡ rankRead here k
+    named =
+        is
+        ∙ ap (λ os. rankRead (rankAt rs os text at k) k)
+        (ap₂ take (sym (so .many)) (so .held) ∙ padded-front 0 (so .read))
+
+    -- the rank lines that are left
+    abbrev ranks-left : ℕ
+    ranks-left = n - (i + 1)
+
+    by-rank : (b : ℕ) → ranksFrom (n - i) b rs (so .read) text at k
+        ≡ onNumber here (λ v next. ranksFrom ranks-left b rs (so .read ++ (v ∷ [])) text next (suc k))
+        (turnedDown (refusal here) (place here))
+    unfolding ranksFrom
+    by-rank b =
+        let one-less : n - i ≡ suc ranks-left = omega (arith, more) in
+        ap (λ m. ranksFrom m b rs (so .read) text at k) one-less
+
+    pub ranks-stop : (r .refused ≡ 0 → ⊥) → (at′ : ℕ) (tasks′ : List ℕ)
+        → RanksAre text at₀ k₀ rs n (record { refused = r .refused; line = r .line; offset = at′; tasks = tasks′ })
+    ranks-stop z at′ tasks′ =
+        elim (rank-read rs (so .read) text at k) [
+          | number v next e w ↦ absurd (z (ap (λ q. q .refused) (named ∙ ap (λ l. rankRead l k) e)))
+          | refused m e ↦
+              let none = refused-no-number here m e in
+              let r-is = named ∙ no-number here _ _ none in
+              ranks-refused m (ap (λ q. q .refused) r-is ∙ e)
+              (λ b.
+              sym (so .same b) ∙ by-rank b ∙ no-number here _ _ none
+              ∙ ap₂ turnedDown e (sym (ap (λ q. q .line) r-is)))
+        ]
+
+    pub ranks-next : r .refused ≡ 0 → RanksSoFar (set tasks i (r .task)) (r .offset) (r .line) (i + 1)
+    ranks-next z =
+        elim (rank-read rs (so .read) text at k) [
+          | number v next e w ↦
+              let r-is = named ∙ ap (λ l. rankRead l k) e in
+              let long = so .many in
+              record {
+                read = so .read ++ (v ∷ []);
+                held =
+                    ap (λ q. set tasks i (q .task)) r-is
+                    ∙ ap₂ (λ qs j. set qs j v) (so .held) (sym long)
+                    ∙ padded-next 0 v (so .read) (omega arith);
+                many = length-append (so .read) (v ∷ []) ∙ omega arith;
+                within = omega arith;
+                line = ap (λ q. q .line) r-is ∙ omega (arith, so .line);
+                same = λ b.
+                    ap (λ q. ranksFrom ranks-left b rs (so .read ++ (v ∷ [])) text (q .offset) (q .line)) r-is
+                    ∙ ap (ranksFrom ranks-left b rs (so .read ++ (v ∷ [])) text next) (add-one k)
+                    ∙ sym
+                    (by-rank b
+                    ∙ ap (λ l. onNumber l (λ u to. ranksFrom ranks-left b rs (so .read ++ (u ∷ [])) text to (suc k))
+                    (turnedDown (refusal here) (place here))) e)
+                    ∙ so .same b;
+              }
+          | refused m e ↦
+              let none = refused-no-number here m e in
+              absurd (let y : suc m ≡ 0 = sym e ∙ sym (ap (λ q. q .refused) (named ∙ no-number here _ _ none)) ∙ z in omega arith)
+        ]
+
+  pub ranks-end : (tasks : List ℕ) (at k i : ℕ) → RanksSoFar tasks at k i → n ≤ i
+      → RanksAre text at₀ k₀ rs n (record { refused = 0; line = k; offset = at; tasks = tasks })
+  ranks-end tasks at k i so h =
+      let full : i ≡ n = omega (arith, so .within) in
+      let none : n - i ≡ 0 = omega arith in
+      ranks-read (so .read) refl (so .many ∙ full) (so .held)
+      (λ b. sym (so .same b) ∙ ap (λ m. ranksFrom m b rs (so .read) text at k) none)
+
+-- ---- the sections of a table, one after another
+pub record RowsPass (text : List ℕ) (at k n : ℕ) (r : RowsRead) : Type 0 where
+  pub read : List Row
+  pub long : length read ≡ n
+  pub held : r .rows ≡ padded noRow read
+  pub line : r .line ≡ k + fieldCount * n
+  pub same : (ranked : Bool) (b : ℕ)
+      → rowsFrom ranked n b [] text at k ≡ ranksFrom (pick ranked n 0) b read [] text (r .offset) (r .line)
+
+module _ {text : List ℕ} {at k n : ℕ} {r : RowsRead} (are : RowsAre text at k n r) where
+  pub rows-turned : (r .refused ≡ 0 → ⊥) → (ranked : Bool) (b : ℕ)
+      → rowsFrom ranked n b [] text at k ≡ turnedDown (r .refused) (r .line)
+  rows-turned z ranked b =
+      elim are [
+        | rows-refused m e f ↦ f ranked b ∙ ap (λ j. turnedDown j (r .line)) (sym e)
+        | rows-read rs e l h o f ↦ absurd (z e)
+      ]
+
+  pub rows-pass : r .refused ≡ 0 → RowsPass text at k n r
+  rows-pass z =
+      elim are [
+        | rows-refused m e f ↦ absurd (let y : suc m ≡ 0 = sym e ∙ z in omega arith)
+        | rows-read rs e l h o f ↦ record { read = rs; long = l; held = h; line = o; same = f }
+      ]
+
+pub record RanksPass (text : List ℕ) (at k : ℕ) (rs : List Row) (n : ℕ) (r : RanksRead) : Type 0 where
+  pub read : List ℕ
+  pub long : length read ≡ n
+  pub held : r .tasks ≡ padded 0 read
+  pub same : (b : ℕ) → ranksFrom n b rs [] text at k ≡ ranksFrom 0 b rs read text (r .offset) (r .line)
+
+module _ {text : List ℕ} {at k : ℕ} {rs : List Row} {n : ℕ} {r : RanksRead} (are : RanksAre text at k rs n r) where
+  pub ranks-turned : (r .refused ≡ 0 → ⊥) → (b : ℕ)
+      → ranksFrom n b rs [] text at k ≡ turnedDown (r .refused) (r .line)
+  ranks-turned z b =
+      elim are [
+        | ranks-refused m e f ↦ f b ∙ ap (λ j. turnedDown j (r .line)) (sym e)
+        | ranks-read os e l h f ↦ absurd (z e)
+      ]
+
+  pub ranks-pass : r .refused ≡ 0 → RanksPass text at k rs n r
+  ranks-pass z =
+      elim are [
+        | ranks-refused m e f ↦ absurd (let y : suc m ≡ 0 = sym e ∙ z in omega arith)
+        | ranks-read os e l h f ↦ record { read = os; long = l; held = h; same = f }
+      ]
+
+-- nothing stands after the last line
+module _ (b : ℕ) (rs : List Row) (os text : List ℕ) (at k : ℕ) where
+  abbrev end : Line
+  end = endAt text at k
+
+  pub end-turned : (refusal end ≡ 0 → ⊥) → ranksFrom 0 b rs os text at k ≡ turnedDown (refusal end) (place end)
+  unfolding ranksFrom
+  end-turned z =
+      elim (test-of (ltb at (length text))) [
+        | inl t ↦ rw t
+        | inr t ↦ absurd (z (ap (λ m. refusal (pick m (L.Missing k) L.End)) t))
+      ]
+
+  pub end-passes : refusal end ≡ 0 → ranksFrom 0 b rs os text at k ≡ accepted b rs os
+  unfolding ranksFrom
+  end-passes z =
+      elim (test-of (ltb at (length text))) [
+        | inl t ↦ absurd (let y : 1 ≡ 0 = sym (ap (λ m. refusal (pick m (L.Missing k) L.End)) t) ∙ z in omega arith)
+        | inr t ↦ rw t
+      ]
+
+-- the table by value
+pub table-is : (b n m : ℕ) (rs rows : List Row) (os tasks : List ℕ) → length rs ≡ n → rows ≡ padded noRow rs
+    → length os ≡ m → tasks ≡ padded 0 os
+    → record {
+      refused = 0;
+      line = 0;
+      table = record { board = b; rows = rows; count = n };
+      order = record { tasks = tasks; count = m };
+    } ≡ reading (accepted b rs os)
+table-is b n m rs rows os tasks long held many named =
+    ap₂ (λ (i : ℕ) (qs : List Row). of i qs m tasks) (sym long) held
+    ∙ ap₂ (λ (i : ℕ) (ts : List ℕ). of (length rs) (padded noRow rs) i ts) (sym many) named
+  where
+    of : ℕ → List Row → ℕ → List ℕ → Reading
+    of i qs j ts = record {
+      refused = 0;
+      line = 0;
+      table = record { board = b; rows = qs; count = i };
+      order = record { tasks = ts; count = j };
+    }

@@ -4,3 +4,4 @@ pub mod Reasons
 pub mod Claims
 pub mod Readings
 pub mod Steps
+pub mod Sections

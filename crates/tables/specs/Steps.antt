@@ -1,169 +1,127 @@
--- The reader's progress through a table, and what one line makes of it.
+-- The reader's progress through a part of a table, and what one line makes of it.
 use mathlib.Core.Path.{_≡_}
-use mathlib.Core.Bool.{Bool, true, false, _&&_}
-use mathlib.Core.List.{List}
-use Prim.Native.Nat.{ℕ, _+_, _≤_, _<_}
-use lib.Dec.{eqb, ltb}
-use lib.ListN.{take, set, replicate}
+use mathlib.Core.Bool.{Bool, true, false}
+use mathlib.Core.List.{List, []}
+use Prim.Native.Nat.{ℕ, zero, suc, _+_, _-_, _≤_, _<_}
+use lib.Dec.{ltb, leb}
 use Rattle.basics.specs.Basics.{pick}
 use Rattle.text.specs.Text.{bytes}
-use Rattle.text.specs.Lines.{lineAt, endAt, refusal, place, onNumber}
+use Rattle.text.specs.Lines.{lineAt, refusal, place, onNumber}
 use Rattle.text.specs.declared.Line.{Line}
 use Rattle.text.specs.declared.Line.the-variants as L
-use Rattle.rows.specs.Rows.{maxTask, minTasks, maxTasks, inRange, noRow}
-use Rattle.rows.specs.declared.Row.{Row}
-use Rattle.tables.specs.declared.Reading.{Reading}
-use Rattle.tables.specs.declared.progress.Expected.{Expected}
-use Rattle.tables.specs.declared.progress.Expected.the-variants as E
+use Rattle.rows.specs.Rows.{minTask, maxTask, minTasks, maxTasks}
+use Rattle.tables.specs.declared.progress.Numbers.{Numbers}
+use Rattle.tables.specs.declared.progress.Part.{Part}
+use Rattle.tables.specs.declared.progress.Part.the-variants as P
 use Rattle.tables.specs.declared.progress.Progress.{Progress}
 use Rattle.tables.specs.declared.reader.Place.{Place}
 use Rattle.tables.specs.declared.reader.Reader.{Reader}
-use Rattle.tables.specs.Tables.{minBoard, maxBoard, fieldCount, fieldAt, rankAt, rowOf}
+use Rattle.tables.specs.Tables.{minBoard, maxBoard, keyAt, lowAt, highAt}
 
--- a progress of its fields
-abbrev pub progress : Bool → Bool → ℕ → ℕ → ℕ → ℕ → ℕ → List ℕ → ℕ → List Row → ℕ → List ℕ → Progress
-progress ended ranked refused line board tasks position values count rows named order =
-    record {
-      ended = ended;
-      ranked = ranked;
-      refused = refused;
-      line = line;
-      board = board;
-      tasks = tasks;
-      position = position;
-      values = values;
-      count = count;
-      rows = rows;
-      named = named;
-      order = order;
-    }
+-- how many lines a part has
+abbrev pub partSize : Part → ℕ
+partSize P.Head = 2
+partSize P.Task = 1
+partSize P.Rest = 5
+partSize P.Rank = 1
 
--- nothing read
-abbrev pub nothingRead : Bool → Bool → ℕ → ℕ → Progress
-nothingRead ended ranked n k =
-    progress ended ranked n k 0 0 0 (replicate fieldCount 0) 0 (replicate maxTasks noRow) 0 (replicate maxTasks 0)
-
--- before the first line
-abbrev pub starting : Bool → Progress
-starting ranked = nothingRead false ranked 0 0
-
--- a refusal with its line
-abbrev pub stopped : ℕ → ℕ → Progress
-stopped n k = nothingRead true false n k
-
--- the rows and the ranks so far
-abbrev pub rowsOf : Progress → List Row
-rowsOf p = take (p .count) (p .rows)
-
-abbrev pub ranksOf : Progress → List ℕ
-ranksOf p = take (p .named) (p .order)
-
--- they stand within their arrays
-pub record Few (p : Progress) : Type 0 where
-  pub rows : p .count ≤ maxTasks
-  pub ranks : p .named ≤ maxTasks
-
--- what the next line is to be
-unfoldable pub expected : Progress → Expected
-expected p =
-    pick (eqb (p .board) 0) E.Board
-    (pick (eqb (p .tasks) 0) E.Tasks
-    (pick (ltb (p .count) (p .tasks)) (E.Field (p .position))
-    (pick (p .ranked && ltb (p .named) (p .tasks)) E.Rank E.End)))
-
--- the line that is expected
-abbrev pub lineFor : Expected → Progress → List ℕ → ℕ → ℕ → Line
-lineFor E.Board p text at k = lineAt (bytes "board=") minBoard maxBoard text at k
-lineFor E.Tasks p text at k = lineAt (bytes "tasks=") minTasks maxTasks text at k
-lineFor (E.Field i) p text at k = fieldAt i (take i (p .values)) (rowsOf p) text at k
-lineFor E.Rank p text at k = rankAt (rowsOf p) (ranksOf p) text at k
-lineFor E.End p text at k = endAt text at k
-
--- the number of the expected line is taken in
-abbrev pub withBoard : Progress → ℕ → Progress
-withBoard p v =
-    progress (p .ended) (p .ranked) (p .refused) (p .line) v (p .tasks)
-    (p .position) (p .values) (p .count) (p .rows) (p .named) (p .order)
-
-abbrev pub withTasks : Progress → ℕ → Progress
-withTasks p v =
-    progress (p .ended) (p .ranked) (p .refused) (p .line) (p .board) v
-    (p .position) (p .values) (p .count) (p .rows) (p .named) (p .order)
-
-abbrev pub withField : Progress → ℕ → ℕ → Progress
-withField p i v =
-    let vs = set (p .values) i v in
-    pick (ltb (i + 1) fieldCount)
-    (progress (p .ended) (p .ranked) (p .refused) (p .line) (p .board) (p .tasks)
-    (i + 1) vs (p .count) (p .rows) (p .named) (p .order))
-    (progress (p .ended) (p .ranked) (p .refused) (p .line) (p .board) (p .tasks)
-    0 vs (p .count + 1) (set (p .rows) (p .count) (rowOf vs)) (p .named) (p .order))
-
-abbrev pub withRank : Progress → ℕ → Progress
-withRank p v =
-    progress (p .ended) (p .ranked) (p .refused) (p .line) (p .board) (p .tasks)
-    (p .position) (p .values) (p .count) (p .rows) (p .named + 1) (set (p .order) (p .named) v)
-
--- the end of the text
-abbrev pub ended : Progress → Progress
-ended p =
-    progress true (p .ranked) (p .refused) (p .line) (p .board) (p .tasks)
-    (p .position) (p .values) (p .count) (p .rows) (p .named) (p .order)
-
--- by what was expected
-abbrev pub withNumber : Expected → Progress → ℕ → Progress
-withNumber E.Board p v = withBoard p v
-withNumber E.Tasks p v = withTasks p v
-withNumber (E.Field i) p v = withField p i v
-withNumber E.Rank p v = withRank p v
-withNumber E.End p v = ended p
-
--- any other answer ends the reading
-abbrev pub stoppedAt : Progress → Line → Progress
-stoppedAt p l = pick (eqb (refusal l) 0) (ended p) (stopped (refusal l) (place l))
-
--- a line is taken in
-unfoldable pub taken : Progress → Line → Progress
-taken p l = onNumber l (λ v next. withNumber (expected p) p v) (stoppedAt p l)
-
--- what a number must be to be taken in
-abbrev pub Due : Expected → Progress → ℕ → Type 0
-Due E.Board p v = v ≤ maxBoard
-Due E.Tasks p v = Unit {0}
-Due (E.Field i) p v =
-    (i < fieldCount) × (p .count < maxTasks)
-    × (i + 1 ≡ fieldCount → inRange (rowOf (set (p .values) i v)) ≡ true)
-Due E.Rank p v = (p .named < maxTasks) × (v ≤ maxTask)
-Due E.End p v = Unit {0}
-
--- and a line
-abbrev pub LineDue : Progress → Line → Type 0
-LineDue p l = (v next : ℕ) → l ≡ L.Number v next → Due (expected p) p v
-
--- two lines, twelve rows of six, twelve ranks, and one too many
+-- two lines, twelve rows of six, twelve ranks, and the line after them
 abbrev pub maxLines : ℕ
 maxLines = 87
 
+-- ---- the numbers of a part
+abbrev pub numbers : ℕ → ℕ → ℕ → ℕ → ℕ → Numbers
+numbers a b c d e = record { first = a; second = b; third = c; fourth = d; fifth = e }
+
+abbrev pub withNumber : Numbers → ℕ → ℕ → Numbers
+withNumber n zero v = numbers v (n .second) (n .third) (n .fourth) (n .fifth)
+withNumber n (suc zero) v = numbers (n .first) v (n .third) (n .fourth) (n .fifth)
+withNumber n (suc (suc zero)) v = numbers (n .first) (n .second) v (n .fourth) (n .fifth)
+withNumber n (suc (suc (suc zero))) v = numbers (n .first) (n .second) (n .third) v (n .fifth)
+withNumber n (suc (suc (suc (suc i)))) v = numbers (n .first) (n .second) (n .third) (n .fourth) v
+
+-- ---- the line that is expected, by its position
+-- a number past another is refused
+unfoldable pub atMost : ℕ → Line → ℕ → Line
+atMost limit l k = onNumber l (λ v next. pick (ltb limit v) (L.Exceeds k) l) l
+
+-- the line of a row's number, by its position in the row
+abbrev pub keyedAt : ℕ → List ℕ → ℕ → ℕ → Line
+keyedAt i text at k = lineAt (keyAt i) (lowAt i) (highAt i) text at k
+
+abbrev pub headAt : ℕ → List ℕ → ℕ → ℕ → Line
+headAt zero text at k = lineAt (bytes "board=") minBoard maxBoard text at k
+headAt (suc i) text at k = lineAt (bytes "tasks=") minTasks maxTasks text at k
+
+-- after a row's task: the worst time is at most the period, the best at most the worst
+abbrev pub restAt : ℕ → Numbers → List ℕ → ℕ → ℕ → Line
+restAt zero n text at k = keyedAt 1 text at k
+restAt (suc zero) n text at k = atMost (n .first) (keyedAt 2 text at k) k
+restAt (suc (suc zero)) n text at k = atMost (n .second) (keyedAt 3 text at k) k
+restAt (suc (suc (suc zero))) n text at k = keyedAt 4 text at k
+restAt (suc (suc (suc (suc i)))) n text at k = keyedAt 5 text at k
+
+abbrev pub partLine : Part → ℕ → Numbers → List ℕ → ℕ → ℕ → Line
+partLine P.Head i n text at k = headAt i text at k
+partLine P.Task i n text at k = keyedAt 0 text at k
+partLine P.Rest i n text at k = restAt i n text at k
+partLine P.Rank i n text at k = lineAt (bytes "rank=") minTask maxTask text at k
+
+abbrev pub lineFor : Progress → List ℕ → ℕ → ℕ → Line
+lineFor p text at k = partLine (p .part) (p .count) (p .numbers) text at k
+
+-- ---- progress
+abbrev pub progress : Part → Bool → ℕ → ℕ → ℕ → ℕ → Numbers → Progress
+progress part ended refused line offset count ns =
+    record {
+      part = part;
+      ended = ended;
+      refused = refused;
+      line = line;
+      offset = offset;
+      count = count;
+      numbers = ns;
+    }
+
+abbrev pub started : Part → ℕ → ℕ → Progress
+started part at k = progress part false 0 k at 0 (numbers 0 0 0 0 0)
+
+-- a line is taken in: its number after those before it, and anything else is a refusal
+unfoldable pub taken : Progress → Line → Progress
+taken p l =
+    onNumber l
+    (λ v next.
+    progress (p .part) (leb (partSize (p .part)) (p .count + 1)) 0 (p .line + 1) next (p .count + 1)
+    (withNumber (p .numbers) (p .count) v))
+    (progress (p .part) true (refusal l) (place l) (p .offset) (p .count) (p .numbers))
+
+-- a part that has lines left
+pub record Ready (p : Progress) : Type 0 where
+  pub goes-on : p .ended ≡ false
+  pub lines-left : p .count < partSize (p .part)
+  pub room : p .line + (partSize (p .part) - p .count) ≤ maxLines
+
+-- its n lines that are left, up to a refusal
+unfoldable pub readFrom : ℕ → List ℕ → Progress → Progress
+readFrom zero text p = p
+readFrom (suc n) text p =
+    let l = lineFor p text (p .offset) (p .line) in
+    onNumber l (λ v next. readFrom n text (taken p l)) (taken p l)
+
+abbrev pub readPart : List ℕ → Progress → Progress
+readPart text p = readFrom (partSize (p .part) - p .count) text p
+
+-- ---- the reader
 -- the offset and the line number after a line
 abbrev pub placeAfter : Line → ℕ → ℕ → Place
 placeAfter l at k = onNumber l (λ v next. record { offset = next; line = k + 1 }) (record { offset = at; line = k })
 
 -- the expected line, where a reader stands
 abbrev pub lineHere : Reader → Progress → Line
-lineHere r p = lineFor (expected p) p (r .text .now) (r .offset) (r .line)
+lineHere r p = lineFor p (r .text .now) (r .offset) (r .line)
 
 -- the reader past a line
 abbrev pub passed : Reader → Line → Reader
 passed r l =
     let to = placeAfter l (r .offset) (r .line) in
     record { text = r .text; offset = to .offset; line = to .line }
-
--- what a progress says, by value
-abbrev pub readingOf : Progress → Reading
-readingOf p =
-    record {
-      refused = p .refused;
-      line = p .line;
-      table = record { board = p .board; rows = p .rows; count = p .count };
-      order = record { tasks = p .order; count = p .named };
-    }

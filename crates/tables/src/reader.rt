@@ -1,9 +1,7 @@
 // The reader walks the lent text line by line and remembers how far it has come.
 ghost use mathlib.Core.Path.{_≡_};
 ghost use Prim.Native.Nat.{_≤_};
-ghost use Rattle.tables.specs.Steps.{Few, maxLines, placeAfter, lineHere, passed, readingOf};
-ghost use Rattle.tables.specs.Readings.{reading};
-ghost use Rattle.tables.specs.Tables.{readTable};
+ghost use Rattle.tables.specs.Steps.{maxLines, Ready, placeAfter, lineHere, passed, readPart};
 use super::lines::expected_line;
 use super::progress::Progress;
 use text::Line;
@@ -36,19 +34,19 @@ fn place_after(answer: Line, offset: usize, line: u32) -> Place
 }
 
 impl<'a> Reader<'a> {
-    fn new(text: &'a [u8]) -> Reader<'a>
-        ensures { λ r. ⌜ r ≡ record { text = text .entry; offset = 0; line = 1 } ⌝ }
+    // A reader where a part begins.
+    fn at(text: &'a [u8], p: Progress) -> Reader<'a>
+        ensures { λ r. ⌜ r ≡ record { text = text .entry; offset = p .offset; line = p .line } ⌝ }
     {
         Reader {
             text,
-            offset: 0,
-            line: 1,
+            offset: p.offset,
+            line: p.line,
         }
     }
 
     // The expected line, where the reader stands.
     fn line_here(self, p: Progress) -> Line
-        requires { ⌜ Few p ⌝ }
         ensures { λ r. ⌜ r ≡ lineHere (self .entry) p ⌝ }
     {
         expected_line(self.text, self.offset, self.line, p)
@@ -68,12 +66,13 @@ impl<'a> Reader<'a> {
     }
 }
 
-// Reads the whole text, line by line.
-pub fn read_lines(text: &[u8], ranked: bool) -> Progress
-    ensures { λ p. ⌜ readingOf p ≡ reading (readTable ranked (now (text .entry))) ⌝ }
+// Reads a part, line by line.
+pub fn read_lines(text: &[u8], start: Progress) -> Progress
+    requires { ⌜ Ready start ⌝ }
+    ensures { λ p. ⌜ p ≡ readPart (now (text .entry)) start ⌝ }
 {
-    let mut r = Reader::new(text);
-    let mut p = Progress::started(ranked);
+    let mut r = Reader::at(text, start);
+    let mut p = start;
     while !p.ended {
         let answer = r.line_here(p);
         p = p.with_line(answer);

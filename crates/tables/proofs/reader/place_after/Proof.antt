@@ -1,6 +1,6 @@
 -- `tables::reader::place_after` meets its contract: each return is a law of `placeAfter`.
 use borrow.Author.Needs.{needs}
-use Rattle.tables.proofs.Taken.{place-stays, place-next}
+use Rattle.tables.proofs.Steps.{place-stays, place-next}
 use Rattle.tables.proofs.reader.place_after.Statement.{statement}
 use Rattle.tables.proofs.reader.place_after.Tie as tie
 

@@ -9,8 +9,8 @@ use borrow.Author.Needs.{needs}
 use borrow.Author.Tests.{eq-eqb, ne-eqb}
 use Rattle.basics.specs.Basics.{isIn}
 use Rattle.tables.proofs.Seeks.{found, passed-over, none-left}
-use Rattle.tables.proofs.lines.is_in.Statement.{statement}
-use Rattle.tables.proofs.lines.is_in.Tie as tie
+use Rattle.tables.proofs.sections.is_in.Statement.{statement}
+use Rattle.tables.proofs.sections.is_in.Tie as tie
 
 abbrev Inv-loop : tie.InvT-loop
 Inv-loop task count order i₀ i =

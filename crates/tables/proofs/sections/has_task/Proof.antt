@@ -11,8 +11,8 @@ use borrow.Author.Tests.{eq-eqb, ne-eqb}
 use Rattle.rows.specs.Rows.{hasTask, noRow}
 use Rattle.rows.specs.declared.Row.{Row}
 use Rattle.tables.proofs.Seeks.{found, passed-over, none-left}
-use Rattle.tables.proofs.lines.has_task.Statement.{statement}
-use Rattle.tables.proofs.lines.has_task.Tie as tie
+use Rattle.tables.proofs.sections.has_task.Statement.{statement}
+use Rattle.tables.proofs.sections.has_task.Tie as tie
 
 abbrev Inv-loop : tie.InvT-loop
 Inv-loop task count rows i₀ i =

@@ -1,0 +1,145 @@
+-- `tables::sections::read_rank` meets its contract: its line, and the tests against the rows and the ranks before.
+use mathlib.Core.Path.{_≡_, refl, sym, ap, ap₂, _∙_}
+use mathlib.Core.Bool.{Bool, _&&_, not}
+use mathlib.Core.List.{List}
+use Prim.Native.Nat.{ℕ}
+use native.Mathlib.Omega.{arith}
+use lib.ListN.{take}
+use borrow.Author.Needs.{needs}
+use Rattle.basics.specs.Basics.{pick}
+use Rattle.basics.proofs.Tests.{within-true}
+use Rattle.text.specs.declared.Line.{Line}
+use Rattle.text.specs.declared.Line.the-variants as L
+use Rattle.rows.specs.Rows.{minTask, maxTask}
+use Rattle.rows.specs.declared.Row.{Row}
+use Rattle.tables.specs.declared.progress.Part.the-variants as P
+use Rattle.tables.specs.declared.progress.Progress.{Progress}
+use Rattle.tables.specs.Tables.{rankAt}
+use Rattle.tables.specs.Sections.{stoppedRank, rankRead}
+use Rattle.tables.proofs.Fields.{no-number, refused-no-number, rank-stops, rank-number}
+use Rattle.tables.proofs.Parts.{TaskRead, task-read, task-refused, rank-line, rank-told}
+use Rattle.tables.proofs.sections.read_rank.Statement.{statement}
+use Rattle.tables.proofs.sections.read_rank.Tie as tie
+
+-- ---- the call, from where its line is read
+module _ (c : tie.After-read-part) where
+  abbrev start : tie.Start
+  start = c .before .before
+
+  abbrev rs : List Row
+  rs = take (start .args .count) (start .args .rows)
+
+  abbrev os : List ℕ
+  os = take (start .args .named) (start .args .order)
+
+  abbrev read : Progress
+  read = c .read-part .result
+
+  abbrev defined : Line
+  defined = let a = start .args in rankAt rs os (a .text .now) (a .offset) (a .line)
+
+  line-read : read .refused ≡ 0
+      → let a = start .args in
+      TaskRead P.Rank refl (a .text .now) (a .offset) (a .line) (rank-told (a .text .now) (a .offset) (a .line)) read
+      (c .read-part .ensures)
+  line-read =
+      let a = start .args in
+      task-read P.Rank refl (a .text .now) (a .offset) (a .line) (rank-told (a .text .now) (a .offset) (a .line)) read
+      (c .read-part .ensures)
+
+-- ---- and from where both tests are made
+module _ (c : tie.After-is-in) where
+  abbrev first : tie.After-read-part
+  first = c .before .before .before .before
+
+  abbrev passes : TaskRead P.Rank refl (start first .args .text .now) (start first .args .offset) (start first .args .line)
+      (rank-told (start first .args .text .now) (start first .args .offset) (start first .args .line)) (read first)
+      (first .read-part .ensures)
+  passes = line-read first (c .before .before .if1 .left)
+
+  by-tests : let known = c .before .has-task .result in
+      let again = c .is-in .result in
+      defined first ≡ pick (known && not again) (L.Number (read first .numbers .first) (read first .offset))
+      (L.Impossible (start first .args .line))
+  by-tests =
+      let a = start first .args in
+      rank-number (rs first) (os first) (a .text .now) (a .offset) (a .line) _ refl (read first .numbers .first)
+      (read first .offset) (passes .line-is) (c .before .has-task .result) (c .is-in .result)
+      (sym (c .before .has-task .ensures)) (sym (c .is-in .ensures))
+
+read-part-requires : tie.Need-read-part-requires
+read-part-requires c κs = search needs
+
+stopped-requires : tie.Need-stopped-requires
+stopped-requires c κs = search needs
+
+returns : tie.Need-returns
+returns c =
+    let f = c .before .before .before in
+    let a = start f .args in
+    let l = rank-line (a .text .now) (a .offset) (a .line) in
+    let t = task-refused P.Rank refl (a .text .now) (a .offset) (a .line)
+    (rank-told (a .text .now) (a .offset) (a .line)) (read f) (f .read-part .ensures) (c .before .if1 .taken) in
+    let none = refused-no-number l (t .number) (t .refusal-is) in
+    c .stopped .ensures
+    ∙ ap₂ stoppedRank (t .refused ∙ sym (t .refusal-is)) (t .line)
+    ∙ sym (no-number l _ _ none)
+    ∙ ap (λ x. rankRead x (a .line)) (rank-stops (rs f) (os f) (a .text .now) (a .offset) (a .line) l refl none)
+
+has-task-requires : tie.Need-has-task-requires
+has-task-requires c κs = search needs
+
+is-in-requires : tie.Need-is-in-requires
+is-in-requires c κs = search needs
+
+cast-t16 : tie.Need-cast-t16
+cast-t16 c =
+    let i = c .before in
+    omega (arith, within-true minTask maxTask (read (first i) .numbers .first) (passes i .in-range) .le-high)
+
+returns-2 : tie.Need-returns-2
+returns-2 c =
+    let i = c .before in
+    let f = first i in
+    let p = read f in
+    let k = start f .args .line in
+    let named = L.Number (p .numbers .first) (p .offset) in
+    ap (λ j. record { refused = 0; line = j; offset = p .offset; task = p .numbers .first }) (passes i .next-line)
+    ∙ sym (ap (λ x. rankRead x k) (by-tests i ∙ ap (λ b. pick b named (L.Impossible k)) (c .if2 .taken)))
+
+refusal-of-requires : tie.Need-refusal-of-requires
+refusal-of-requires c κs = search needs
+
+place-of-requires : tie.Need-place-of-requires
+place-of-requires c κs = search needs
+
+stopped-requires-2 : tie.Need-stopped-requires-2
+stopped-requires-2 c κs = search needs
+
+returns-3 : tie.Need-returns-3
+returns-3 c =
+    let e = c .before .before .before in
+    let i = e .before in
+    let f = first i in
+    let p = read f in
+    let k = start f .args .line in
+    let named = L.Number (p .numbers .first) (p .offset) in
+    c .stopped2 .ensures
+    ∙ ap₂ stoppedRank (c .before .before .refusal-of .ensures) (c .before .place-of .ensures)
+    ∙ sym (ap (λ x. rankRead x k) (by-tests i ∙ ap (λ b. pick b named (L.Impossible k)) (e .if2 .left)))
+
+pub read-rank-spec : {M : Type 1} → statement M
+read-rank-spec =
+    tie.close
+    (tie.spec
+    read-part-requires
+    stopped-requires
+    returns
+    has-task-requires
+    is-in-requires
+    cast-t16
+    returns-2
+    refusal-of-requires
+    place-of-requires
+    stopped-requires-2
+    returns-3)

@@ -1,0 +1,83 @@
+-- `tables::sections::read_ranks` meets its contract. Invariant: the tasks named so far stand at the front of the array,
+-- and the table's reading goes on after them (`RanksSoFar`).
+use Prim.Native.Nat.{_-_}
+use native.Mathlib.Omega.{arith}
+use lib.ListN.{take}
+use borrow.Author.Needs.{needs}
+use Rattle.tables.proofs.Turns.{RanksSoFar, ranks-start, ranks-stop, ranks-next, ranks-end}
+use Rattle.tables.proofs.sections.read_ranks.Statement.{statement}
+use Rattle.tables.proofs.sections.read_ranks.Tie as tie
+
+abbrev Inv-loop : tie.InvT-loop
+Inv-loop text offset line rows count ranks tasks₀ at₀ below₀ i₀ tasks at below i =
+    RanksSoFar text offset line (take count rows) ranks tasks at below i
+
+abbrev μ-loop : tie.MeasureT-loop
+μ-loop text offset line rows count ranks tasks₀ at₀ below₀ i₀ tasks at below i = ranks - i
+
+loop-holds : tie.Need-loop-holds Inv-loop μ-loop
+loop-holds c =
+    let a = c .before .args in
+    ranks-start (a .text .now) (a .offset) (a .line) (take (a .count) (a .rows)) (a .ranks)
+
+read-rank-requires : tie.Need-read-rank-requires Inv-loop μ-loop
+read-rank-requires c κs =
+    let s = c .before .before .before in
+    let x = c .before .loop in (
+      s .pre .0,
+      omega (arith, x .inv .within, s .pre .1),
+      omega (arith, x .inv .line, c .loop-test .taken, s .pre .2),
+    )
+
+returns : tie.Need-returns Inv-loop μ-loop
+returns c =
+    let r = c .before .before in
+    let x = r .before .before .loop in
+    let s = r .before .before .before .before in
+    ranks-stop (s .args .text .now) (s .args .offset) (s .args .line) (take (s .args .count) (s .args .rows)) (s .args .ranks)
+    (x .tasks) (x .at) (x .below) (x .i) (x .inv) (r .before .loop-test .taken) (s .pre .1) (r .read-rank .result)
+    (r .read-rank .ensures) (c .if1 .taken) (x .at) (x .tasks)
+
+mul-tasks : tie.Need-mul-tasks Inv-loop μ-loop
+mul-tasks c = search needs
+
+array-write-tasks : tie.Need-array-write-tasks Inv-loop μ-loop
+array-write-tasks c = search needs
+
+add-i : tie.Need-add-i Inv-loop μ-loop
+add-i c = search needs
+
+loop-less : tie.Need-loop-less Inv-loop μ-loop
+loop-less c = search needs
+
+loop-again : tie.Need-loop-again Inv-loop μ-loop
+loop-again c =
+    let r = c .before .before in
+    let x = r .before .before .loop in
+    let s = r .before .before .before .before in
+    ranks-next (s .args .text .now) (s .args .offset) (s .args .line) (take (s .args .count) (s .args .rows)) (s .args .ranks)
+    (x .tasks) (x .at) (x .below) (x .i) (x .inv) (r .before .loop-test .taken) (s .pre .1) (r .read-rank .result)
+    (r .read-rank .ensures) (c .if1 .left)
+
+returns-2 : tie.Need-returns-2 Inv-loop μ-loop
+returns-2 c =
+    let x = c .before .loop in
+    let s = c .before .before .before in
+    ranks-end (s .args .text .now) (s .args .offset) (s .args .line) (take (s .args .count) (s .args .rows)) (s .args .ranks)
+    (x .tasks) (x .at) (x .below) (x .i) (x .inv) (c .loop-test .left)
+
+pub read-ranks-spec : {M : Type 1} → statement M
+read-ranks-spec =
+    tie.close
+    (tie.spec
+    Inv-loop
+    μ-loop
+    loop-holds
+    read-rank-requires
+    returns
+    mul-tasks
+    array-write-tasks
+    add-i
+    loop-less
+    loop-again
+    returns-2)

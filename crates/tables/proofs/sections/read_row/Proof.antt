@@ -1,0 +1,159 @@
+-- `tables::sections::read_row` meets its contract: its task's line, the test against the rows before, and the rest.
+use mathlib.Core.Path.{_≡_, refl, sym, ap, ap₂, _∙_}
+use mathlib.Core.List.{List, _∷_}
+use Prim.Native.Nat.{ℕ, suc, _+_}
+use native.Mathlib.Omega.{arith}
+use lib.ListN.{take}
+use borrow.Author.Needs.{needs}
+use Rattle.rows.specs.declared.Row.{Row}
+use Rattle.rows.specs.Rows.{row}
+use Rattle.tables.specs.declared.progress.Part.the-variants as P
+use Rattle.tables.specs.declared.progress.Progress.{Progress}
+use Rattle.tables.specs.declared.sections.RowRead.{RowRead}
+use Rattle.tables.specs.Tables.{Fields}
+use Rattle.tables.specs.Sections.{stoppedRow, rowRead}
+use Rattle.tables.proofs.Parts.{TaskRead, task-read, task-refused, row-is, task-told, row-unnamed, row-again}
+use Rattle.tables.proofs.Parts.{row-rest, RestRead, rest-stopped, rest-row, rest-made}
+use Rattle.tables.proofs.sections.read_row.Statement.{statement}
+use Rattle.tables.proofs.sections.read_row.Tie as tie
+
+-- ---- the call, from where the task's line is read
+module _ (c : tie.After-read-part) where
+  abbrev start : tie.Start
+  start = c .before .before
+
+  abbrev rs : List Row
+  rs = take (start .args .count) (start .args .rows)
+
+  abbrev named : Progress
+  named = c .read-part .result
+
+  -- what the definition says of the row
+  abbrev defined : Fields
+  defined = let a = start .args in row-is rs (a .text .now) (a .offset) (a .line)
+
+  named-read : named .refused ≡ 0
+      → let a = start .args in
+      TaskRead P.Task refl (a .text .now) (a .offset) (a .line) (task-told rs (a .text .now) (a .offset) (a .line)) named
+      (c .read-part .ensures)
+  named-read =
+      let a = start .args in
+      task-read P.Task refl (a .text .now) (a .offset) (a .line) (task-told rs (a .text .now) (a .offset) (a .line)) named
+      (c .read-part .ensures)
+
+-- ---- and from where the rest is
+module _ (c : tie.After-read-part2) where
+  abbrev first : tie.After-read-part
+  first = c .before .before .before .before .before
+
+  abbrev rest : Progress
+  rest = c .read-part2 .result
+
+  rest-read : let a = start first .args in
+      RestRead (rs first) (a .text .now) (named first .numbers .first) (named first .line + 5) (defined first) rest
+  rest-read =
+      let a = start first .args in
+      let t = named-read first (c .before .before .before .if1 .left) in
+      row-rest (rs first) (a .text .now) (a .offset) (a .line) (named first .numbers .first) (named first .offset)
+      (t .line-is) (sym (c .before .before .has-task .ensures) ∙ c .before .if2 .left) (t .in-range) rest
+      (named first .line) (t .next-line) (c .read-part2 .ensures)
+
+read-part-requires : tie.Need-read-part-requires
+read-part-requires c κs = search needs
+
+stopped-requires : tie.Need-stopped-requires
+stopped-requires c κs = search needs
+
+returns : tie.Need-returns
+returns c =
+    let f = c .before .before .before in
+    let a = start f .args in
+    let t = task-refused P.Task refl (a .text .now) (a .offset) (a .line)
+    (task-told (rs f) (a .text .now) (a .offset) (a .line)) (named f) (f .read-part .ensures) (c .before .if1 .taken) in
+    c .stopped .ensures
+    ∙ ap₂ stoppedRow (t .refused) (t .line)
+    ∙ sym (ap rowRead (row-unnamed (rs f) (a .text .now) (a .offset) (a .line) (t .number) (t .refusal-is)))
+
+has-task-requires : tie.Need-has-task-requires
+has-task-requires c κs = search needs
+
+refusal-of-requires : tie.Need-refusal-of-requires
+refusal-of-requires c κs = search needs
+
+place-of-requires : tie.Need-place-of-requires
+place-of-requires c κs = search needs
+
+stopped-requires-2 : tie.Need-stopped-requires-2
+stopped-requires-2 c κs = search needs
+
+returns-2 : tie.Need-returns-2
+returns-2 c =
+    let h = c .before .before .before .before in
+    let f = h .before .before .before in
+    let a = start f .args in
+    let t = named-read f (h .before .if1 .left) in
+    c .stopped2 .ensures
+    ∙ ap₂ stoppedRow (c .before .before .refusal-of .ensures) (c .before .place-of .ensures)
+    ∙ sym (ap rowRead
+    (row-again (rs f) (a .text .now) (a .offset) (a .line) (named f .numbers .first) (named f .offset) (t .line-is)
+    (sym (h .has-task .ensures) ∙ c .before .before .before .if2 .taken)))
+
+read-part-requires-2 : tie.Need-read-part-requires-2
+read-part-requires-2 c κs =
+    let f = c .before .before .before .before in
+    omega (arith, named-read f (c .before .before .if1 .left) .next-line, start f .pre .1)
+
+stopped-requires-3 : tie.Need-stopped-requires-3
+stopped-requires-3 c κs = search needs
+
+returns-3 : tie.Need-returns-3
+returns-3 c =
+    let r = c .before .before .before in
+    c .stopped3 .ensures ∙ sym (ap rowRead (rest-stopped (rest-read r) (c .before .if3 .taken)))
+
+new-requires : tie.Need-new-requires
+new-requires c κs = search needs
+
+enum-known-checked : tie.Need-enum-known-checked
+enum-known-checked c = search needs
+
+enum-told : tie.Need-enum-told
+enum-told c = search needs
+
+stopped-requires-4 : tie.Need-stopped-requires-4
+stopped-requires-4 c κs = search needs
+
+returns-4 : tie.Need-returns-4
+returns-4 c =
+    let n = c .before .before .before in
+    let r = n .before .before .before .before in
+    absurd (rest-made (rest-read r) (n .before .before .if3 .left) (n .new .result) (n .new .ensures) (c .before .enum-told .given .1))
+
+returns-5 : tie.Need-returns-5
+returns-5 c =
+    let n = c .before .before .before in
+    let r = n .before .before .before .before in
+    let d = c .before .checked .given in
+    rest-row (rest-read r) (n .before .before .if3 .left) (n .new .result) (n .new .ensures) (d .0 .0) (d .1)
+
+pub read-row-spec : {M : Type 1} → statement M
+read-row-spec =
+    tie.close
+    (tie.spec
+    read-part-requires
+    stopped-requires
+    returns
+    has-task-requires
+    refusal-of-requires
+    place-of-requires
+    stopped-requires-2
+    returns-2
+    read-part-requires-2
+    stopped-requires-3
+    returns-3
+    new-requires
+    enum-known-checked
+    enum-told
+    stopped-requires-4
+    returns-4
+    returns-5)
