@@ -36,9 +36,9 @@ use std::process::ExitCode;
 
 /// Tables of twelve tasks, this many with an order and as many without.
 const FULL_BOARDS: usize = 120;
-/// The terms that the search adds up for each of them at the least, so that it is the search that
-/// is timed, and not reading and writing.
-const FULL_WORK: u64 = 3_000;
+/// The terms that the search adds up at the least where it is the search that is to be timed, and
+/// not reading and writing.
+const MUCH_WORK: u64 = 3_000;
 /// Longer than any plan.
 const AMPLE: usize = 2_048;
 /// Calls of one measurement together last about this many seconds, for the clock to be fine
@@ -199,12 +199,17 @@ fn ranked_text(rows: &[Row]) -> Vec<u8> {
 }
 
 /// Times full boards that have an order and full boards that have none, drawn until there are
-/// enough of each that the search has work with.
-fn print_full_boards(dice: &mut Dice, rounds: u32) -> Result<(), Different> {
+/// enough of each on which the search adds up this many terms at the least.
+fn print_full_boards(
+    title: &str,
+    dice: &mut Dice,
+    least: u64,
+    rounds: u32,
+) -> Result<(), Different> {
     let mut texts = [Vec::new(), Vec::new()];
     while texts.iter().any(|texts| texts.len() < FULL_BOARDS) {
         let rows = typical(dice, 12);
-        if work(&rows) < FULL_WORK {
+        if work(&rows) < least {
             continue;
         }
         let half = &mut texts[usize::from(plain::chosen::<false>(&rows).0.is_none())];
@@ -212,7 +217,7 @@ fn print_full_boards(dice: &mut Dice, rounds: u32) -> Result<(), Different> {
             half.push(table_text(&rows));
         }
     }
-    println!("planner, {} tables of twelve tasks with much to search, microseconds a call", 2 * FULL_BOARDS);
+    println!("planner, {} tables of twelve tasks {title}, microseconds a call", 2 * FULL_BOARDS);
     let mut total = Times::default();
     for (name, texts) in ["with an order", "with no order"].iter().zip(&texts) {
         let mut sum = Times::default();
@@ -358,7 +363,8 @@ fn run(options: &Options) -> Result<(), Different> {
         &texts_of(&typical, ranked_text),
         options.rounds,
     )?;
-    print_full_boards(&mut dice, options.rounds)?;
+    print_full_boards("as drawn", &mut dice, 0, options.rounds)?;
+    print_full_boards("with much to search", &mut dice, MUCH_WORK, options.rounds)?;
     if options.climb > 0 {
         print_slowest(&mut dice, options.climb, options.rounds)?;
     }
