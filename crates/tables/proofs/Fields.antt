@@ -88,13 +88,16 @@ no-cross (suc (suc zero)) vs rs k v l a b c = absurd (b refl)
 no-cross (suc (suc (suc zero))) vs rs k v l a b c = absurd (c refl)
 no-cross (suc (suc (suc (suc n)))) vs rs k v l a b c = refl
 
--- a position past the first four is the last
-pub last-position : (P : ℕ → Type 0) → ((m : ℕ) → P (suc (suc (suc (suc m))))) → (i : ℕ) → 3 < i → P i
-last-position P f zero h = absurd (omega arith)
-last-position P f (suc zero) h = absurd (omega arith)
-last-position P f (suc (suc zero)) h = absurd (omega arith)
-last-position P f (suc (suc (suc zero))) h = absurd (omega arith)
-last-position P f (suc (suc (suc (suc m)))) h = f m
+-- a position past n is n + 1 or more
+abbrev pub past : ℕ → ℕ → ℕ
+past zero m = suc m
+past (suc n) m = suc (past n m)
+
+pub last-position : (n : ℕ) (P : ℕ → Type 0) → ((m : ℕ) → P (past n m)) → (i : ℕ) → n < i → P i
+last-position zero P f zero h = absurd (omega arith)
+last-position zero P f (suc i) h = f i
+last-position (suc n) P f zero h = absurd (omega arith)
+last-position (suc n) P f (suc i) h = last-position n (λ j. P (suc j)) f i (omega arith)
 
 -- ---- a rank line
 module _ (rs : List Row) (os text : List ℕ) (at k : ℕ) (l : Line)

@@ -29,7 +29,7 @@ use Rattle.tables.specs.declared.progress.Progress.{Progress}
 use Rattle.tables.specs.Tables.{minBoard, maxBoard, fieldCount, keyAt, fieldAt, rankAt, Fields, fields}
 use Rattle.tables.specs.Tables.{fieldsFrom, rowOf, turnedDown, rowsFrom, tasksFrom, boardFrom, readTable}
 use Rattle.tables.specs.Reasons.{Stage, at-field, lowOf, highOf, exceeds, repeats, impossible, Passes}
-use Rattle.tables.specs.Steps.{partSize, numbers, withNumber, atMost, keyedAt, headAt, restAt, partLine}
+use Rattle.tables.specs.Steps.{partSize, numbers, withNumber, atMost, keyedAt, headAt, rowLineAt, partLine}
 use Rattle.tables.specs.Steps.{progress, started, taken, readFrom, readPart}
 use Rattle.tables.specs.Sections.{rowRead}
 use Rattle.tables.proofs.Accepted.{Good, good-next, good-row}
@@ -126,7 +126,7 @@ module _ (rs : List Row) (text : List ℕ) where
 
   -- each line after the task's is the definition's
   rest-line-is : (t : ℕ) (vs : List ℕ) (at k : ℕ)
-      → restAt (length vs) (numbersOf vs) text at k ≡ fieldAt (suc (length vs)) (t ∷ vs) rs text at k
+      → rowLineAt (suc (length vs)) (numbersOf vs) text at k ≡ fieldAt (suc (length vs)) (t ∷ vs) rs text at k
   unfolding fieldAt atMost
   rest-line-is t [] at k = sym (untested _)
   rest-line-is t (a ∷ []) at k = refl
@@ -156,7 +156,7 @@ module _ (rs : List Row) (text : List ℕ) where
       p = going vs at k
 
       abbrev p-line : Line
-      p-line = restAt (length vs) (numbersOf vs) text at k
+      p-line = rowLineAt (suc (length vs)) (numbersOf vs) text at k
 
       abbrev defined : Fields
       defined = fieldsFrom (suc n) (suc (length vs)) (t ∷ vs) rs text at k

@@ -53,18 +53,20 @@ abbrev pub headAt : ℕ → List ℕ → ℕ → ℕ → Line
 headAt zero text at k = lineAt (bytes "board=") minBoard maxBoard text at k
 headAt (suc i) text at k = lineAt (bytes "tasks=") minTasks maxTasks text at k
 
--- after a row's task: the worst time is at most the period, the best at most the worst
-abbrev pub restAt : ℕ → Numbers → List ℕ → ℕ → ℕ → Line
-restAt zero n text at k = keyedAt 1 text at k
-restAt (suc zero) n text at k = atMost (n .first) (keyedAt 2 text at k) k
-restAt (suc (suc zero)) n text at k = atMost (n .second) (keyedAt 3 text at k) k
-restAt (suc (suc (suc zero))) n text at k = keyedAt 4 text at k
-restAt (suc (suc (suc (suc i)))) n text at k = keyedAt 5 text at k
+-- by its position in a row: the worst time is at most the period, the best at most the worst, which are the first and
+-- the second number after the task's
+abbrev pub rowLineAt : ℕ → Numbers → List ℕ → ℕ → ℕ → Line
+rowLineAt zero n text at k = keyedAt 0 text at k
+rowLineAt (suc zero) n text at k = keyedAt 1 text at k
+rowLineAt (suc (suc zero)) n text at k = atMost (n .first) (keyedAt 2 text at k) k
+rowLineAt (suc (suc (suc zero))) n text at k = atMost (n .second) (keyedAt 3 text at k) k
+rowLineAt (suc (suc (suc (suc zero)))) n text at k = keyedAt 4 text at k
+rowLineAt (suc (suc (suc (suc (suc i))))) n text at k = keyedAt 5 text at k
 
 abbrev pub partLine : Part → ℕ → Numbers → List ℕ → ℕ → ℕ → Line
 partLine P.Head i n text at k = headAt i text at k
-partLine P.Task i n text at k = keyedAt 0 text at k
-partLine P.Rest i n text at k = restAt i n text at k
+partLine P.Task i n text at k = rowLineAt 0 n text at k
+partLine P.Rest i n text at k = rowLineAt (suc i) n text at k
 partLine P.Rank i n text at k = lineAt (bytes "rank=") minTask maxTask text at k
 
 abbrev pub lineFor : Progress → List ℕ → ℕ → ℕ → Line

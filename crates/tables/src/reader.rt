@@ -47,6 +47,7 @@ impl<'a> Reader<'a> {
 
     // The expected line, where the reader stands.
     fn line_here(self, p: Progress) -> Line
+        requires { ⌜ Ready p ⌝ }
         ensures { λ r. ⌜ r ≡ lineHere (self .entry) p ⌝ }
     {
         expected_line(self.text, self.offset, self.line, p)

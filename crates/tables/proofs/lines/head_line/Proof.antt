@@ -1,9 +1,9 @@
 -- `tables::lines::head_line` meets its contract: each arm asks `line_at` for the key and the range at its position.
 use mathlib.Core.Path.{_≡_, sym, ap, _∙_}
-use Prim.Native.Nat.{ℕ, zero, suc, _<_}
 use native.Mathlib.Omega.{arith}
 use borrow.Author.Needs.{needs}
 use Rattle.tables.specs.Steps.{headAt}
+use Rattle.tables.proofs.Fields.{last-position}
 use Rattle.tables.proofs.lines.head_line.Statement.{statement}
 use Rattle.tables.proofs.lines.head_line.Tie as tie
 
@@ -28,12 +28,8 @@ returns c =
 returns-2 : tie.Need-returns-2
 returns-2 c =
     let a = c .before .before .before .before .args in
-    second (λ i. c .line-at2 .result ≡ headAt i (a .text .now) (a .at) (a .line)) (λ i. c .line-at2 .ensures)
+    last-position 0 (λ i. c .line-at2 .result ≡ headAt i (a .text .now) (a .at) (a .line)) (λ i. c .line-at2 .ensures)
     (a .position) (omega arith)
-  where
-    second : (P : ℕ → Type 0) → ((i : ℕ) → P (suc i)) → (i : ℕ) → 0 < i → P i
-    second P f zero h = absurd (omega arith)
-    second P f (suc i) h = f i
 
 pub head-line-spec : {M : Type 1} → statement M
 head-line-spec =

@@ -236,11 +236,11 @@ module _ {M : Type 1} (𝓤 : URA M) (H : Heap 𝓤) (A : Atoms 𝓤) (W : Given
     abbrev to-line : LineHere 𝓤 H A mem run .Ghost
     to-line = (((κ, tt), (q, tt), tt, (x .rd, (x .p, tt)), (x .u ∷ [], (pval (x .p) ∷ [], tt))), tt)
 
-    goes-line : ent 𝓤 (⋆ 𝓤 H A (‵ (OwnR x) ∷ token ∷ [])) (LineHere 𝓤 H A mem run .pre to-line)
-    goes-line =
-        qed W (‵ (OwnR x) ∷ token ∷ []) ∵ nothing ! $
+    goes-line : Ready (x .p) → ent 𝓤 (⋆ 𝓤 H A (‵ (OwnR x) ∷ token ∷ [])) (LineHere 𝓤 H A mem run .pre to-line)
+    goes-line h =
+        qed W (‵ (OwnR x) ∷ token ∷ []) ∵ says ! h $ nothing ! $
         owned ! P.the-row (Is P.the-row) (LL.makes P.the-type P′.the-plain 𝓤 H A) (x .p) _ (x .is) $ fjoin ! $
-        move ! (1 ∷ 0 ∷ []) $ fjoin ! $ move ! (1 ∷ 0 ∷ []) $ join ! $ frame ! $ done !
+        move ! (1 ∷ 0 ∷ []) $ fjoin ! $ move ! (1 ∷ 0 ∷ []) $ done !
 
     module _ (a : Line) (ua : Val) where
       abbrev to-with : WithLine 𝓤 H A mem run .Ghost
@@ -319,7 +319,8 @@ module _ {M : Type 1} (𝓤 : URA M) (H : Heap 𝓤) (A : Atoms 𝓤) (W : Given
         use1 W (‵ (OwnR x) ⊛ ‵ (OwnR x))
         (LL.copy (T.the-type (namedLft 1 0 tt (κ, tt))) (T′.the-copy (namedLft 1 0 tt (κ, tt))) 𝓤 H A W .twice
         (x .rd) (x .u ∷ [])) $ split ! $ move ! (0 ∷ 2 ∷ []) $
-        use2 W (raw (LineHere 𝓤 H A mem run .pre (to-line x))) (goes-line x) $
+        use2 W (raw (LineHere 𝓤 H A mem run .pre (to-line x)))
+        (goes-line x (here s start x go (lineHere (x .rd) (x .p)) refl .ready)) $
         -- [what `line_here` asks; what the reader owns; _8; …; _7; …; _6; …; _5; …; _4; …; _3; …; _2; …; _1; …; _0; …]
         calls-told ! (fmOf 𝓤 H (W .laws) 𝓣) line-here.ended (line-here.clauses 𝓤 H A mem run) (known .line-here)
         (to-line x) token refl (λ (a : Line). a ≡ lineHere (x .rd) (x .p)) (λ a e. refl)

@@ -30,7 +30,7 @@ returns-4 c = at-known (c .before) 3 (c .match .keys4)
 returns-5 : tie.Need-returns-5
 returns-5 c =
     let s = c .before in
-    last-position (λ i. put s 4 ≡ put s i) (λ m. refl) (s .args .position) (omega arith)
+    last-position 3 (λ i. put s 4 ≡ put s i) (λ m. refl) (s .args .position) (omega arith)
 
 pub with-spec : {M : Type 1} → statement M
 with-spec = tie.close (tie.spec returns returns-2 returns-3 returns-4 returns-5)

@@ -3,13 +3,13 @@
 -- made anew, and nothing of the parameters is owned at exit (`stay-dropped`).
 use Rattle.rows.proofs.Walk.{Atoms, Calls, Contract, FmC, Fml, Fun, Given, Heap, Is, Lft, Loops, Meets, Memory}
 use Rattle.rows.proofs.Walk.{Routine, SProp, Share, Stays, Tables, Triple, URA, Val, Vals, WT, Walks, WpFn, WpFn-mono}
-use Rattle.rows.proofs.Walk.{alloc0, alloc1, and-then, assigns, by, cited, done, emp, ends-at, ent, enter, entered}
-use Rattle.rows.proofs.Walk.{fjoin, fld, flft, fmOf, forget, frame, free0, free1, from, fsplit, fst∗, ftrue, givenOf}
-use Rattle.rows.proofs.Walk.{goes-dropped, hasTy, init, join, keep, land, length, load, look, look-in, move, named}
-use Rattle.rows.proofs.Walk.{no-more, nothing, of-opd, onEntry, owned, owns, params1, pass0, pass1, plain, qed, raw}
-use Rattle.rows.proofs.Walk.{refl, returns, says, sliceVal, split, stay-dropped, stop, sub, suffices, tables, tablesOf}
-use Rattle.rows.proofs.Walk.{tripleOf, uint-makes, use1, use2, usize, via, vint, w64, walk-meets, walkOf, walked}
-use Rattle.rows.proofs.Walk.{whole, yes, !, [], _$_, _<_, _^_, _∵_, _∷_, _≡_, _⊛_, ‵, ⋆}
+use Rattle.rows.proofs.Walk.{alloc0, alloc1, and-then, assigns, by, cited, done, ends-at, ent, enter, entered, fjoin}
+use Rattle.rows.proofs.Walk.{fld, flft, fmOf, forget, frame, free0, free1, from, fsplit, ftrue, givenOf, goes-dropped}
+use Rattle.rows.proofs.Walk.{hasTy, init, keep, land, length, load, look, look-in, move, named, no-more, nothing}
+use Rattle.rows.proofs.Walk.{of-opd, onEntry, owned, owns, params1, pass0, pass1, plain, qed, raw, refl, returns}
+use Rattle.rows.proofs.Walk.{says, sliceVal, split, stay-dropped, stop, sub, suffices, tables, tablesOf, tripleOf}
+use Rattle.rows.proofs.Walk.{uint-makes, use1, use2, usize, vint, w64, walk-meets, walkOf, walked, whole, yes, !, []}
+use Rattle.rows.proofs.Walk.{_$_, _<_, _^_, _∵_, _∷_, _≡_, _⊛_, ‵, ⋆}
 use contract.Lifetimes.{Lfts}
 use denote.Builtin.{u32}
 use denote.RattleType.{RattleType}
@@ -17,6 +17,7 @@ use denote.Signature.{namedLft}
 use denote.Struct.Declared.{Declared}
 use denote.Struct.Rest.{all-own, own-open, own-out, ownAt, rest}
 use denote.Struct.Values.{Values}
+use denote.Triple.Walked.{needs}
 use mir.Syntax.{w32}
 use types.Kit.{given, learn}
 use lib.Dec.{T as Holds}
@@ -28,7 +29,7 @@ use Rattle.text.proofs.Line as S
 use Rattle.text.proofs.Line.Laws as S′
 use Rattle.tables.specs.declared.progress.Progress.{Progress}
 use Rattle.tables.specs.declared.reader.Reader.{Reader}
-use Rattle.tables.specs.Steps.{lineHere}
+use Rattle.tables.specs.Steps.{Ready, lineHere}
 use Rattle.tables.proofs.progress.Progress as P
 use Rattle.tables.proofs.progress.Progress.Laws as P′
 use Rattle.tables.proofs.lines.expected_line as expected-line
@@ -104,10 +105,10 @@ module _ {M : Type 1} (𝓤 : URA M) (H : Heap 𝓤) (A : Atoms 𝓤) (W : Given
     tt,
   )
 
-  goes : Is P.the-row p (mp ∷ []) → d .offset < 2 ^ 64 → d .line < 2 ^ 32
+  goes : Is P.the-row p (mp ∷ []) → d .offset < 2 ^ 64 → d .line < 2 ^ 32 → Ready p
       → ent 𝓤 (⋆ 𝓤 H A (‵ Own ∷ (‵ (flft κ q) ⊛ ‵ ftrue) ∷ [])) (ExpectedLine 𝓤 H A mem run .pre to)
-  goes ip ga gl =
-      qed W (‵ Own ∷ (‵ (flft κ q) ⊛ ‵ ftrue) ∷ []) ∵
+  goes ip ga gl h =
+      qed W (‵ Own ∷ (‵ (flft κ q) ⊛ ‵ ftrue) ∷ []) ∵ says ! h $
       use1 W (given (mach ∷ [] ≡ mach ∷ []) (‵ (all-own (D .parts) L vd))) (own-open 𝓤 H A W D L vd mach) $
       learn ! (λ _.
       use1 W (‵ (ownAt (D .parts) L 0 (d .text)) ⊛ ‵ (rest (D .parts) L 0 vd)) (own-out 𝓤 H A W (D .parts) L 0 vd) $
@@ -116,7 +117,7 @@ module _ {M : Type 1} (𝓤 : URA M) (H : Heap 𝓤) (A : Atoms 𝓤) (W : Given
       nothing ! $ owned ! P.the-row (Is P.the-row) (LL.makes P.the-type P′.the-plain 𝓤 H A) p _ ip $ fjoin ! $
       owned ! u32 (Is u32) (uint-makes 𝓤 H A W w32) (d .line) _ (refl, gl) $ fjoin ! $
       owned ! usize (Is usize) (uint-makes 𝓤 H A W w64) (d .offset) _ (refl, ga) $ fjoin ! $
-      move ! (1 ∷ 0 ∷ []) $ fjoin ! $ move ! (1 ∷ 0 ∷ []) $ join ! $ frame ! $ done !)
+      move ! (1 ∷ 0 ∷ []) $ fjoin ! $ move ! (1 ∷ 0 ∷ []) $ done !)
 
   exits : (r : Line) (u : Val) → r ≡ found
       → ent 𝓤 (⋆ 𝓤 H A (‵ (S.the-row .own r (u ∷ [])) ∷ (‵ (flft κ q) ⊛ ‵ ftrue) ∷ [])) (Post u)
@@ -128,9 +129,9 @@ module _ {M : Type 1} (𝓤 : URA M) (H : Heap 𝓤) (A : Atoms 𝓤) (W : Given
 
   module _ (C : Calls 𝓤 H) (Λ : Loops 𝓤 H) (fm : FmC 𝓤 H (W .laws) C)
       (known : Triple 𝓤 (C #expected-line) (ExpectedLine 𝓤 H A mem run)) where
-    walk : Holds (hasTy (T′.mir (named 0)) mach) × WT mach → Is P.the-row p (mp ∷ [])
+    walk : Holds (hasTy (T′.mir (named 0)) mach) × WT mach → Is P.the-row p (mp ∷ []) → Ready p
         → ent 𝓤 Entry (WpFn 𝓤 H C Λ code.function (mach ∷ mp ∷ []) Post)
-    walk wt ip =
+    walk wt ip h =
         qed W ((‵ (flft κ q) ⊛ ‵ ftrue) ∷ ‵ (owns (B (κ, tt) ∷ P.the-row ∷ []) (d, (p, tt)) at) ∷ []) ∵
         enter ! C Λ code.function (mach ∷ mp ∷ []) _ $
         alloc1 ! (λ l₀. alloc1 ! (λ l₁. alloc1 ! (λ l₂. alloc1 ! (λ l₃. alloc1 ! (λ l₄. alloc1 ! (λ l₅. alloc0 ! $
@@ -143,7 +144,7 @@ module _ {M : Type 1} (𝓤 : URA M) (H : Heap 𝓤) (A : Atoms 𝓤) (W : Given
         assigns ! (of-opd ! (load ! (from ! (fld ! refl (stop !))) (look-in ! 8 (sub ! 2 refl (whole !)))))
         (from ! (stop !)) (init ! 0 refl (tt, wt .1 .1 .1 .0)) $
         move ! (13 ∷ []) $ fsplit ! $ move ! (0 ∷ 14 ∷ []) $
-        use2 W (raw (ExpectedLine 𝓤 H A mem run .pre to)) (goes ip (wt .1 .1 .0 .fits) (wt .1 .1 .1 .0 .fits)) $
+        use2 W (raw (ExpectedLine 𝓤 H A mem run .pre to)) (goes ip (wt .1 .1 .0 .fits) (wt .1 .1 .1 .0 .fits) h) $
         -- [what the callee asks; what p owns; _5; …; _4; …; _3; …; _2; …; _1; …; room for _0; …]
         calls-told ! fm expected-line.ended (expected-line.clauses 𝓤 H A mem run) known to
         (‵ (flft κ q) ⊛ ‵ ftrue) refl (λ (r : Line). r ≡ found) (λ r e. refl)
@@ -170,7 +171,7 @@ module _ {M : Type 1} (𝓤 : URA M) (H : Heap 𝓤) (A : Atoms 𝓤) (W : Given
       walked 𝓤 H A line-here.ended stayed (line-here.clauses 𝓤 H A mem run) (WpFn 𝓤 H C Λ code.function)
       (λ κs. (LL.vals (T.the-type (α κs)) (T′.the-laws (α κs)), (LL.vals P.the-type P′.the-laws, tt)))
       (λ κs. (LL.tells (T.the-type (α κs)) (T′.the-laws (α κs)), (LL.tells P.the-type P′.the-laws, tt)))
-      (λ κs qs bounds a g are. via 𝓤 _ (fst∗ 𝓤 _ (emp 𝓤))
+      (λ κs qs bounds a g are. needs 𝓤 _ _
       (walk 𝓤 H A W mem run (κs .0) (qs .0) (a .0) (a .1 .0) C Λ fm known
       (LL.lawful (T.the-type (α κs)) (T′.the-laws (α κs)) 𝓤 H A W .typed (a .0) _ (are .0) .0) (are .1 .0)))
 
