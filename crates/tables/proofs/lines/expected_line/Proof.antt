@@ -49,22 +49,26 @@ line-at-requires-2 c κs = search needs
 returns : tie.Need-returns
 returns c =
     let told = c .before in
-    of-known (told .before .before .before) (c .head-line .result) _ (c .head-line .ensures) (told .enum-told .given .1)
+    let s = told .before .before .before in
+    of-known s (c .head-line .result) _ (c .head-line .ensures) (told .enum-told .given .1)
 
 returns-2 : tie.Need-returns-2
 returns-2 c =
     let told = c .before .before in
-    of-known (told .before .before .before) (c .line-at .result) _ (c .line-at .ensures) (told .enum-told2 .given .1)
+    let s = told .before .before .before in
+    of-known s (c .line-at .result) _ (c .line-at .ensures) (told .enum-told2 .given .1)
 
 returns-3 : tie.Need-returns-3
 returns-3 c =
     let told = c .before in
-    of-known (told .before .before .before) (c .rest-line .result) _ (c .rest-line .ensures) (told .enum-told3 .given .1)
+    let s = told .before .before .before in
+    of-known s (c .rest-line .result) _ (c .rest-line .ensures) (told .enum-told3 .given .1)
 
 returns-4 : tie.Need-returns-4
 returns-4 c =
     let told = c .before .before in
-    of-known (told .before .before .before) (c .line-at2 .result) _ (c .line-at2 .ensures) (told .enum-told4 .given .1)
+    let s = told .before .before .before in
+    of-known s (c .line-at2 .result) _ (c .line-at2 .ensures) (told .enum-told4 .given .1)
 
 pub expected-line-spec : {M : Type 1} → statement M
 expected-line-spec =
