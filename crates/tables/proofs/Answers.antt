@@ -10,7 +10,7 @@ use borrow.Author.Tests.{lt-ltb, le-ltb}
 use Rattle.basics.specs.Basics.{pick, within, isIn}
 use Rattle.basics.proofs.Tests.{never, within-true}
 use Rattle.text.specs.Text.{lineFeed, decimal, keyLine}
-use Rattle.text.specs.Lines.{maxDigits, refusal, place, onNumber}
+use Rattle.text.specs.Lines.{maxDigits, refusal, place}
 use Rattle.text.specs.declared.Line.{Line}
 use Rattle.text.specs.declared.Line.the-variants as L
 use Rattle.text.proofs.Lines.{line-missing, line-malformed, line-outside, line-number}
@@ -21,9 +21,9 @@ use Rattle.tables.specs.Reasons.{keyOf, lowOf, highOf, isEnd, exceeds, r
 use Rattle.tables.specs.Reasons.{Refused, missing, trailing, malformed, out-of-range}
 use Rattle.tables.specs.Reasons.{exceeding, repeated, not-possible}
 use Rattle.tables.proofs.Accepted.{Known}
-use Rattle.tables.proofs.Fields.{no-number, refused-no-number}
 use Rattle.tables.proofs.Stages.{tested, afterRow, onTested, resume}
 use Rattle.tables.proofs.Stages.{tasks-resumes, ranks-resume, rows-resume, values-resume}
+use Rattle.tables.proofs.Told.{refused-ends}
 
 -- ---- no key has a line feed, and every number in its range is short enough to be read
 field-plain : (i : ℕ) → (isIn lineFeed (keyAt i) ≡ false) × (highAt i < 10 ^ maxDigits)
@@ -94,16 +94,13 @@ module _ (ranked : Bool) (text : List ℕ) (at k : ℕ) where
 
   -- ---- a refusal ends it
   module _ (x : Line) (n : ℕ) (r : refusal x ≡ suc n) where
-    turned : {A : Type 0} (f : ℕ → ℕ → A) (F : ℕ → A) → onNumber x f (F (refusal x)) ≡ F (suc n)
-    turned f F = no-number x f (F (refusal x)) (refused-no-number x n r) ∙ ap F r
-
     pub on-refused : (st : Stage) → isEnd st ≡ false
         → onTested ranked text st at k x ≡ turnedDown (suc n) (place x)
-    on-refused at-board e = turned _ (λ m. turnedDown m (place x))
-    on-refused (at-tasks b) e = turned _ (λ m. turnedDown m (place x))
+    on-refused at-board e = refused-ends x n r _ (λ m. turnedDown m (place x))
+    on-refused (at-tasks b) e = refused-ends x n r _ (λ m. turnedDown m (place x))
     on-refused (at-field m b rs vs) e =
-        ap (afterRow ranked text m b rs) (turned _ (λ j. fields j (place x) [] 0))
-    on-refused (at-rank m b rs os) e = turned _ (λ m. turnedDown m (place x))
+        ap (afterRow ranked text m b rs) (refused-ends x n r _ (λ j. fields j (place x) [] 0))
+    on-refused (at-rank m b rs os) e = refused-ends x n r _ (λ m. turnedDown m (place x))
     on-refused (at-end b rs os) e = never (sym e)
 
   -- ---- where the text ends

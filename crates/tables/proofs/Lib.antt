@@ -5,7 +5,8 @@ pub mod Answers
 pub mod Reasons
 pub mod Numbers
 pub mod Seeks
-pub mod Fields
+pub mod Told
 pub mod Steps
 pub mod Parts
+pub mod RowLines
 pub mod Turns

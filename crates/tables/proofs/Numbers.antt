@@ -1,4 +1,5 @@
--- A text's refusal has a number from 1 to 6, and without rank lines from 1 to 5: no stage of such a text expects a rank.
+-- A text's refusal has a number from 1 to 6, and without rank lines from 1 to 5: no stage of such a text expects a
+-- rank.
 use mathlib.Core.Path.{_≡_, refl}
 use mathlib.Core.Bool.{Bool, true, false}
 use mathlib.Core.List.{List, [], _∷_, _++_}
@@ -10,9 +11,10 @@ use Rattle.basics.specs.Basics.{isIn}
 use Rattle.basics.proofs.Tests.{test-of, true-not-false}
 use Rattle.rows.specs.declared.Row.{Row}
 use Rattle.tables.specs.Tables.{fieldCount, rowOf}
-use Rattle.tables.specs.Reasons.{Stage, at-board, at-tasks, at-field, at-rank, at-end, rowsStage, after, impossible}
-use Rattle.tables.specs.Reasons.{Reaches, start, line}
-use Rattle.tables.specs.Reasons.{Refused, missing, trailing, malformed, out-of-range, exceeding, repeated, not-possible}
+use Rattle.tables.specs.Reasons.{Stage, at-board, at-tasks, at-field, at-rank, at-end, rowsStage, after}
+use Rattle.tables.specs.Reasons.{impossible, Reaches, start, line}
+use Rattle.tables.specs.Reasons.{Refused, missing, trailing, malformed, out-of-range}
+use Rattle.tables.specs.Reasons.{exceeding, repeated, not-possible}
 
 pub number-listed : {st : Stage} {s : List ℕ} {n : ℕ} → Refused st s n → isIn n (1 ∷ 2 ∷ 3 ∷ 4 ∷ 5 ∷ 6 ∷ []) ≡ true
 number-listed (missing e h) = refl

@@ -3,11 +3,10 @@ use mathlib.Core.Path.{_≡_, refl, sym, ap, _∙_, subst}
 use mathlib.Core.Bool.{true, false}
 use mathlib.Core.List.{List}
 use mathlib.Core.Logic.{inl, inr}
-use Prim.Native.Nat.{ℕ, suc, _+_, _-_, _≤_, _<_}
+use Prim.Native.Nat.{ℕ, zero, suc, _+_, _-_, _≤_, _<_}
 use native.Mathlib.Omega.{arith}
 use lib.Dec.{leb}
 use borrow.Author.Tests.{leb-true, leb-false, lt-ltb, le-ltb}
-use types.Run.{hit}
 use Rattle.basics.proofs.Tests.{test-of, true-not-false}
 use Rattle.text.specs.Lines.{refusal, place, onNumber}
 use Rattle.text.specs.declared.Line.{Line}
@@ -17,22 +16,18 @@ use Rattle.tables.specs.declared.progress.Part.the-variants as P
 use Rattle.tables.specs.declared.progress.Progress.{Progress}
 use Rattle.tables.specs.Steps.{partSize, maxLines, withNumber, atMost, progress, lineFor, taken, Ready}
 use Rattle.tables.specs.Steps.{readFrom, readPart, placeAfter}
-use Rattle.tables.proofs.Fields.{noNumbers, NoNumber, no-number}
+use Rattle.tables.proofs.Told.{NoNumber, Answered, answers, answers-none, answered, no-number}
 
--- a line's answer is a number or none
-pub data Answered (l : Line) : Type 0 where
-  number : (v next : ℕ) → l ≡ L.Number v next → Answered l
-  other : NoNumber l → Answered l
+-- ---- a position past n is n + 1 or more
+abbrev past : ℕ → ℕ → ℕ
+past zero m = suc m
+past (suc n) m = suc (past n m)
 
-pub answered : (l : Line) → Answered l
-answered (L.Number v next) = number v next refl
-answered L.End = other (hit noNumbers 1 tt)
-answered (L.Missing k) = other (hit noNumbers 2 tt)
-answered (L.Malformed k) = other (hit noNumbers 3 tt)
-answered (L.OutOfRange k) = other (hit noNumbers 4 tt)
-answered (L.Exceeds k) = other (hit noNumbers 5 tt)
-answered (L.Repeated k) = other (hit noNumbers 6 tt)
-answered (L.Impossible k) = other (hit noNumbers 7 tt)
+pub last-position : (n : ℕ) (P : ℕ → Type 0) → ((m : ℕ) → P (past n m)) → (i : ℕ) → n < i → P i
+last-position zero P f zero h = absurd (omega arith)
+last-position zero P f (suc i) h = f i
+last-position (suc n) P f zero h = absurd (omega arith)
+last-position (suc n) P f (suc i) h = last-position n (λ j. P (suc j)) f i (omega arith)
 
 -- ---- a number that is at most another
 module _ (limit : ℕ) (l : Line) (k : ℕ) where
@@ -71,12 +66,12 @@ part-small P.Rest = omega arith
 part-small P.Rank = omega arith
 
 module _ (p : Progress) (l : Line) where
-  abbrev pub gone : ℕ → ℕ → Progress
+  abbrev gone : ℕ → ℕ → Progress
   gone v next =
       progress (p .part) (leb (partSize (p .part)) (p .count + 1)) 0 (p .line + 1) next (p .count + 1)
       (withNumber (p .numbers) (p .count) v)
 
-  abbrev pub halted : Progress
+  abbrev halted : Progress
   halted = progress (p .part) true (refusal l) (place l) (p .offset) (p .count) (p .numbers)
 
   pub taken-number : (v next : ℕ) → l ≡ L.Number v next → gone v next ≡ taken p l
@@ -173,16 +168,18 @@ module _ (text : List ℕ) (whole : Progress) where
 
     takes : (l : Line) → next-line ≡ l → Answered l
         → let to = placeAfter l (p .offset) (p .line) in Turned (size - p .count) (taken p l) (to .offset) (to .line)
-    takes l is (number v next n) =
-        subst (λ x. Turned (size - p .count) (taken p l) (x .offset) (x .line)) (place-next l (p .offset) (p .line) v next n)
+    takes l is (answers v next n) =
+        let to = place-next l (p .offset) (p .line) v next n in
+        subst (λ x. Turned (size - p .count) (taken p l) (x .offset) (x .line)) to
         (subst (λ q. Turned (size - p .count) q next (p .line + 1)) (taken-number p l v next n)
         (goes-on v next (is ∙ n)))
-    takes l is (other o) =
-        subst (λ q. Turned (size - p .count) q (placeAfter l (p .offset) (p .line) .offset) (placeAfter l (p .offset) (p .line) .line))
-        (taken-other p l o)
+    takes l is (answers-none o) =
+        let to = placeAfter l (p .offset) (p .line) in
+        let none : NoNumber next-line = subst NoNumber (sym is) o in
+        subst (λ q. Turned (size - p .count) q (to .offset) (to .line)) (taken-other p l o)
         (record {
           left = 0;
-          stands = over refl (ap (halted p) (sym is) ∙ sym (read-other text p (h .lines-left) (subst NoNumber (sym is) o)) ∙ e);
+          stands = over refl (ap (halted p) (sym is) ∙ sym (read-other text p (h .lines-left) none) ∙ e);
           fewer = omega (arith, h .lines-left);
         })
 

@@ -1,7 +1,7 @@
 -- Rows and rank lines, one after another: the reading of the whole section is that of what is left of it, so that one
 -- equation is the whole invariant of each loop.
-use mathlib.Core.Path.{_≡_, refl, sym, ap, ap₂, _∙_, subst}
-use mathlib.Core.Bool.{Bool, true, false, _&&_, not}
+use mathlib.Core.Path.{_≡_, refl, sym, ap, ap₂, _∙_}
+use mathlib.Core.Bool.{Bool}
 use mathlib.Core.List.{List, [], _∷_, _++_}
 use mathlib.Core.Logic.{inl, inr}
 use Prim.Native.Nat.{ℕ, zero, suc, _+_, _-_, _*_, _≤_, _<_}
@@ -10,16 +10,14 @@ use native.Mathlib.Numerals.{add-one}
 use lib.Dec.{ltb}
 use lib.ListN.{length, take, set, replicate, length-append}
 use lib.Seq.{append-snoc, take-append-seam, set-append-seam}
-use Rattle.basics.specs.Basics.{pick, isIn}
-use Rattle.basics.proofs.Tests.{test-of, within-true}
-use Rattle.text.specs.Text.{bytes}
-use Rattle.text.specs.Lines.{lineAt, endAt, refusal, place, onNumber}
+use Rattle.basics.specs.Basics.{pick}
+use Rattle.basics.proofs.Tests.{test-of}
+use Rattle.text.specs.Lines.{endAt, refusal, place, onNumber}
 use Rattle.text.specs.declared.Line.{Line}
 use Rattle.text.specs.declared.Line.the-variants as L
-use Rattle.rows.specs.Rows.{minTask, maxTask, maxTasks, noRow, hasTask}
+use Rattle.rows.specs.Rows.{maxTasks, noRow}
 use Rattle.rows.specs.declared.Row.{Row}
 use Rattle.tables.specs.declared.Reading.{Reading}
-use Rattle.tables.specs.declared.progress.Part.the-variants as P
 use Rattle.tables.specs.declared.sections.RowRead.{RowRead}
 use Rattle.tables.specs.declared.sections.RowsRead.{RowsRead}
 use Rattle.tables.specs.declared.sections.RankRead.{RankRead}
@@ -27,12 +25,11 @@ use Rattle.tables.specs.declared.sections.RanksRead.{RanksRead}
 use Rattle.tables.specs.Tables.{fieldCount, rankAt, Answer, turnedDown, accepted, Fields, fieldsFrom, rowOf}
 use Rattle.tables.specs.Tables.{rowsFrom, ranksFrom}
 use Rattle.tables.specs.Readings.{padded, reading}
-use Rattle.tables.specs.Steps.{started, readPart}
-use Rattle.tables.specs.Sections.{rowRead, rankRead, RowsAre, rows-refused, rows-read, RanksAre, ranks-refused}
-use Rattle.tables.specs.Sections.{ranks-read}
-use Rattle.tables.proofs.Fields.{no-number, refused-no-number, rank-stops, rank-number}
-use Rattle.tables.proofs.Parts.{Told, number, refused, row-is, task-told, row-unnamed, row-again, row-rest}
-use Rattle.tables.proofs.Parts.{stops, whole, rank-told}
+use Rattle.tables.specs.Sections.{rowRead, stoppedRank, rankRead, RowsAre, rows-refused, rows-read}
+use Rattle.tables.specs.Sections.{RanksAre, ranks-refused, ranks-read}
+use Rattle.tables.proofs.Parts.{rank-read}
+use Rattle.tables.proofs.RowLines.{row-is, row-lines}
+use Rattle.tables.proofs.Told.{not-both, refused-ends, number, refused}
 
 -- ---- lists in arrays: one more after those at the front
 padded-next : {A : Type 0} (d x : A) (xs : List A) → length xs < maxTasks
@@ -46,22 +43,6 @@ padded-next d x xs h =
 
 pub padded-front : {A : Type 0} (d : A) (xs : List A) → take (length xs) (padded d xs) ≡ xs
 padded-front d xs = take-append-seam xs _
-
--- ---- the line after a row
-row-line : (rs : List Row) (text : List ℕ) (at k : ℕ) → row-is rs text at k .refused ≡ 0
-    → row-is rs text at k .line ≡ k + fieldCount
-row-line rs text at k z =
-    elim (task-told rs text at k) [
-      | number t next e w ↦ elim (test-of (hasTask t rs)) [
-        | inl h ↦ absurd (let y : 5 ≡ 0 = sym (ap (λ x. x .refused) (row-again rs text at k t next e h)) ∙ z in omega arith)
-        | inr h ↦ elim (row-rest rs text at k t next e h w (readPart text (started P.Rest next (k + 1))) (k + 1) refl refl) [
-          | stops n r x ↦ absurd (let y : suc n ≡ 0 = sym (ap (λ f. f .refused) x) ∙ z in omega arith)
-          | whole vs r l ns x i ↦ ap (λ f. f .line) x ∙ l ∙ omega arith
-        ]
-      ]
-      | refused n r ↦
-          absurd (let y : suc n ≡ 0 = sym (ap (λ x. x .refused) (row-unnamed rs text at k n r)) ∙ z in omega arith)
-    ]
 
 -- ---- the rows
 module _ (text : List ℕ) (at₀ k₀ n : ℕ) where
@@ -108,20 +89,12 @@ module _ (text : List ℕ) (at₀ k₀ n : ℕ) where
           | suc m ↦ turnedDown (suc m) (x .line)
         ]
 
-    by-row : (ranked : Bool) (b : ℕ) → rowsFrom ranked (n - i) b (so .read) text at k ≡ goes-by ranked b (x .refused)
+    by-row : (m : ℕ) → x .refused ≡ m → (ranked : Bool) (b : ℕ)
+        → rowsFrom ranked (n - i) b (so .read) text at k ≡ goes-by ranked b m
     unfolding rowsFrom
-    by-row ranked b =
+    by-row m z ranked b =
         let one-less : n - i ≡ suc left = omega (arith, more) in
-        ap (λ m. rowsFrom ranked m b (so .read) text at k) one-less
-
-    goes-on : x .refused ≡ 0 → (ranked : Bool) (b : ℕ)
-        → rowsFrom ranked (n - i) b (so .read) text at k
-        ≡ rowsFrom ranked left b (so .read ++ (rowOf (x .values) ∷ [])) text (x .offset) (x .line)
-    goes-on z ranked b = by-row ranked b ∙ ap (goes-by ranked b) z
-
-    stops-at : (m : ℕ) → x .refused ≡ suc m → (ranked : Bool) (b : ℕ)
-        → rowsFrom ranked (n - i) b (so .read) text at k ≡ turnedDown (suc m) (x .line)
-    stops-at m z ranked b = by-row ranked b ∙ ap (goes-by ranked b) z
+        ap (λ j. rowsFrom ranked j b (so .read) text at k) one-less ∙ ap (goes-by ranked b) z
 
     -- a row is refused, and with it the table
     pub rows-stop : (r .refused ≡ 0 → ⊥) → (at′ : ℕ) (rows′ : List Row)
@@ -134,7 +107,7 @@ module _ (text : List ℕ) (at₀ k₀ n : ℕ) where
         by-number (suc m) e =
             rows-refused m (ap (λ q. q .refused) r-is ∙ e)
             (λ ranked b.
-            sym (so .same ranked b) ∙ stops-at m e ranked b ∙ ap (λ q. turnedDown (suc m) (q .line)) (sym r-is))
+            sym (so .same ranked b) ∙ by-row (suc m) e ranked b ∙ ap (λ q. turnedDown (suc m) (q .line)) (sym r-is))
 
     -- a row is put in its place
     pub rows-next : r .refused ≡ 0 → RowsSoFar (set rows i (r .row)) (r .offset) (r .line) (i + 1)
@@ -150,10 +123,10 @@ module _ (text : List ℕ) (at₀ k₀ n : ℕ) where
               ∙ padded-next noRow made (so .read) (omega arith);
           many = length-append (so .read) (made ∷ []) ∙ omega arith;
           within = omega arith;
-          line = ap (λ q. q .line) r-is ∙ row-line (so .read) text at k none ∙ omega (arith, so .line);
+          line = ap (λ q. q .line) r-is ∙ row-lines (so .read) text at k none ∙ omega (arith, so .line);
           same = λ ranked b.
               ap (λ q. rowsFrom ranked left b (so .read ++ (made ∷ [])) text (q .offset) (q .line)) r-is
-              ∙ sym (goes-on none ranked b) ∙ so .same ranked b;
+              ∙ sym (by-row 0 none ranked b) ∙ so .same ranked b;
         }
 
   -- all are there
@@ -170,27 +143,6 @@ module _ (text : List ℕ) (at₀ k₀ n : ℕ) where
       ∙ ap (λ m. ranksFrom (pick ranked m 0) b (so .read) [] text at k) (so .many ∙ full))
 
 -- ---- the rank lines
-module _ (rs : List Row) (os text : List ℕ) (at k : ℕ) where
-  -- a rank line names a task, or is refused
-  pub rank-read : Told (λ v. v ≤ maxTask) (rankAt rs os text at k)
-  rank-read =
-      elim (rank-told text at k) [
-        | number v next e w ↦
-            let answer = rank-number rs os text at k _ refl v next e in
-            elim (test-of (hasTask v rs && not (isIn v os))) [
-              | inl t ↦
-                  number v next (answer (hasTask v rs) (isIn v os) refl refl ∙ ap (λ b. pick b (L.Number v next) (L.Impossible k)) t)
-                  (within-true minTask maxTask v w .le-high)
-              | inr t ↦
-                  refused 5
-                  (ap refusal
-                  (answer (hasTask v rs) (isIn v os) refl refl ∙ ap (λ b. pick b (L.Number v next) (L.Impossible k)) t))
-            ]
-        | refused n r ↦
-            let l = lineAt (bytes "rank=") minTask maxTask text at k in
-            refused n (ap refusal (sym (rank-stops rs os text at k l refl (refused-no-number l n r))) ∙ r)
-      ]
-
 module _ (text : List ℕ) (at₀ k₀ : ℕ) (rs : List Row) (n : ℕ) where
   pub record RanksSoFar (tasks : List ℕ) (at k i : ℕ) : Type 0 where
     pub read : List ℕ
@@ -239,12 +191,11 @@ module _ (text : List ℕ) (at₀ k₀ : ℕ) (rs : List Row) (n : ℕ) where
         elim (rank-read rs (so .read) text at k) [
           | number v next e w ↦ absurd (z (ap (λ q. q .refused) (named ∙ ap (λ l. rankRead l k) e)))
           | refused m e ↦
-              let none = refused-no-number here m e in
-              let r-is = named ∙ no-number here _ _ none in
-              ranks-refused m (ap (λ q. q .refused) r-is ∙ e)
+              let r-is = named ∙ refused-ends here m e _ (λ j. stoppedRank j (place here)) in
+              ranks-refused m (ap (λ q. q .refused) r-is)
               (λ b.
-              sym (so .same b) ∙ by-rank b ∙ no-number here _ _ none
-              ∙ ap₂ turnedDown e (sym (ap (λ q. q .line) r-is)))
+              sym (so .same b) ∙ by-rank b ∙ refused-ends here m e _ (λ j. turnedDown j (place here))
+              ∙ ap (turnedDown (suc m)) (sym (ap (λ q. q .line) r-is)))
         ]
 
     pub ranks-next : r .refused ≡ 0 → RanksSoFar (set tasks i (r .task)) (r .offset) (r .line) (i + 1)
@@ -272,8 +223,8 @@ module _ (text : List ℕ) (at₀ k₀ : ℕ) (rs : List Row) (n : ℕ) where
                     ∙ so .same b;
               }
           | refused m e ↦
-              let none = refused-no-number here m e in
-              absurd (let y : suc m ≡ 0 = sym e ∙ sym (ap (λ q. q .refused) (named ∙ no-number here _ _ none)) ∙ z in omega arith)
+              let r-is = named ∙ refused-ends here m e _ (λ j. stoppedRank j (place here)) in
+              not-both (ap (λ q. q .refused) r-is) z
         ]
 
   pub ranks-end : (tasks : List ℕ) (at k i : ℕ) → RanksSoFar tasks at k i → n ≤ i
@@ -305,7 +256,7 @@ module _ {text : List ℕ} {at k n : ℕ} {r : RowsRead} (are : RowsAre text at 
   pub rows-pass : r .refused ≡ 0 → RowsPass text at k n r
   rows-pass z =
       elim are [
-        | rows-refused m e f ↦ absurd (let y : suc m ≡ 0 = sym e ∙ z in omega arith)
+        | rows-refused m e f ↦ not-both e z
         | rows-read rs e l h o f ↦ record { read = rs; long = l; held = h; line = o; same = f }
       ]
 
@@ -327,7 +278,7 @@ module _ {text : List ℕ} {at k : ℕ} {rs : List Row} {n : ℕ} {r : RanksRead
   pub ranks-pass : r .refused ≡ 0 → RanksPass text at k rs n r
   ranks-pass z =
       elim are [
-        | ranks-refused m e f ↦ absurd (let y : suc m ≡ 0 = sym e ∙ z in omega arith)
+        | ranks-refused m e f ↦ not-both e z
         | ranks-read os e l h f ↦ record { read = os; long = l; held = h; same = f }
       ]
 
@@ -348,7 +299,7 @@ module _ (b : ℕ) (rs : List Row) (os text : List ℕ) (at k : ℕ) where
   unfolding ranksFrom
   end-passes z =
       elim (test-of (ltb at (length text))) [
-        | inl t ↦ absurd (let y : 1 ≡ 0 = sym (ap (λ m. refusal (pick m (L.Missing k) L.End)) t) ∙ z in omega arith)
+        | inl t ↦ not-both (ap (λ m. refusal (pick m (L.Missing k) L.End)) t) z
         | inr t ↦ rw t
       ]
 

@@ -4,19 +4,18 @@ use mathlib.Core.Bool.{Bool, true, false}
 use mathlib.Core.List.{List, []}
 use Prim.Native.Nat.{ℕ, _≤_}
 use native.Mathlib.Omega.{arith}
-use lib.ListN.{take, length}
+use lib.ListN.{take}
 use borrow.Author.Needs.{needs}
 use Rattle.basics.specs.Basics.{pick}
 use Rattle.text.specs.Lines.{refusal, place}
 use Rattle.rows.specs.Rows.{noRow}
-use Rattle.rows.specs.declared.Row.{Row}
 use Rattle.tables.specs.declared.Reading.{Reading}
 use Rattle.tables.specs.Tables.{Answer, turnedDown, ranksFrom, readTable}
 use Rattle.tables.specs.Readings.{reading, ReadAs}
 use Rattle.tables.proofs.Parts.{HeadPasses, head-turned, head-passes}
 use Rattle.tables.proofs.Reasons.{read}
-use Rattle.tables.proofs.Turns.{padded-front, RowsPass, rows-turned, rows-pass, RanksPass, ranks-turned, ranks-pass}
-use Rattle.tables.proofs.Turns.{end-turned, end-passes, table-is}
+use Rattle.tables.proofs.Turns.{padded-front, RowsPass, rows-turned, rows-pass}
+use Rattle.tables.proofs.Turns.{RanksPass, ranks-turned, ranks-pass, end-turned, end-passes, table-is}
 use Rattle.tables.proofs.read_table.Statement.{statement}
 use Rattle.tables.proofs.read_table.Tie as tie
 
@@ -47,8 +46,8 @@ module _ (c : tie.Else1) where
   abbrev tasks : ℕ
   tasks = c .before .before .read-part .result .numbers .second
 
-  head : HeadPasses text (c .before .before .read-part .result) (c .before .before .read-part .ensures) ranked
-  head = head-passes text (c .before .before .read-part .result) (c .before .before .read-part .ensures) (c .if1 .left) ranked
+  head : HeadPasses text (c .before .before .read-part .result)
+  head = head-passes text (c .before .before .read-part .result) (c .before .before .read-part .ensures) (c .if1 .left)
 
 -- ---- and the rows
 module _ (c : tie.Else2) where
@@ -67,7 +66,7 @@ module _ (c : tie.Else2) where
       readTable (ranked past-head) (text past-head)
       ≡ ranksFrom (pick (ranked past-head) (tasks past-head) 0) (board past-head) (rows .read) [] (text past-head)
       (r .offset) (r .line)
-  rows-same = head past-head .same ∙ rows .same (ranked past-head) (board past-head)
+  rows-same = head past-head .same (ranked past-head) ∙ rows .same (ranked past-head) (board past-head)
 
 -- ---- and the rank lines
 module _ (c : tie.After-read-ranks) where
@@ -134,7 +133,7 @@ returns-2 c =
     let r = c .before .before .before in
     let e = r .before in
     read-as (ranked e) (text e) (c .stopped2 .result) _ (c .stopped2 .ensures)
-    (head e .same ∙ rows-turned (r .read-rows .ensures) (c .before .if2 .taken) (ranked e) (board e))
+    (head e .same (ranked e) ∙ rows-turned (r .read-rows .ensures) (c .before .if2 .taken) (ranked e) (board e))
 
 rank-lines-requires : tie.Need-rank-lines-requires
 rank-lines-requires c κs = search needs
@@ -176,10 +175,11 @@ returns-4 c =
     let o = c .before .before .before in
     let e = o .before .before in
     let r = named e .read-ranks .result in
+    let rs = rows (past-rows (named e)) in
     let number = o .refusal-of .ensures ∙ ap refusal (o .before .end-at .ensures) in
     read-as (ranked (past e)) (text (past e)) (c .stopped4 .result) _ (c .stopped4 .ensures)
     (ranks-same e
-    ∙ end-turned (board (past e)) (rows (past-rows (named e)) .read) (ranks e .read) (text (past e)) (r .offset) (r .line)
+    ∙ end-turned (board (past e)) (rs .read) (ranks e .read) (text (past e)) (r .offset) (r .line)
     (λ z. c .before .before .if4 .taken (number ∙ z))
     ∙ ap₂ turnedDown (sym number) (sym (c .before .place-of .ensures ∙ ap place (o .before .end-at .ensures))))
 

@@ -67,7 +67,8 @@ returns-3 c =
     let s = told .before .before .before in
     let a = s .args in
     of-known s (c .row-line2 .result) _
-    (c .row-line2 .ensures ∙ ap (λ i. rowLineAt i (a .p .numbers) (a .text .now) (a .at) (a .line)) (add-one (a .p .count)))
+    (c .row-line2 .ensures
+    ∙ ap (λ i. rowLineAt i (a .p .numbers) (a .text .now) (a .at) (a .line)) (add-one (a .p .count)))
     (told .enum-told3 .given .1)
 
 returns-4 : tie.Need-returns-4

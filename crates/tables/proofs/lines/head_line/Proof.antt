@@ -3,7 +3,7 @@ use mathlib.Core.Path.{_≡_, sym, ap, _∙_}
 use native.Mathlib.Omega.{arith}
 use borrow.Author.Needs.{needs}
 use Rattle.tables.specs.Steps.{headAt}
-use Rattle.tables.proofs.Fields.{last-position}
+use Rattle.tables.proofs.Steps.{last-position}
 use Rattle.tables.proofs.lines.head_line.Statement.{statement}
 use Rattle.tables.proofs.lines.head_line.Tie as tie
 

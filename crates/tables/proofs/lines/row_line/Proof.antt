@@ -5,7 +5,7 @@ use native.Mathlib.Omega.{arith}
 use borrow.Author.Needs.{needs}
 use Rattle.text.specs.declared.Line.{Line}
 use Rattle.tables.specs.Steps.{atMost, rowLineAt}
-use Rattle.tables.proofs.Fields.{last-position}
+use Rattle.tables.proofs.Steps.{last-position}
 use Rattle.tables.proofs.lines.row_line.Statement.{statement}
 use Rattle.tables.proofs.lines.row_line.Tie as tie
 

@@ -1,6 +1,6 @@
 -- `tables::sections::read_rank` meets its contract: its line, and the tests against the rows and the ranks before.
 use mathlib.Core.Path.{_≡_, refl, sym, ap, ap₂, _∙_}
-use mathlib.Core.Bool.{Bool, _&&_, not}
+use mathlib.Core.Bool.{_&&_, not}
 use mathlib.Core.List.{List}
 use Prim.Native.Nat.{ℕ}
 use native.Mathlib.Omega.{arith}
@@ -16,8 +16,8 @@ use Rattle.tables.specs.declared.progress.Part.the-variants as P
 use Rattle.tables.specs.declared.progress.Progress.{Progress}
 use Rattle.tables.specs.Tables.{rankAt}
 use Rattle.tables.specs.Sections.{stoppedRank, rankRead}
-use Rattle.tables.proofs.Fields.{no-number, refused-no-number, rank-stops, rank-number}
-use Rattle.tables.proofs.Parts.{TaskRead, task-read, task-refused, rank-line, rank-told}
+use Rattle.tables.proofs.Parts.{TaskRead, task-read, task-refused, rank-line, rank-told, rank-stops, rank-number}
+use Rattle.tables.proofs.Told.{no-number, refused-no-number}
 use Rattle.tables.proofs.sections.read_rank.Statement.{statement}
 use Rattle.tables.proofs.sections.read_rank.Tie as tie
 
@@ -39,9 +39,7 @@ module _ (c : tie.After-read-part) where
   defined = let a = start .args in rankAt rs os (a .text .now) (a .offset) (a .line)
 
   line-read : read .refused ≡ 0
-      → let a = start .args in
-      TaskRead P.Rank refl (a .text .now) (a .offset) (a .line) (rank-told (a .text .now) (a .offset) (a .line)) read
-      (c .read-part .ensures)
+      → let a = start .args in TaskRead (rank-line (a .text .now) (a .offset) (a .line)) (a .line) read
   line-read =
       let a = start .args in
       task-read P.Rank refl (a .text .now) (a .offset) (a .line) (rank-told (a .text .now) (a .offset) (a .line)) read
@@ -52,9 +50,8 @@ module _ (c : tie.After-is-in) where
   abbrev first : tie.After-read-part
   first = c .before .before .before .before
 
-  abbrev passes : TaskRead P.Rank refl (start first .args .text .now) (start first .args .offset) (start first .args .line)
-      (rank-told (start first .args .text .now) (start first .args .offset) (start first .args .line)) (read first)
-      (first .read-part .ensures)
+  abbrev passes : let a = start first .args in
+      TaskRead (rank-line (a .text .now) (a .offset) (a .line)) (a .line) (read first)
   passes = line-read first (c .before .before .if1 .left)
 
   by-tests : let known = c .before .has-task .result in
@@ -63,7 +60,7 @@ module _ (c : tie.After-is-in) where
       (L.Impossible (start first .args .line))
   by-tests =
       let a = start first .args in
-      rank-number (rs first) (os first) (a .text .now) (a .offset) (a .line) _ refl (read first .numbers .first)
+      rank-number (rs first) (os first) (a .text .now) (a .offset) (a .line) (read first .numbers .first)
       (read first .offset) (passes .line-is) (c .before .has-task .result) (c .is-in .result)
       (sym (c .before .has-task .ensures)) (sym (c .is-in .ensures))
 
@@ -84,7 +81,7 @@ returns c =
     c .stopped .ensures
     ∙ ap₂ stoppedRank (t .refused ∙ sym (t .refusal-is)) (t .line)
     ∙ sym (no-number l _ _ none)
-    ∙ ap (λ x. rankRead x (a .line)) (rank-stops (rs f) (os f) (a .text .now) (a .offset) (a .line) l refl none)
+    ∙ ap (λ x. rankRead x (a .line)) (rank-stops (rs f) (os f) (a .text .now) (a .offset) (a .line) none)
 
 has-task-requires : tie.Need-has-task-requires
 has-task-requires c κs = search needs

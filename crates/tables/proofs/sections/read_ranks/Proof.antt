@@ -34,7 +34,8 @@ returns c =
     let r = c .before .before in
     let x = r .before .before .loop in
     let s = r .before .before .before .before in
-    ranks-stop (s .args .text .now) (s .args .offset) (s .args .line) (take (s .args .count) (s .args .rows)) (s .args .ranks)
+    let a = s .args in
+    ranks-stop (a .text .now) (a .offset) (a .line) (take (a .count) (a .rows)) (a .ranks)
     (x .tasks) (x .at) (x .below) (x .i) (x .inv) (r .before .loop-test .taken) (s .pre .1) (r .read-rank .result)
     (r .read-rank .ensures) (c .if1 .taken) (x .at) (x .tasks)
 
@@ -55,7 +56,8 @@ loop-again c =
     let r = c .before .before in
     let x = r .before .before .loop in
     let s = r .before .before .before .before in
-    ranks-next (s .args .text .now) (s .args .offset) (s .args .line) (take (s .args .count) (s .args .rows)) (s .args .ranks)
+    let a = s .args in
+    ranks-next (a .text .now) (a .offset) (a .line) (take (a .count) (a .rows)) (a .ranks)
     (x .tasks) (x .at) (x .below) (x .i) (x .inv) (r .before .loop-test .taken) (s .pre .1) (r .read-rank .result)
     (r .read-rank .ensures) (c .if1 .left)
 
@@ -63,7 +65,8 @@ returns-2 : tie.Need-returns-2 Inv-loop μ-loop
 returns-2 c =
     let x = c .before .loop in
     let s = c .before .before .before in
-    ranks-end (s .args .text .now) (s .args .offset) (s .args .line) (take (s .args .count) (s .args .rows)) (s .args .ranks)
+    let a = s .args in
+    ranks-end (a .text .now) (a .offset) (a .line) (take (a .count) (a .rows)) (a .ranks)
     (x .tasks) (x .at) (x .below) (x .i) (x .inv) (c .loop-test .left)
 
 pub read-ranks-spec : {M : Type 1} → statement M

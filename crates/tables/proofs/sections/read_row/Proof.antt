@@ -1,19 +1,18 @@
 -- `tables::sections::read_row` meets its contract: its task's line, the test against the rows before, and the rest.
 use mathlib.Core.Path.{_≡_, refl, sym, ap, ap₂, _∙_}
-use mathlib.Core.List.{List, _∷_}
-use Prim.Native.Nat.{ℕ, suc, _+_}
+use mathlib.Core.List.{List}
+use Prim.Native.Nat.{_+_}
 use native.Mathlib.Omega.{arith}
 use lib.ListN.{take}
 use borrow.Author.Needs.{needs}
 use Rattle.rows.specs.declared.Row.{Row}
-use Rattle.rows.specs.Rows.{row}
 use Rattle.tables.specs.declared.progress.Part.the-variants as P
 use Rattle.tables.specs.declared.progress.Progress.{Progress}
-use Rattle.tables.specs.declared.sections.RowRead.{RowRead}
 use Rattle.tables.specs.Tables.{Fields}
 use Rattle.tables.specs.Sections.{stoppedRow, rowRead}
-use Rattle.tables.proofs.Parts.{TaskRead, task-read, task-refused, row-is, task-told, row-unnamed, row-again}
-use Rattle.tables.proofs.Parts.{row-rest, RestRead, rest-stopped, rest-row, rest-made}
+use Rattle.tables.proofs.Parts.{TaskRead, task-read, task-refused, task-line, task-told}
+use Rattle.tables.proofs.RowLines.{row-is, row-unnamed, row-again, row-rest}
+use Rattle.tables.proofs.RowLines.{RestRead, rest-stopped, rest-row, rest-made}
 use Rattle.tables.proofs.sections.read_row.Statement.{statement}
 use Rattle.tables.proofs.sections.read_row.Tie as tie
 
@@ -33,12 +32,10 @@ module _ (c : tie.After-read-part) where
   defined = let a = start .args in row-is rs (a .text .now) (a .offset) (a .line)
 
   named-read : named .refused ≡ 0
-      → let a = start .args in
-      TaskRead P.Task refl (a .text .now) (a .offset) (a .line) (task-told rs (a .text .now) (a .offset) (a .line)) named
-      (c .read-part .ensures)
+      → let a = start .args in TaskRead (task-line (a .text .now) (a .offset) (a .line)) (a .line) named
   named-read =
       let a = start .args in
-      task-read P.Task refl (a .text .now) (a .offset) (a .line) (task-told rs (a .text .now) (a .offset) (a .line)) named
+      task-read P.Task refl (a .text .now) (a .offset) (a .line) (task-told (a .text .now) (a .offset) (a .line)) named
       (c .read-part .ensures)
 
 -- ---- and from where the rest is
@@ -49,8 +46,7 @@ module _ (c : tie.After-read-part2) where
   abbrev rest : Progress
   rest = c .read-part2 .result
 
-  rest-read : let a = start first .args in
-      RestRead (rs first) (a .text .now) (named first .numbers .first) (named first .line + 5) (defined first) rest
+  rest-read : RestRead (named first .numbers .first) (named first .line + 5) (defined first) rest
   rest-read =
       let a = start first .args in
       let t = named-read first (c .before .before .before .if1 .left) in
@@ -69,7 +65,7 @@ returns c =
     let f = c .before .before .before in
     let a = start f .args in
     let t = task-refused P.Task refl (a .text .now) (a .offset) (a .line)
-    (task-told (rs f) (a .text .now) (a .offset) (a .line)) (named f) (f .read-part .ensures) (c .before .if1 .taken) in
+    (task-told (a .text .now) (a .offset) (a .line)) (named f) (f .read-part .ensures) (c .before .if1 .taken) in
     c .stopped .ensures
     ∙ ap₂ stoppedRow (t .refused) (t .line)
     ∙ sym (ap rowRead (row-unnamed (rs f) (a .text .now) (a .offset) (a .line) (t .number) (t .refusal-is)))
@@ -127,7 +123,8 @@ returns-4 : tie.Need-returns-4
 returns-4 c =
     let n = c .before .before .before in
     let r = n .before .before .before .before in
-    absurd (rest-made (rest-read r) (n .before .before .if3 .left) (n .new .result) (n .new .ensures) (c .before .enum-told .given .1))
+    let none = rest-made (rest-read r) (n .before .before .if3 .left) (n .new .result) (n .new .ensures) in
+    absurd (none (c .before .enum-told .given .1))
 
 returns-5 : tie.Need-returns-5
 returns-5 c =

@@ -1,9 +1,8 @@
 -- `tables::sections::read_rows` meets its contract. Invariant: the rows read so far stand at the front of the array,
 -- and the table's reading goes on after them (`RowsSoFar`).
-use mathlib.Core.Path.{_≡_, refl, sym, ap, _∙_}
-use Prim.Native.Nat.{ℕ, _+_, _-_}
+use mathlib.Core.Path.{ap}
+use Prim.Native.Nat.{_-_}
 use native.Mathlib.Omega.{arith}
-use native.Mathlib.Numerals.{add-one}
 use lib.ListN.{replicate}
 use borrow.Author.Needs.{needs}
 use Rattle.rows.specs.Rows.{maxTasks}
@@ -36,7 +35,8 @@ returns c =
     let r = c .before .before in
     let x = r .before .before .loop in
     let s = r .before .before .before .before .before in
-    rows-stop (s .args .text .now) (s .args .offset) (s .args .line) (s .args .tasks) (x .rows) (x .at) (x .below) (x .i)
+    let a = s .args in
+    rows-stop (a .text .now) (a .offset) (a .line) (a .tasks) (x .rows) (x .at) (x .below) (x .i)
     (x .inv) (r .before .loop-test .taken) (s .pre .0) (r .read-row .result) (r .read-row .ensures) (c .if1 .taken)
     (x .at) (x .rows)
 
@@ -58,14 +58,16 @@ loop-again c =
     let r = e .before .before in
     let x = r .before .before .loop in
     let s = r .before .before .before .before .before in
-    rows-next (s .args .text .now) (s .args .offset) (s .args .line) (s .args .tasks) (x .rows) (x .at) (x .below) (x .i)
+    let a = s .args in
+    rows-next (a .text .now) (a .offset) (a .line) (a .tasks) (x .rows) (x .at) (x .below) (x .i)
     (x .inv) (r .before .loop-test .taken) (s .pre .0) (r .read-row .result) (r .read-row .ensures) (e .if1 .left)
 
 returns-2 : tie.Need-returns-2 Inv-loop μ-loop
 returns-2 c =
     let x = c .before .loop in
     let s = c .before .before .before .before in
-    rows-end (s .args .text .now) (s .args .offset) (s .args .line) (s .args .tasks) (x .rows) (x .at) (x .below) (x .i)
+    let a = s .args in
+    rows-end (a .text .now) (a .offset) (a .line) (a .tasks) (x .rows) (x .at) (x .below) (x .i)
     (x .inv) (c .loop-test .left)
 
 pub read-rows-spec : {M : Type 1} → statement M

@@ -4,7 +4,7 @@ use Prim.Native.Nat.{ℕ}
 use native.Mathlib.Omega.{arith}
 use Rattle.tables.specs.declared.progress.Numbers.{Numbers}
 use Rattle.tables.specs.Steps.{withNumber}
-use Rattle.tables.proofs.Fields.{last-position}
+use Rattle.tables.proofs.Steps.{last-position}
 use Rattle.tables.proofs.progress.Numbers.with.Statement.{statement}
 use Rattle.tables.proofs.progress.Numbers.with.Tie as tie
 

@@ -1,11 +1,10 @@
 -- `tables::progress::Progress::with_line` meets its contract: each return is a case of `taken`.
-use mathlib.Core.Path.{_≡_, ap₂, _∙_}
+use mathlib.Core.Path.{ap₂, _∙_}
 use mathlib.Core.Bool.{true}
-use Prim.Native.Nat.{ℕ, _+_}
+use Prim.Native.Nat.{_+_}
 use native.Mathlib.Omega.{arith}
 use lib.Dec.{leb}
 use borrow.Author.Needs.{needs}
-use Rattle.tables.specs.declared.progress.Progress.{Progress}
 use Rattle.tables.specs.Steps.{progress}
 use Rattle.tables.proofs.Steps.{part-small, taken-number, taken-other}
 use Rattle.tables.proofs.progress.Progress.with_line.Statement.{statement}
