@@ -47,6 +47,9 @@ const BATCH: f64 = 1e-3;
 /// A slow table is the slowest of this many.
 const DRAWN_FOR_A_SLOW_ONE: usize = 100;
 
+/// What is timed against plain Rust.
+const NAME: &str = if cfg!(model_only) { "model" } else { "library" };
+
 const USAGE: &str = "usage: bench [--tables N] [--rounds N] [--climb MILLIONS] [--seed S]";
 
 type Function = fn(&[u8], &mut [u8]) -> Answer;
@@ -129,7 +132,7 @@ fn print_times(
     rounds: u32,
 ) -> Result<(), Different> {
     println!("{title}, microseconds a call");
-    println!("  tasks      plain    library   ratio  growth");
+    println!("  tasks      plain {NAME:>10}   ratio  growth");
     let (mut total, mut before) = (Times::default(), None);
     for (tasks, texts) in texts.iter().enumerate() {
         let mut sum = Times::default();
@@ -147,7 +150,7 @@ fn print_times(
         total.library += sum.library;
     }
     let (plain, library) = (total.plain * 1e3, total.library * 1e3);
-    println!("  total: plain {plain:.3} ms, library {library:.3} ms, ratio {:.3}", total.ratio());
+    println!("  total: plain {plain:.3} ms, {NAME} {library:.3} ms, ratio {:.3}", total.ratio());
     Ok(())
 }
 
@@ -228,7 +231,7 @@ fn print_full_boards(
         }
         let micros = 1e6 / texts.len() as f64;
         let (plain, library) = (sum.plain * micros, sum.library * micros);
-        println!("  {name}: plain {plain:.2}, library {library:.2}, ratio {:.3}", sum.ratio());
+        println!("  {name}: plain {plain:.2}, {NAME} {library:.2}, ratio {:.3}", sum.ratio());
         total.plain += sum.plain;
         total.library += sum.library;
     }
@@ -319,7 +322,7 @@ fn print_slowest(dice: &mut Dice, millions: u64, rounds: u32) -> Result<(), Diff
     let times = measure(&PLAN, &text, rounds)?;
     let (plain, library) = (times.plain * 1e3, times.library * 1e3);
     println!(
-        "slowest table found: plain {plain:.3} ms, library {library:.3} ms, ratio {:.3}",
+        "slowest table found: plain {plain:.3} ms, {NAME} {library:.3} ms, ratio {:.3}",
         times.ratio()
     );
     print!("{}", String::from_utf8_lossy(&text));
@@ -380,6 +383,6 @@ fn main() -> ExitCode {
     let Err(Different(text)) = run(&options) else {
         return ExitCode::SUCCESS;
     };
-    println!("DIFFERENCE between plain and library, text:\n  \"{}\"", text.escape_ascii());
+    println!("DIFFERENCE between plain and {NAME}, text:\n  \"{}\"", text.escape_ascii());
     ExitCode::FAILURE
 }

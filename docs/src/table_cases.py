@@ -4,9 +4,9 @@
 The answers come from the model below, a plain parser by splitting, written from document 01 alone; nothing of the
 proved reader is used. Run it from anywhere:
 
-    python3 docs/src/table_cases.py
+    python3 docs/src/table_cases.py --write
 
-It writes crates/table_cases/stdin and crates/table_cases/stdout. In stdin each text stands after two lines, `length=`
+It then writes crates/table_cases/stdin and stdout. In stdin each text stands after two lines, `length=`
 with its number of bytes and `ranked=` with 1 where rank lines are expected and 0 where not. In stdout each text has a
 line: the refusal's number and its line, or 0 and 0, then the board, the six numbers of each row, and the ranks. The
 last line says how many texts there are. `--list` prints each case's name with its answer, and writes nothing.
@@ -268,6 +268,8 @@ def main():
         for (name, ranked, _), said in zip(CASES, answers):
             print(f"{said[:24]:24}  {'reviewer' if ranked else 'planner':8}  {name}")
         return
+    if sys.argv[1:] != ["--write"]:
+        sys.exit("usage: table_cases.py --list, or --write: crates/table_cases/{stdin,stdout} anew")
     stdin = b"".join(b"length=%d\nranked=%d\n%s" % (len(text), ranked, text) for _, ranked, text in CASES)
     stdout = "".join(said + "\n" for said in answers) + f"texts={len(CASES)}\n"
     if len(stdin) > 65_536:

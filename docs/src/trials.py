@@ -256,4 +256,9 @@ def board_trials(N=2000):
             run(ranked, F, 5000, spread, lengths, d, acc)
         plans += 1
     return f'{plans} plans, each run six times for 5000 ticks\n{acc[0]} jobs finished within their lines\n{acc[1]} exactly at the worst line\n{acc[2]} exactly at the best line\n{acc[3]} released too soon for the best line to count\n'
-print({'samples': samples, 'plan': plan_trials, 'board': board_trials}[sys.argv[1]](), end='')
+
+
+PARTS = {'samples': samples, 'plan': plan_trials, 'board': board_trials}
+if len(sys.argv) != 2 or sys.argv[1] not in PARTS:
+    sys.exit('usage: trials.py samples|plan|board')
+print(PARTS[sys.argv[1]](), end='')
