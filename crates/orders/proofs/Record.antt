@@ -4,7 +4,7 @@ use mathlib.Core.Bool.{Bool, true, false, _&&_, not, and-false}
 use mathlib.Core.List.{List}
 use mathlib.Core.Option.{Option, none}
 use mathlib.Core.Logic.{inl, inr, ⊎-elim}
-use Prim.Native.Nat.{ℕ, suc, _-_, _/_, _%_, _^_, _≤_, _<_}
+use Prim.Native.Nat.{ℕ, _-_, _/_, _%_, _^_, _≤_, _<_}
 use native.Mathlib.Decide.{ℕ-discrete}
 use native.Mathlib.Omega.{arith}
 use borrow.Author.Tests.{eq-eqb, ne-eqb}
@@ -14,9 +14,7 @@ use lib.Seq.{getD-set-same, getD-set-other}
 use Rattle.rows.specs.declared.Row.{Row}
 use Rattle.orders.specs.Orders.{theOrder}
 use Rattle.orders.specs.Sets as S
-use Rattle.orders.specs.Sets.{members, hasBit, isSome, unknown, noOrder}
-use Rattle.orders.proofs.Sets.{less-row, taken-at}
-use Rattle.orders.proofs.Possible.{taken-length}
+use Rattle.orders.specs.Sets.{hasBit, isSome, unknown, noOrder}
 use Rattle.orders.proofs.Scan.{at-empty}
 
 module _ (test : Row → List Row → List Row → Bool) (table : List Row) where
@@ -71,25 +69,36 @@ module _ (test : Row → List Row → List Row → Bool) (table : List Row) wher
       known-none m l e =
           says-none m (subst (λ (v : ℕ). S.Says test table m v) e (known m l (λ q. omega arith)))
 
-      pub put : (m v : ℕ) → m < 2 ^ length table → S.Says test table m v → S.Recorded test table (set sets m v)
-      put m v l s = record {
-        room = omega (arith, rec .room, length-set sets m v);
-        entries = λ k h. elim (ℕ-discrete k m) [
-          | yes e ↦ inr (rw (e, getD-set-same sets m v 0 (omega (arith, rec .room))) s)
-          | no n ↦ rw (getD-set-other sets m k v 0 n) (rec .entries k h)
-        ];
-      }
+      -- byte v written for set m: the sets that the record has stay
+      module _ (m v : ℕ) (l : m < 2 ^ length table) (s : S.Says test table m v) where
+        stays : (k : ℕ) → S.Known test table sets k → S.Known test table (set sets m v) k
+        stays k h z = elim (ℕ-discrete k m) [
+          | yes e ↦ rw (e, getD-set-same sets m v 0 (omega (arith, rec .room))) s
+          | no n ↦ rw (getD-set-other sets m k v 0 n) (h z)
+        ]
 
-      pub settled-new :
-          (m v : ℕ) →
-          m < 2 ^ length table →
-          S.Says test table m v →
-          S.Settled test table m (set sets m v) (not (eqb v noOrder))
-      settled-new m v l s = record {
-        recorded = put m v l s;
-        there = λ h. rw (getD-set-same sets m v 0 (omega (arith, rec .room))) s;
-        found-is = says-found m v s;
-      }
+        module _ (rest : S.LowestIs test table m v → S.Known test table sets (m - 2 ^ v)) where
+          pub put : S.Recorded test table (set sets m v)
+          put = record {
+            room = omega (arith, rec .room, length-set sets m v);
+            entries = λ k h. elim (ℕ-discrete k m) [
+              | yes e ↦ inr (rw (e, getD-set-same sets m v 0 (omega (arith, rec .room))) s)
+              | no n ↦ rw (getD-set-other sets m k v 0 n) (rec .entries k h)
+            ];
+            closed = λ k h. elim (ℕ-discrete k m) [
+              | yes e ↦ rw (e, getD-set-same sets m v 0 (omega (arith, rec .room)))
+                  (λ low. stays (m - 2 ^ v) (rest low))
+              | no n ↦ rw (getD-set-other sets m k v 0 n)
+                  (λ low. stays (k - 2 ^ getD sets k 0) (rec .closed k h low))
+            ];
+          }
+
+          pub settled-new : S.Settled test table m (set sets m v) (not (eqb v noOrder))
+          settled-new = record {
+            recorded = put;
+            there = λ h. rw (getD-set-same sets m v 0 (omega (arith, rec .room))) s;
+            found-is = says-found m v s;
+          }
 
       pub settled-old :
           (m : ℕ) →
@@ -107,16 +116,12 @@ module _ (test : Row → List Row → List Row → Bool) (table : List Row) wher
         found-is = sym (ap isSome (at-empty theOrder test table));
       }
 
-  -- a record that has no set
-  pub fresh : (n : ℕ) → 2 ^ length table ≤ n → S.Recorded test table (replicate n unknown)
-  fresh n h = record {
-    room = rw (length-replicate {A = ℕ} n unknown) h;
-    entries = λ k l. inl (getD-replicate {A = ℕ} n k unknown 0 (omega arith));
-  }
-
-  -- a set has one row more than the set less that row
-  pub one-more :
-      (m i : ℕ) →
-      S.LowestIs test table m i →
-      length (members m table) ≡ suc (length (members (m - 2 ^ i) table))
-  one-more m i s = taken-length (taken-at 1 table i m (m - 2 ^ i) (s .in-table) (less-row i m (s .in-set) .0))
+    -- a record that has no set
+    pub fresh : (n : ℕ) → 2 ^ length table ≤ n → S.Recorded test table (replicate n unknown)
+    fresh n h = record {
+      room = rw (length-replicate {A = ℕ} n unknown) h;
+      entries = λ k l. inl (getD-replicate {A = ℕ} n k unknown 0 (omega arith));
+      closed = λ k l low.
+          let e = getD-replicate {A = ℕ} n k unknown 0 (omega arith) in
+          absurd (omega (arith, low .in-table, e));
+    }

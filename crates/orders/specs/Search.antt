@@ -3,12 +3,12 @@ use mathlib.Core.Path.{_≡_}
 use mathlib.Core.Bool.{Bool, true, false}
 use mathlib.Core.List.{List, [], _∷_, _++_}
 use mathlib.Core.Option.{Option, none, some}
-use Prim.Native.Nat.{ℕ, suc, _/_, _%_, _^_, _≤_, _<_}
-use lib.ListN.{length, take}
+use Prim.Native.Nat.{ℕ, zero, suc, _-_, _/_, _%_, _^_, _≤_, _<_}
+use lib.ListN.{length, getD, take}
 use Rattle.rows.specs.Rows.{maxTasks, inRange, allRows, tasksOf, distinctRows}
 use Rattle.rows.specs.declared.Row.{Row}
 use Rattle.orders.specs.Orders.{Chosen}
-use Rattle.orders.specs.Sets.{members, isSome, orderAt, fits, goes, LowestIs, Says, Recorded}
+use Rattle.orders.specs.Sets.{size, isSome, fits, goes, LowestIs, Says, Known, Recorded}
 use Rattle.orders.specs.Stability.{stable, chosenOrder}
 use Rattle.orders.specs.declared.Answer.{Answer}
 
@@ -35,10 +35,11 @@ pub record Searching (rows : List Row) (n m : ℕ) (sets : List ℕ) : Type 0 wh
   pub set : m < 2 ^ n
   pub recorded : Recorded stable (take n rows) sets
 
--- what the search tells of set m: a byte for the record
+-- what the search tells of set m: a byte for the record, which has the rest of the set if the byte is a row
 pub record Told (rows : List Row) (n m : ℕ) (sets : List ℕ) (v : ℕ) : Type 0 where
   pub recorded : Recorded stable (take n rows) sets
   pub says : Says stable (take n rows) m v
+  pub rest : LowestIs stable (take n rows) m v → Known stable (take n rows) sets (m - 2 ^ v)
 
 -- whether row i may go lowest in set m; where it may, whether it does is whether the rest has an order
 pub record MayGo (rows : List Row) (n m i : ℕ) (r : Bool) : Type 0 where
@@ -46,26 +47,32 @@ pub record MayGo (rows : List Row) (n m i : ℕ) (r : Bool) : Type 0 where
   pub passes : r ≡ true → fits stable (take n rows) m i ≡ true
   pub goes-not : r ≡ false → goes stable (take n rows) m i ≡ false
 
--- the lowest row of set m
-pub record LowestRow (rows : List Row) (n m : ℕ) (sets : List ℕ) (i : ℕ) : Type 0 where
-  pub recorded : Recorded stable (take n rows) sets
-  pub lowest : LowestIs stable (take n rows) m i
-
--- set m has an order
-abbrev pub Ordered : List Row → ℕ → ℕ → Type 0
-Ordered rows n m = isSome (orderAt stable (take n rows) m) ≡ true
-
 -- one task more
 pub record Pushed (tasks : List ℕ) (count task : ℕ) (tasks′ : List ℕ) (count′ : ℕ) : Type 0 where
   pub long : length tasks′ ≡ maxTasks
   pub one-more : count′ ≡ suc count
   pub listed : take count′ tasks′ ≡ take count tasks ++ (task ∷ [])
 
--- the front of the list is the order of set m
-pub record Listed (table : List Row) (m : ℕ) (tasks : List ℕ) (count : ℕ) : Type 0 where
-  pub long : length tasks ≡ maxTasks
-  pub counted : count ≡ length (members m table)
-  pub listed : take count tasks ≡ tasksIn (orderAt stable table m)
+-- taking out of set m the row that its byte is, out of the rest the row that the rest's byte is, and so on, leaves no
+-- row after k steps
+abbrev pub Chained : List ℕ → ℕ → ℕ → Type 0
+Chained sets zero m = m ≡ 0
+Chained sets (suc k) m =
+    let i = getD sets m 0 in
+    (i < maxTasks) × (m / 2 ^ i % 2 ≡ 1) × Chained sets k (m - 2 ^ i)
+
+-- the tasks of the rows taken out, the first lowest
+abbrev pub chainTasks : List ℕ → List ℕ → ℕ → ℕ → List ℕ
+chainTasks tasks sets zero m = []
+chainTasks tasks sets (suc k) m =
+    let i = getD sets m 0 in
+    chainTasks tasks sets k (m - 2 ^ i) ++ (getD tasks i 0 ∷ [])
+
+-- the front of the list is the tasks of set m, in the order that the record has
+pub record Listed (tasks sets : List ℕ) (m : ℕ) (listed : List ℕ) (count : ℕ) : Type 0 where
+  pub long : length listed ≡ maxTasks
+  pub counted : count ≡ size m
+  pub front : take count listed ≡ chainTasks tasks sets (size m) m
 
 -- the answer is the order chosen, which is as `Chosen` says
 pub record Answered (table : List Row) (r : Answer) : Type 0 where

@@ -4,10 +4,10 @@ use mathlib.Core.Bool.{Bool, true, false, _&&_}
 use mathlib.Core.List.{List, [], _∷_, _++_}
 use mathlib.Core.Option.{Option, none, some}
 use mathlib.Core.Logic.{_⊎_}
-use Prim.Native.Nat.{ℕ, _-_, _/_, _%_, _^_, _≤_, _<_}
+use Prim.Native.Nat.{ℕ, zero, suc, _+_, _-_, _/_, _%_, _^_, _≤_, _<_}
 use lib.Dec.{eqb}
 use lib.ListN.{length, getD}
-use Rattle.rows.specs.Rows.{rowAt}
+use Rattle.rows.specs.Rows.{maxTasks, rowAt}
 use Rattle.rows.specs.declared.Row.{Row}
 use Rattle.orders.specs.Orders.{ByLowest, overSet, theOrder}
 
@@ -29,6 +29,14 @@ others m table = withBit 0 m table
 
 abbrev pub hasBit : ℕ → ℕ → Bool
 hasBit m i = eqb (m / 2 ^ i % 2) 1
+
+-- how many rows set m has, of the first k and of all
+unfoldable pub sizeIn : ℕ → ℕ → ℕ
+sizeIn zero m = 0
+sizeIn (suc k) m = m % 2 + sizeIn k (m / 2)
+
+abbrev pub size : ℕ → ℕ
+size m = sizeIn maxTasks m
 
 abbrev pub isSome : Option (List Row) → Bool
 isSome none = false
@@ -70,13 +78,18 @@ module _ (test : Row → List Row → List Row → Bool) (table : List Row) wher
   abbrev pub Says : ℕ → ℕ → Type 0
   Says m v = ((v ≡ noOrder) × (orderAt m ≡ none)) ⊎ LowestIs m v
 
-  -- the record: what is known of a set is so
+  -- set m is empty or the record has it
+  abbrev pub Known : List ℕ → ℕ → Type 0
+  Known sets m = (m ≡ 0 → ⊥) → Says m (getD sets m 0)
+
+  -- the record: what is known of a set is so, and where its lowest row is known, so is the rest of the set
   pub record Recorded (sets : List ℕ) : Type 0 where
     pub room : 2 ^ length table ≤ length sets
     pub entries : (m : ℕ) → m < 2 ^ length table → (getD sets m 0 ≡ unknown) ⊎ Says m (getD sets m 0)
+    pub closed : (m : ℕ) → m < 2 ^ length table → LowestIs m (getD sets m 0) → Known sets (m - 2 ^ getD sets m 0)
 
   -- the record has set m, and tells whether it has an order
   pub record Settled (m : ℕ) (sets : List ℕ) (found : Bool) : Type 0 where
     pub recorded : Recorded sets
-    pub there : (m ≡ 0 → ⊥) → Says m (getD sets m 0)
+    pub there : Known sets m
     pub found-is : found ≡ isSome (orderAt m)

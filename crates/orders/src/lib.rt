@@ -2,11 +2,11 @@
 ghost use mathlib.Core.Path.{_≡_};
 ghost use Prim.Native.Nat.{_+_, _*_, _/_, _%_, _^_, _≤_, _<_};
 ghost use lib.ListN.{length, take};
-ghost use Rattle.rows.specs.Rows.{maxTasks, rowAt};
-ghost use Rattle.orders.specs.Sets.{fits, Settled};
+ghost use Rattle.rows.specs.Rows.{maxTasks, tasksOf};
+ghost use Rattle.orders.specs.Sets.{size, fits, Settled};
 ghost use Rattle.orders.specs.Stability.{stable};
 ghost use Rattle.orders.specs.Search.{Lent, Searching, MayGo, Told};
-ghost use Rattle.orders.specs.Search.{LowestRow, Ordered, Pushed, Listed, Table, Answered};
+ghost use Rattle.orders.specs.Search.{Pushed, Chained, Listed, Table, Answered};
 use responses::figures_under;
 use rows::MAX_TASKS;
 use rows::Order;
@@ -101,15 +101,6 @@ fn settled(rows: [Row; MAX_TASKS], n: usize, m: usize, sets: &mut [u8]) -> bool
     known != NO_ORDER
 }
 
-// The lowest row of the order of set m, which has one.
-fn lowest_row(rows: [Row; MAX_TASKS], n: usize, m: usize, sets: &mut [u8]) -> usize
-    requires { ⌜ Searching rows n m (now sets) × (1 ≤ m) × Ordered rows n m ⌝ }
-    ensures { λ r. ⌜ LowestRow rows n m (now (sets .exit)) r ⌝ }
-{
-    settled(rows, n, m, sets);
-    sets[m] as usize
-}
-
 // No tasks.
 fn nothing() -> Order
     ensures { λ r. ⌜ (length (r .tasks) ≡ maxTasks) × (r .count ≡ 0) ⌝ }
@@ -132,26 +123,32 @@ fn pushed(o: Order, task: u16) -> Order
     next
 }
 
-// The task number of row i.
-fn task_of(rows: [Row; MAX_TASKS], n: usize, i: usize) -> u16
-    requires { ⌜ Lent rows n × (i < n) ⌝ }
-    ensures { λ r. ⌜ r ≡ rowAt (take n rows) i .task ⌝ }
-{
-    let row = rows[i];
-    row.task as u16
-}
-
-// The order for set m, which has one: that for the set without its lowest row, then that row.
-fn rebuild(rows: [Row; MAX_TASKS], n: usize, m: usize, sets: &mut [u8]) -> Order
-    requires { ⌜ Searching rows n m (now sets) × Ordered rows n m ⌝ }
-    ensures { λ r. ⌜ Listed (take n rows) m (r .tasks) (r .count) ⌝ }
+// The tasks of set m's order, read off the record: those of the set without its lowest row, then that row's.
+fn rebuild(tasks: [u16; MAX_TASKS], m: usize, sets: &[u8]) -> Order
+    requires { ⌜ (m < length (now sets)) × Chained (now sets) (size m) m ⌝ }
+    ensures { λ r. ⌜ Listed tasks (now (sets .entry)) m (r .tasks) (r .count) ⌝ }
 {
     if m == 0 {
         return nothing();
     }
-    let i = lowest_row(rows, n, m, sets);
-    let above = rebuild(rows, n, m - power(i), sets);
-    pushed(above, task_of(rows, n, i))
+    let i = sets[m] as usize;
+    let above = rebuild(tasks, m - power(i), sets);
+    pushed(above, tasks[i])
+}
+
+// The task numbers of the first n rows.
+fn task_numbers(rows: [Row; MAX_TASKS], n: usize) -> [u16; MAX_TASKS]
+    requires { ⌜ Lent rows n ⌝ }
+    ensures { λ r. ⌜ take n r ≡ tasksOf (take n rows) ⌝ }
+{
+    let mut tasks = [0u16; MAX_TASKS];
+    let mut i: usize = 0;
+    while i < n {
+        let row = rows[i];
+        tasks[i] = row.task as u16;
+        i += 1;
+    }
+    tasks
 }
 
 // An order that is stable, if there is one.
@@ -168,7 +165,7 @@ fn order_in(rows: [Row; MAX_TASKS], n: usize) -> Answer
     let mut sets = [UNKNOWN; SETS];
     let all = power(n) - 1;
     if settled(rows, n, all, &mut sets) {
-        let order = rebuild(rows, n, all, &mut sets);
+        let order = rebuild(task_numbers(rows, n), all, &sets);
         return Answer { found: true, order };
     }
     Answer {

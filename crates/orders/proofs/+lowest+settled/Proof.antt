@@ -12,7 +12,7 @@ use lib.Pow.{pow-pos}
 use borrow.Fn.Kinds.{In}
 use borrow.Fn.PlainCycle.{Measures, is, falls, and}
 use Rattle.orders.specs.Orders.{theOrder}
-use Rattle.orders.specs.Sets.{isSome, orderAt, goes, Recorded}
+use Rattle.orders.specs.Sets.{isSome, orderAt, goes, Known, Recorded}
 use Rattle.orders.specs.Stability.{stable}
 use Rattle.orders.proofs.Searched.{small, a-set, a-row}
 use Rattle.orders.proofs.Stable.{by-sets}
@@ -143,8 +143,11 @@ module _ (t : ℕ) where
       let there = sym (u .found-is) ∙ c .if2 .taken in
       let goes = sym (goes-then stable table (a .m) (x .i) (may .in-set yes) (may .passes yes))
       ∙ ap (λ (k : ℕ). isSome (orderAt stable table (a .m - k))) (sym (c .before .before .before .before .before .power .ensures)) ∙ there in
+      let e = c .before .before .before .before .before .power .ensures in
+      let sets = c .before .before .before .settled .last .1 .1 .1 .0 in
       record {
         recorded = u .recorded;
+        rest = λ low. subst (λ (k : ℕ). Known stable table sets (a .m - k)) e (u .there);
         says = inr (scan-yes stable by-sets table (a .m) (x .i)
             (a-row (s .pre .1 .0 .lent) (x .i) (c .before .before .before .before .before .before .before .before .before .loop-test .taken)) (x .inv .1) goes);
       }
@@ -202,6 +205,7 @@ module _ (t : ℕ) where
       let e : x .i ≡ length table = omega (arith, x .inv .0, c .loop-test .left, s .pre .1 .0 .lent .counted) in
       record {
         recorded = x .inv .3;
+        rest = λ low. absurd (omega (arith, low .in-table, small (s .pre .1 .0 .lent)));
         says = inl (
           refl,
           x .inv .1 ∙ ap (scan theOrder stable by-sets table (a .m)) e ∙ scan-end theOrder stable by-sets table (a .m),
@@ -246,7 +250,7 @@ module _ (t : ℕ) where
       let p = s .pre .1 in
       let w = c .before .before .lowest in
       settled-new stable (take (a .n) (a .rows)) (small (p .lent)) (w .last .1 .1 .1 .0) (w .ensures .recorded) (a .m)
-      (w .result) (a-set (p .lent) (a .m) (p .set)) (w .ensures .says)
+      (w .result) (a-set (p .lent) (a .m) (p .set)) (w .ensures .says) (w .ensures .rest)
 
   settled-returns-3 : settled-lts.Need-returns-3 settled-calls settled-at settled.Post
   settled-returns-3 c =

@@ -12,11 +12,13 @@ use borrow.Author.Needs.{needs}
 use Rattle.rows.specs.Rows.{maxTasks}
 use Rattle.rows.specs.declared.Row.{Row}
 use Rattle.orders.specs.Orders.{theOrder, orderOf}
-use Rattle.orders.specs.Sets.{isSome, orderAt, unknown, Recorded}
+use Rattle.orders.specs.Sets.{size, isSome, orderAt, unknown, Recorded}
 use Rattle.orders.specs.Stability.{stable}
-use Rattle.orders.specs.Search.{tasksIn, Lent}
-use Rattle.orders.proofs.Sets.{members-few}
+use Rattle.orders.specs.Search.{tasksIn, Lent, Chained, chainTasks}
+use Rattle.orders.proofs.Sets.{size-few}
+use Rattle.orders.proofs.Searched.{small, a-set}
 use Rattle.orders.proofs.Record.{fresh}
+use Rattle.orders.proofs.Listed.{chain}
 use Rattle.orders.proofs.Scan.{at-whole}
 use Rattle.orders.proofs.Stable.{chosen}
 use Rattle.orders.proofs.order_in.Statement.{statement}
@@ -31,7 +33,7 @@ whole xs n k l e =
 begun : (xs : List Row) (n : ℕ) → Lent xs n → Recorded stable (take n xs) (replicate (2 ^ maxTasks) unknown)
 begun xs n t =
     let few : length (take n xs) ≤ maxTasks = omega (arith, t .counted, t .held) in
-    fresh stable (take n xs) (2 ^ maxTasks) (pow-mono few)
+    fresh stable (take n xs) (small t) (2 ^ maxTasks) (pow-mono few)
 
 no-tasks : (o : Option (List Row)) → false ≡ isSome o → [] ≡ tasksIn o
 no-tasks none e = refl
@@ -56,19 +58,39 @@ settled-requires c κs =
       recorded = begun (s .args .rows) n (s .pre);
     }
 
+task-numbers-requires : tie.Need-task-numbers-requires
+task-numbers-requires c κs = search needs
+
 slice-aggregate-rebuild : tie.Need-slice-aggregate-rebuild
 slice-aggregate-rebuild c = search needs
 
-rebuild-requires : tie.Need-rebuild-requires
-rebuild-requires c κs =
+-- the record has the whole set, which has an order: the tasks along its chain
+chained :
+    (c : tie.After-task-numbers) →
+    let s = c .before .before .before .before .before .before in
+    let table = take (s .args .n) (s .args .rows) in
+    let all = c .before .before .before .before .before .power .result - 1 in
+    let sets = c .before .before .before .settled .last .1 .1 .1 .0 in
+    Chained sets (size all) all
+    × (chainTasks (c .task-numbers .result) sets (size all) all ≡ tasksIn (orderAt stable table all))
+chained c =
     let s = c .before .before .before .before .before .before in
     let n = s .args .n in
-    let e = c .before .before .before .before .before .power .ensures in
-    let u = c .before .before .before .settled .ensures in (
-      record { lent = s .pre; set = omega (arith, e, pow-pos n); recorded = u .recorded },
-      sym (u .found-is)
-          ∙ c .before .if1 .taken,
-    )
+    let power = c .before .before .before .before .before .power in
+    let w = c .before .before .before .settled in
+    let u = w .ensures in
+    chain (s .args .rows) n (s .pre) (c .task-numbers .result) (c .task-numbers .ensures) (w .last .1 .1 .1 .0)
+    (u .recorded) (power .result - 1) (omega (arith, power .ensures, pow-pos n)) (u .there)
+    (sym (u .found-is) ∙ c .before .if1 .taken)
+
+rebuild-requires : tie.Need-rebuild-requires
+rebuild-requires c κs =
+    let s = c .before .before .before .before .before .before .before in
+    let n = s .args .n in
+    let power = c .before .before .before .before .before .before .power in
+    let u = c .before .before .before .before .settled .ensures in
+    let l = a-set (s .pre) (power .result - 1) (omega (arith, power .ensures, pow-pos n)) in
+    (omega (arith, u .recorded .room), chained (c .before) .0)
 
 returns : tie.Need-returns
 returns c =
@@ -78,11 +100,11 @@ returns c =
     let power = c .before .before .before .before .before .before .before .power in
     let w = whole xs n (power .result) (s .pre) (power .ensures) in
     let u = c .before .before .before .before .before .settled .ensures in
-    let o = c .before .rebuild in
-    let tasks = o .ensures .listed ∙ ap tasksIn w in
-    let few = members-few (take n xs) (power .result - 1) in
+    let o = c .rebuild in
+    let tasks = o .ensures .front ∙ chained (c .before .before) .1 ∙ ap tasksIn w in
+    let few = size-few maxTasks (power .result - 1) in
     let fits : o .result .count ≤ length (o .result .tasks) =
-    omega (arith, o .ensures .counted, o .ensures .long, few, s .pre .counted, s .pre .held) in
+    omega (arith, o .ensures .counted, o .ensures .long, few) in
     record {
       found-is = sym (c .before .before .before .if1 .taken) ∙ u .found-is ∙ ap isSome w;
       tasks-are = tasks;
@@ -119,6 +141,7 @@ order-in-spec =
     sub-all
     slice-aggregate-settled
     settled-requires
+    task-numbers-requires
     slice-aggregate-rebuild
     rebuild-requires
     returns
