@@ -162,7 +162,8 @@ or-swap false b c = refl
 taken-in : {r : Row} {rs rest : List Row} (x : ℕ) → Taken r rs rest → hasTask x rs ≡ (eqb x (r .task) || hasTask x rest)
 taken-in x here = refl
 taken-in {r} x (later {x = y} {rest = rest} t) =
-    ap (λ (b : Bool). eqb x (y .task) || b) (taken-in x t) ∙ or-swap (eqb x (y .task)) (eqb x (r .task)) (hasTask x rest)
+    ap (λ (b : Bool). eqb x (y .task) || b) (taken-in x t)
+    ∙ or-swap (eqb x (y .task)) (eqb x (r .task)) (hasTask x rest)
 
 possible-in : {os rs : List Row} (x : ℕ) → Possible os rs → hasTask x os ≡ hasTask x rs
 possible-in x nothing = refl

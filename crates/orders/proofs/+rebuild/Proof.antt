@@ -129,10 +129,11 @@ module _ (t : ℕ) where
 
   returns-2 : rebuild-lts.Need-returns-2 calls rebuild-at rebuild.Post
   returns-2 c =
-      let s = c .before .before .before .before .before .before .before .before .before .before .before .before .before in
+      let took = c .before .before .before .before .before .before .before .before .before in
+      let s = took .before .before .before .before in
       let a = s .args in
       let table = take (a .n) (a .rows) in
-      let w = c .before .before .before .before .before .before .before .before .before .lowest-row in
+      let w = took .lowest-row in
       let above = c .before .before .before .before .rebuild in
       let e = c .before .before .before .before .before .before .power .ensures in
       let l = subst (λ (k : ℕ). Listed table (a .m - k) (above .result .tasks) (above .result .count)) e

@@ -1,5 +1,5 @@
--- `orders::may_go` meets its contract: a row that is not in the set, whose rest is known to have no order, or that is not
--- stable under the rest does not go lowest.
+-- `orders::may_go` meets its contract: a row that is not in the set, whose rest is known to have no order, or that is
+-- not stable under the rest does not go lowest.
 use mathlib.Core.Path.{_≡_, refl, sym, ap, _∙_}
 use mathlib.Core.Bool.{Bool, true, false}
 use mathlib.Core.List.{List}
@@ -59,7 +59,8 @@ returns-2 c =
     let p = s .pre .0 in
     let table = take (a .n) (a .rows) in
     let rest : a .m - 2 ^ a .i < 2 ^ a .n = omega (arith, p .set) in
-    let byte = ap (λ (k : ℕ). getD (a .sets .now) (a .m - k) 0) (sym (c .before .before .power .ensures)) ∙ c .if2 .taken in
+    let bit = c .before .before .power .ensures in
+    let byte = ap (λ (k : ℕ). getD (a .sets .now) (a .m - k) 0) (sym bit) ∙ c .if2 .taken in
     stays-out (a .rows) (a .n) (a .m) (a .i)
     (sym (goes-none stable table (a .m) (a .i)
     (known-none stable table (small (p .lent)) (a .sets .now) (p .recorded) (a .m - 2 ^ a .i)

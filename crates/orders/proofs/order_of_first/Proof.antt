@@ -102,7 +102,8 @@ module _ {M : Type 1} (𝓤 : URA M) (H : Heap 𝓤) (A : Atoms 𝓤) (W : Given
       (OrderOf 𝓤 H A mem run .pre (to κ l γ))
   goes κ l γ table =
       qed W (‵ (ShrSlice (named 0) κ T.the-row .own (s l γ) (v l ∷ [])) ∷ ‵ (flft κ fullShare) ∷ []) ∵
-      says ! table $ nothing ! $ move ! (1 ∷ 0 ∷ []) $ fjoin ! $ nothing ! $ move ! (2 ∷ 0 ∷ []) $ join ! $ join ! $ done !
+      says ! table $ nothing ! $ move ! (1 ∷ 0 ∷ []) $ fjoin ! $
+      nothing ! $ move ! (2 ∷ 0 ∷ []) $ join ! $ join ! $ done !
 
   said : (κ : Lft) (l : ℕ) (γ : GName) (x : Answer)
       → ent 𝓤 (ensured 𝓤 H A order-of.ended (order-of.clauses 𝓤 H A mem run) (κ, tt) (s l γ, tt) tt x)
@@ -141,7 +142,8 @@ module _ {M : Type 1} (𝓤 : URA M) (H : Heap 𝓤) (A : Atoms 𝓤) (W : Given
         use2 W (later (some (λ (γ : GName). ‵ (ShrSlice (named 0) (α ∷ []) T.the-row .own (s l₃ γ) (v l₃ ∷ []))
         ⊛ (‵ (flent (α ∷ []) (Front 𝓤 H A W T.the-row tt (α ∷ []) 12 n xs l₃))
         ⊛ ‵ (Others 𝓤 H A W T.the-row tt (α ∷ []) 12 n xs l₃)))))
-        (lends-front 𝓤 H A W T.the-row tt (α ∷ []) 12 n xs l₃ (named 0) machs fits) $ await ! tt $ pick ! (λ γ. split ! $
+        (lends-front 𝓤 H A W T.the-row tt (α ∷ []) 12 n xs l₃ (named 0) machs fits) $
+        await ! tt $ pick ! (λ γ. split ! $
         -- [the slice; what the lender has; the token; _5; …; _4; …; _3's end; _2; …; _1; …; room for _0; …]
         rewrite ! 3 (λ (m : ℕ). ‵ (fat fullShare slice l₅ 0 (sliceVal (l₃, 0) m))) (sym counted) refl $
         move ! (0 ∷ 2 ∷ []) $

@@ -1,4 +1,5 @@
--- `orders::stable_under` meets its contract. Invariant: the columns hold the set's rows among those passed (`Gathering`).
+-- `orders::stable_under` meets its contract.
+-- Invariant: the columns hold the set's rows among those passed (`Gathering`).
 use mathlib.Core.Path.{_≡_, refl, sym, ap, subst, _∙_}
 use Prim.Native.Nat.{ℕ, _-_, _^_, _≤_, _<_}
 use native.Mathlib.Omega.{arith}
@@ -52,9 +53,10 @@ sub-rest c =
 loop-holds : tie.Need-loop-holds Inv-loop μ-loop
 loop-holds c =
     let s = c .before in
-    let table = take (s .args .n) (s .args .t1) in
-    subst (λ (k : ℕ). Gathering table (s .args .m - 2 ^ s .args .i) _ _ _ 0 (s .args .m - k) 0) (sym (c .power .ensures))
-    (gathering-none table (s .args .m - 2 ^ s .args .i) (small s) _ _ _ refl refl refl)
+    let a = s .args in
+    let table = take (a .n) (a .t1) in
+    subst (λ (k : ℕ). Gathering table (a .m - 2 ^ a .i) _ _ _ 0 (a .m - k) 0) (sym (c .power .ensures))
+    (gathering-none table (a .m - 2 ^ a .i) (small s) _ _ _ refl refl refl)
 
 mul-row : tie.Need-mul-row Inv-loop μ-loop
 mul-row c = search needs
