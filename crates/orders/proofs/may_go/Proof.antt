@@ -1,16 +1,16 @@
 -- `orders::may_go` meets its contract: a row that is not in the set, whose rest is known to have no order, or that is
 -- not stable under the rest does not go lowest.
-use mathlib.Core.Path.{_≡_, refl, sym, ap, _∙_}
-use mathlib.Core.Bool.{Bool, true, false}
+use mathlib.Core.Path.{_≡_, sym, ap, _∙_}
+use mathlib.Core.Bool.{false}
 use mathlib.Core.List.{List}
-use Prim.Native.Nat.{ℕ, _-_, _/_, _%_, _^_, _≤_, _<_}
+use Prim.Native.Nat.{ℕ, _-_, _/_, _%_, _^_, _<_}
 use native.Mathlib.Omega.{arith}
-use lib.ListN.{length, getD, take}
+use lib.ListN.{getD, take}
 use Rattle.basics.proofs.Tests.{never}
 use Rattle.rows.specs.declared.Row.{Row}
-use Rattle.orders.specs.Sets.{fits, goes}
+use Rattle.orders.specs.Sets.{goes}
 use Rattle.orders.specs.Stability.{stable}
-use Rattle.orders.specs.Search.{Searching, MayGo}
+use Rattle.orders.specs.Search.{MayGo}
 use Rattle.orders.proofs.Sets.{bit-le}
 use Rattle.orders.proofs.Record.{goes-out, goes-unfit, goes-none, known-none}
 use Rattle.orders.proofs.Searched.{small, a-set}

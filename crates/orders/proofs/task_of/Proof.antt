@@ -1,5 +1,5 @@
 -- `orders::task_of` meets its contract: a row in range has a task number of 16 bits.
-use mathlib.Core.Path.{_≡_, sym, ap, _∙_}
+use mathlib.Core.Path.{_≡_, ap, _∙_}
 use native.Mathlib.Omega.{arith}
 use lib.ListN.{length, getD, take}
 use Rattle.rows.specs.Rows.{inRange, noRow}
