@@ -1,4 +1,5 @@
--- The first n of a list, taken one by one: what is left at i is the ith and what is left after it; at n nothing is left.
+-- The first n of a list, taken one by one: what is left at i is the ith and what is left after it;
+-- at n nothing is left.
 use mathlib.Core.Path.{_≡_, ap, _∙_}
 use mathlib.Core.List.{List, [], _∷_, _++_}
 use Prim.Native.Nat.{ℕ, suc, _≤_, _<_}

@@ -1,8 +1,8 @@
 -- The rows of a set gathered as columns, one row of the table after another: after j rows the columns hold the times of
 -- the set's rows among them. So the figures found in the columns are those under the set.
-use mathlib.Core.Path.{_≡_, refl, sym, ap, ap₂, _∙_}
+use mathlib.Core.Path.{_≡_, refl, sym, ap, subst, _∙_}
 use mathlib.Core.Bool.{Bool, true}
-use mathlib.Core.List.{List, [], _∷_, _++_, map, append-nil}
+use mathlib.Core.List.{List, [], _∷_, _++_, append-nil}
 use Prim.Native.Nat.{ℕ, zero, suc, _+_, _/_, _%_, _^_, _≤_, _<_}
 use native.Mathlib.Decide.{ℕ-discrete}
 use native.Mathlib.Nat.{add-zero}
@@ -10,18 +10,17 @@ use native.Mathlib.Numerals.{add-one}
 use native.Mathlib.Omega.{arith}
 use borrow.Author.Tests.{eq-eqb, ne-eqb}
 use lib.Dec.{eqb}
-use lib.ListN.{length, getD, take, set, length-set}
+use lib.ListN.{length, getD, take, set}
 use lib.Seq.{getD-take, length-take-le, take-length}
 use Rattle.basics.proofs.Tests.{and-both}
-use Rattle.rows.specs.Rows.{maxTasks, inRange, timesInRange, allRows, noRow, rowAt}
+use Rattle.rows.specs.Rows.{maxTasks, inRange, allRows, noRow, rowAt}
 use Rattle.rows.specs.declared.Row.{Row}
-use Rattle.rows.proofs.Limits.{head-passes, tail-passes, all-times}
+use Rattle.rows.proofs.Limits.{head-passes, tail-passes}
 use Rattle.responses.specs.declared.Figures.{Figures}
-use Rattle.responses.specs.Columns.{rowsFrom, rowsAbove, Posed}
+use Rattle.responses.specs.Columns.{rowsAbove, Posed}
 use Rattle.responses.specs.Figures.{figuresUnder, isStable}
-use Rattle.responses.proofs.Gathered.{bare, bare-same, bare-times, rows-kept, rows-more}
+use Rattle.responses.proofs.Filled.{Filled, filled-none, filled-more, filled-over, filled-posed, filled-figures}
 use Rattle.responses.proofs.Responses.{stable-is}
-use Rattle.responses.proofs.Same.{same-figures}
 use Rattle.orders.specs.Sets.{keep, members}
 use Rattle.orders.proofs.Sets.{halved-after, before-next}
 
@@ -43,99 +42,61 @@ members-pass f m (r ∷ rs) h =
       | no n ↦ rw (ne-eqb (m % 2) 1 n) ih
     ]
 
-map-more : (rs : List Row) (r : Row) → map bare (rs ++ (r ∷ [])) ≡ map bare rs ++ (bare r ∷ [])
-map-more [] r = refl
-map-more (x ∷ rs) r = ap (λ (l : List Row). bare x ∷ l) (map-more rs r)
-
 -- ---- how far the gathering has come
 pub record Gathering (table : List Row) (m : ℕ) (ps ws bs : List ℕ) (count rest j : ℕ) : Type 0 where
-  pub periods-long : length ps ≡ maxTasks
-  pub worsts-long : length ws ≡ maxTasks
-  pub bests-long : length bs ≡ maxTasks
   pub few : count ≤ j
   pub passed : j ≤ length table
   pub rest-is : rest ≡ m / 2 ^ j
-  pub rows-are : rowsAbove count ps ws bs ≡ map bare (members m (take j table))
+  pub filled : Filled (members m (take j table)) ps ws bs count
 
-module _ (table : List Row) (m : ℕ) (small : length table ≤ maxTasks) where
-  pub gathering-none : (ps ws bs : List ℕ) → length ps ≡ maxTasks → length ws ≡ maxTasks → length bs ≡ maxTasks
-      → Gathering table m ps ws bs 0 m 0
-  unfolding rowsFrom
-  gathering-none ps ws bs p w b = record {
-    periods-long = p;
-    worsts-long = w;
-    bests-long = b;
-    few = omega arith;
-    passed = omega arith;
-    rest-is = omega arith;
-    rows-are = refl;
-  }
+pub gathering-none : (table : List Row) (m : ℕ) (ps ws bs : List ℕ)
+    → length ps ≡ maxTasks → length ws ≡ maxTasks → length bs ≡ maxTasks
+    → Gathering table m ps ws bs 0 m 0
+gathering-none table m ps ws bs p w b = record {
+  few = omega arith;
+  passed = omega arith;
+  rest-is = omega arith;
+  filled = filled-none ps ws bs p w b;
+}
 
-  module _ (ps ws bs : List ℕ) (count rest j : ℕ) (g : Gathering table m ps ws bs count rest j) (more : j < length table) where
-    -- row j is written after the others: it counts if its bit b is set
-    module _ (r : Row) (is : r ≡ rowAt table j) where
-      abbrev ps′ : List ℕ
-      ps′ = set ps count (r .period)
+module _ {table : List Row} {m : ℕ} {ps ws bs : List ℕ} {count rest j : ℕ} (g : Gathering table m ps ws bs count rest j)
+    (small : length table ≤ maxTasks) where
+  -- row j is written after the others: it counts if its bit b is set
+  module _ (more : j < length table) (r : Row) (is : r ≡ rowAt table j) where
+    abbrev Written : List Row → ℕ → Type 0
+    Written rs n = Filled rs (set ps count (r .period)) (set ws count (r .worst)) (set bs count (r .best)) n
 
-      abbrev ws′ : List ℕ
-      ws′ = set ws count (r .worst)
+    written : (b : ℕ) → b < 2 → Written (members m (take j table) ++ keep (eqb b 1) (rowAt table j) []) (count + b)
+    written zero h = rw (add-zero count, append-nil (members m (take j table))) (filled-over (g .filled) r)
+    written (suc zero) h =
+        rw (add-one count)
+        (filled-more (g .filled) (omega (arith, g .few)) r
+        (ap (λ (x : Row). members m (take j table) ++ (x ∷ [])) (sym is)))
+    written (suc (suc b)) h = absurd (omega arith)
 
-      abbrev bs′ : List ℕ
-      bs′ = set bs count (r .best)
-
-      written : (b : ℕ) → b < 2
-          → rowsAbove (count + b) ps′ ws′ bs′ ≡ map bare (members m (take j table) ++ keep (eqb b 1) (rowAt table j) [])
-      written zero h =
-          rw (add-zero count, append-nil (members m (take j table)))
-          (rows-kept (r .period) (r .worst) (r .best) ps ws bs count 0 count (omega arith) ∙ g .rows-are)
-      written (suc zero) h =
-          let hp : count < length ps = omega (arith, g .periods-long, g .few) in
-          let hw : count < length ws = omega (arith, g .worsts-long, g .few) in
-          let hb : count < length bs = omega (arith, g .bests-long, g .few) in
-          rw (add-one count)
-          (rows-more (r .period) (r .worst) (r .best) ps ws bs count hp hw hb
-          ∙ ap₂ (λ (l : List Row) (x : Row). l ++ (bare x ∷ [])) (g .rows-are) is
-          ∙ sym (map-more (members m (take j table)) (rowAt table j)))
-      written (suc (suc b)) h = absurd (omega arith)
-
-      pub gathering-next : Gathering table m ps′ ws′ bs′ (count + rest % 2) (rest / 2) (suc j)
-      gathering-next =
-          let bit : rest % 2 < 2 = omega arith in
-          let front = rw (sym (g .rest-is)) at (before-next 1 table j m more) in
-          record {
-            periods-long = length-set ps count (r .period) ∙ g .periods-long;
-            worsts-long = length-set ws count (r .worst) ∙ g .worsts-long;
-            bests-long = length-set bs count (r .best) ∙ g .bests-long;
-            few = omega (arith, g .few, bit);
-            passed = more;
-            rest-is = ap (λ (k : ℕ). k / 2) (g .rest-is) ∙ sym (halved-after m j);
-            rows-are = written (rest % 2) bit ∙ ap (map bare) (sym front);
-          }
+    pub gathering-next : Gathering table m (set ps count (r .period)) (set ws count (r .worst)) (set bs count (r .best))
+        (count + rest % 2) (rest / 2) (suc j)
+    gathering-next =
+        let bit : rest % 2 < 2 = omega arith in
+        let front = rw (sym (g .rest-is)) at (before-next 1 table j m more) in
+        record {
+          few = omega (arith, g .few, bit);
+          passed = more;
+          rest-is = ap (λ (k : ℕ). k / 2) (g .rest-is) ∙ sym (halved-after m j);
+          filled = subst (λ (l : List Row). Written l (count + rest % 2)) (sym front) (written (rest % 2) bit);
+        }
 
   -- ---- all rows are passed: the columns hold the set
-  module _ (ok : allRows inRange table ≡ true) (ps ws bs : List ℕ) (count rest j : ℕ)
-      (g : Gathering table m ps ws bs count rest j) (done : length table ≤ j) where
-    held : rowsAbove count ps ws bs ≡ map bare (members m table)
+  module _ (done : length table ≤ j) where
+    held : Filled (members m table) ps ws bs count
     held =
         let all : j ≡ length table = omega (arith, g .passed) in
-        g .rows-are ∙ ap (λ (k : ℕ). map bare (members m (take k table))) all
-        ∙ ap (λ (l : List Row). map bare (members m l)) (take-length table)
+        subst (λ (l : List Row). Filled (members m l) ps ws bs count)
+        (ap (λ (k : ℕ). take k table) all ∙ take-length table) (g .filled)
 
-    pub gathered-posed : (r : Row) → inRange r ≡ true → Posed r count ps ws bs
-    gathered-posed r h = record {
-      in-range = h;
-      few = omega (arith, g .few, g .passed);
-      periods-held = omega (arith, g .periods-long, g .few, g .passed);
-      worsts-held = omega (arith, g .worsts-long, g .few, g .passed);
-      bests-held = omega (arith, g .bests-long, g .few, g .passed);
-      times-in-range = ap (allRows timesInRange) held ∙ bare-times (members m table)
-          ∙ all-times (members m table) (members-pass inRange m table ok);
-    }
+    pub gathered-posed : allRows inRange table ≡ true → (r : Row) → inRange r ≡ true → Posed r count ps ws bs
+    gathered-posed ok r h = filled-posed held (omega (arith, g .few, g .passed)) (members-pass inRange m table ok) r h
 
     pub gathered-stable : (r : Row) (x : Figures) → x ≡ figuresUnder r (rowsAbove count ps ws bs)
         → x .stable ≡ isStable r (members m table)
-    gathered-stable r x e =
-        ap (λ (f : Figures). f .stable) e
-        ∙ stable-is r (rowsAbove count ps ws bs)
-        ∙ ap (isStable r) held
-        ∙ same-figures r (bare-same (members m table)) .stable-same
+    gathered-stable r x e = ap (λ (f : Figures). f .stable) (filled-figures held r x e) ∙ stable-is r (members m table)

@@ -3,14 +3,14 @@
 use mathlib.Core.Path.{_≡_, sym, ap, _∙_}
 use mathlib.Core.Bool.{true}
 use mathlib.Core.List.{List, [], _∷_, _++_, append-nil}
-use Prim.Native.Nat.{ℕ, zero, suc, _+_, _<_}
+use Prim.Native.Nat.{ℕ, zero, suc, _<_}
 use native.Mathlib.Omega.{arith}
 use lib.ListN.{length, getD, take}
 use lib.Seq.{append-snoc}
 use Rattle.basics.proofs.Tests.{and-left, and-right}
 use Rattle.rows.specs.Rows.{distinctRows, noRow}
 use Rattle.rows.specs.declared.Row.{Row}
-use Rattle.responses.specs.Figures.{worstIn, bestIn, isStable}
+use Rattle.responses.specs.Figures.{isStable}
 use Rattle.responses.proofs.Same.{Same, same-figures}
 use Rattle.orders.specs.Orders.{Taken, here, later, Possible, nothing, first, BySets, passesBetween, Chosen}
 use Rattle.orders.specs.Stability.{stable, orderStable}

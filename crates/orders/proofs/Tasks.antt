@@ -3,18 +3,18 @@
 use mathlib.Core.Path.{_≡_, refl, ap, ap₂, sym, _∙_, subst}
 use mathlib.Core.Bool.{Bool, true, false, _&&_, _||_, not, or-true, true≢false, false≢true}
 use mathlib.Core.List.{List, [], _∷_}
-use Prim.Native.Nat.{ℕ, suc}
+use Prim.Native.Nat.{ℕ}
 use native.Mathlib.Decide.{ℕ-discrete}
 use native.Mathlib.Omega.{arith}
 use borrow.Author.Tests.{eq-eqb, ne-eqb, eqb-true, not-true}
 use lib.Dec.{eqb}
 use lib.ListN.{length}
 use Rattle.basics.specs.Basics.{isIn, distinct}
-use Rattle.basics.proofs.Tests.{and-left, and-right, and-both, or-neither, eqb-swap}
+use Rattle.basics.proofs.Tests.{and-left, and-right}
 use Rattle.rows.specs.Rows.{tasksOf, hasTask, distinctRows, rowFor, rowsFor, allTasks, isPossible}
 use Rattle.rows.specs.declared.Row.{Row}
 use Rattle.orders.specs.Orders.{Taken, here, later, Possible, nothing, first}
-use Rattle.orders.proofs.Possible.{swapped, taken-length, possible-length}
+use Rattle.orders.proofs.Possible.{swapped, taken-length}
 use Rattle.orders.proofs.Rule.{other-task}
 
 -- ---- the row of a task
@@ -153,59 +153,3 @@ possible-tasks ts table h =
       distinct-tasks = and-right a (distinct ts) q;
       there = all-there ts table (and-right (a && distinct ts) (allTasks ts table) h);
     })
-
--- ---- and the other way round: the tasks of a possible order are each task of the table once and nothing else
-or-swap : (a b c : Bool) → (a || (b || c)) ≡ (b || (a || c))
-or-swap true b c = sym (or-true b)
-or-swap false b c = refl
-
-taken-in : {r : Row} {rs rest : List Row} (x : ℕ) → Taken r rs rest → hasTask x rs ≡ (eqb x (r .task) || hasTask x rest)
-taken-in x here = refl
-taken-in {r} x (later {x = y} {rest = rest} t) =
-    ap (λ (b : Bool). eqb x (y .task) || b) (taken-in x t) ∙ or-swap (eqb x (y .task)) (eqb x (r .task)) (hasTask x rest)
-
-possible-in : {os rs : List Row} (x : ℕ) → Possible os rs → hasTask x os ≡ hasTask x rs
-possible-in x nothing = refl
-possible-in x (first {r = r} t p) = ap (λ (b : Bool). eqb x (r .task) || b) (possible-in x p) ∙ sym (taken-in x t)
-
-taken-distinct : {r : Row} {rs rest : List Row} → distinctRows rs ≡ true → Taken r rs rest
-    → (hasTask (r .task) rest ≡ false) × (distinctRows rest ≡ true)
-taken-distinct {r} d (here {rs = rs}) = (
-  not-true (hasTask (r .task) rs) (and-left (not (hasTask (r .task) rs)) (distinctRows rs) d),
-  and-right (not (hasTask (r .task) rs)) (distinctRows rs) d,
-)
-taken-distinct {r} d (later {x = x} {rs = rs} {rest = rest} t) =
-    let ih = taken-distinct (and-right (not (hasTask (x .task) rs)) (distinctRows rs) d) t in
-    let fresh = not-true (hasTask (x .task) rs) (and-left (not (hasTask (x .task) rs)) (distinctRows rs) d) in
-    let both = or-neither (eqb (x .task) (r .task)) (hasTask (x .task) rest) (sym (taken-in (x .task) t) ∙ fresh) in (
-      ap (λ (b : Bool). b || hasTask (r .task) rest) (eqb-swap (x .task) (r .task) (both .0)) ∙ ih .0,
-      and-both (not (hasTask (x .task) rest)) (distinctRows rest) (ap not (both .1)) (ih .1),
-    )
-
-possible-distinct : {os rs : List Row} → distinctRows rs ≡ true → Possible os rs → distinctRows os ≡ true
-possible-distinct d nothing = refl
-possible-distinct d (first {r = r} {os = os} t p) =
-    let rest = taken-distinct d t in
-    and-both (not (hasTask (r .task) os)) (distinctRows os) (ap not (possible-in (r .task) p ∙ rest .0))
-    (possible-distinct (rest .1) p)
-
-all-named : (os rs : List Row) → ((x : ℕ) → hasTask x os ≡ true → hasTask x rs ≡ true) → allTasks (tasksOf os) rs ≡ true
-all-named [] rs h = refl
-all-named (r ∷ os) rs h =
-    and-both (hasTask (r .task) rs) (allTasks (tasksOf os) rs)
-    (h (r .task) (ap (λ (b : Bool). b || hasTask (r .task) os) (eq-eqb (r .task) (r .task) refl)))
-    (all-named os rs (λ x k. h x (in-later x (r .task) (tasksOf os) k)))
-
-tasks-length : (os : List Row) → length (tasksOf os) ≡ length os
-tasks-length [] = refl
-tasks-length (r ∷ os) = ap suc (tasks-length os)
-
-pub tasks-possible : {os table : List Row} → distinctRows table ≡ true → Possible os table
-    → isPossible (tasksOf os) table ≡ true
-tasks-possible {os} {table} d p =
-    let as-many = eqb (length (tasksOf os)) (length table) in
-    and-both (as-many && distinctRows os) (allTasks (tasksOf os) table)
-    (and-both as-many (distinctRows os)
-    (eq-eqb (length (tasksOf os)) (length table) (tasks-length os ∙ possible-length p))
-    (possible-distinct d p))
-    (all-named os table (λ x h. sym (possible-in x p) ∙ h))

@@ -57,7 +57,8 @@ none-late k above (r ∷ rs) i e h =
         → i < suc (length rs) → lateFrom (suc (suc k)) (above ++ (r ∷ [])) rs ≡ 0
         → isLate (getD (r ∷ rs) i noRow) (above ++ take i (r ∷ rs)) ≡ false
     at-rank zero t ih l z = ap (isLate r) (append-nil above) ∙ t
-    at-rank (suc j) t ih l z = ap (isLate (getD rs j noRow)) (sym (append-snoc above r (take j rs))) ∙ ih j z (omega arith)
+    at-rank (suc j) t ih l z =
+        ap (isLate (getD rs j noRow)) (sym (append-snoc above r (take j rs))) ∙ ih j z (omega arith)
 
 pub first-late-none : (order : List Row) → firstLate order ≡ 0 → (i : ℕ) → i < length order
     → isLate (getD order i noRow) (take i order) ≡ false

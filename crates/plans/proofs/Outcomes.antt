@@ -1,14 +1,11 @@
--- A text that is written fits its buffer; one that fits is written, and any other is refusal 9. What a program prints
--- goes by the number that the call returned, since every refusal has one.
+-- A text that fits its buffer is written, and any other is refusal 9. What a program prints goes by the number that the
+-- call returned, since every refusal has one.
 use mathlib.Core.Path.{_≡_, refl, sym, ap, _∙_}
 use mathlib.Core.List.{List}
-use mathlib.Core.Logic.{inl, inr}
 use Prim.Native.Nat.{ℕ, _≤_, _<_}
 use native.Mathlib.Omega.{arith}
-use lib.Dec.{leb}
 use lib.ListN.{length}
-use borrow.Author.Tests.{le-leb, lt-leb, leb-true}
-use Rattle.basics.proofs.Tests.{test-of}
+use borrow.Author.Tests.{le-leb, lt-leb}
 use Rattle.text.specs.Puts.{Wrote}
 use Rattle.text.proofs.Puts.{wrote-counts}
 use Rattle.plans.specs.declared.Plan.{Plan}
@@ -23,20 +20,6 @@ fits room t h = rw (le-leb (length t) room h, fitted)
 pub fits-not : (room : ℕ) (t : List ℕ) → room < length t → fitted room t ≡ refuses 9 0
 unfolding fitted
 fits-not room t h = rw (lt-leb (length t) room h, fitted)
-
-pub fitted-fits : (room : ℕ) (t u : List ℕ) → fitted room t ≡ writes u → (u ≡ t) × (length u ≤ room)
-unfolding fitted
-fitted-fits room t u e =
-    elim (test-of (leb (length t) room)) [
-      | inl b ↦
-          let w : writes t ≡ writes u = rw (b, fitted) at e in
-          let same : u ≡ t = cc in
-          (same, omega (arith, leb-true (length t) room b, ap length same))
-      | inr b ↦
-          let w : refuses 9 0 ≡ writes u = rw (b, fitted) at e in
-          let o : _≡_ {A = ℕ} 0 1 = cc in
-          absurd (omega arith)
-    ]
 
 -- a refusal leaves the buffer as it was
 pub refused : {w : Outcome} {o : List ℕ} {r : Plan} {number place : ℕ} → w ≡ refuses number place

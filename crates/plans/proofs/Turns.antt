@@ -21,7 +21,8 @@ use Rattle.plans.specs.Entries.{entry, entriesFrom, entries, lateFrom, f
 use Rattle.plans.specs.Ranked.{RankedAs}
 
 -- ---- one row more
-entries-more : (above os : List Row) (r : Row) → entriesFrom above (os ++ (r ∷ [])) ≡ entriesFrom above os ++ (entry r (above ++ os) ∷ [])
+entries-more : (above os : List Row) (r : Row)
+    → entriesFrom above (os ++ (r ∷ [])) ≡ entriesFrom above os ++ (entry r (above ++ os) ∷ [])
 entries-more above [] r = ap (λ (l : List Row). entry r l ∷ []) (sym (append-nil above))
 entries-more above (x ∷ os) r =
     ap (λ (l : List Entry). entry x above ∷ l)
@@ -38,7 +39,8 @@ late-of t above = go (isLate t above) (figuresAt (latest t above) (earliest t ab
 
 entry-of : (t : Row) (above : List Row) → isLate t above ≡ false
     → figuresUnder t above ≡ figuresAt (latest t above) (earliest t above) (margin t above)
-entry-of t above e = ap (λ (b : Bool). pick b lateFigures (figuresAt (latest t above) (earliest t above) (margin t above))) e
+entry-of t above e =
+    ap (λ (b : Bool). pick b lateFigures (figuresAt (latest t above) (earliest t above) (margin t above))) e
 
 -- the entry that is made of an answer
 abbrev pub entryFrom : Row → Figures → Entry

@@ -11,7 +11,8 @@ use Rattle.ranks.specs.Calls.{onTable, ifOrdered}
 use Rattle.ranks.specs.Cases.{AllHold, starred}
 
 pub starred-hold : AllHold starred
-unfolding digits decimal signed keyLine numberOf lineAt fieldAt rankAt ranksFrom fieldsFrom rowsFrom tasksFrom boardFrom smallest largest overSet rankText planText fitted onTable ifOrdered
+unfolding digits decimal signed keyLine numberOf lineAt fieldAt rankAt ranksFrom fieldsFrom rowsFrom tasksFrom boardFrom
+    smallest largest overSet rankText planText fitted onTable ifOrdered
 starred-hold = (
   (refl, refl, refl, refl, refl),
   (

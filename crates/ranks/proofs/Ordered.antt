@@ -43,7 +43,8 @@ none-late-first order h = elim (zero-or-more (firstLate order)) [
       absurd (true-not-false _ (l .late) (h (e .0) (l .there))))
 ]
 
-in-time-plan : (room board : ℕ) (order : List Row) → NoneLate order → ifInTime room board order ≡ planOf room board order
+in-time-plan : (room board : ℕ) (order : List Row) → NoneLate order
+    → ifInTime room board order ≡ planOf room board order
 unfolding ifInTime
 in-time-plan room board order h = rw (none-late-first order h, ifInTime)
 

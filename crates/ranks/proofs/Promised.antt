@@ -1,5 +1,5 @@
--- An order of rows in range in which no task is late: its plan's entries are the figures of its rows under the rows above
--- them, by the formulas, and every board keeps them.
+-- An order of rows in range in which no task is late: its plan's entries are the figures of its rows under the rows
+-- above them, by the formulas, and every board keeps them.
 use mathlib.Core.Path.{_≡_, refl, sym, ap, subst, _∙_}
 use mathlib.Core.Bool.{Bool, true, false}
 use mathlib.Core.List.{List, [], _∷_}

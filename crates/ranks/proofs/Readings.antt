@@ -26,7 +26,8 @@ pub padded-front : {A : Type 0} (d : A) (xs : List A) → take (length xs) (padd
 padded-front d xs = take-append-seam xs (replicate (maxTasks - length xs) d)
 
 -- a text's refusal is the call's
-pub refused-call : (a : Answer) (next : Outcome) → (a .refused ≡ 0 → ⊥) → onTable a next ≡ refuses (a .refused) (a .line)
+pub refused-call : (a : Answer) (next : Outcome) → (a .refused ≡ 0 → ⊥)
+    → onTable a next ≡ refuses (a .refused) (a .line)
 refused-call a next h = elim (zero-or-more (a .refused)) [
   | inl e ↦ absurd (h e)
   | inr e ↦ on-refused a next (e .0) (e .1) ∙ ap (λ (n : ℕ). refuses n (a .line)) (sym (e .1))

@@ -1,5 +1,5 @@
--- The reviewer's demands, for every text and every room. The rank lines of an accepted text make a possible order, so its
--- rows are in range; where none of them is late, the figures written are by the formulas and kept on every board.
+-- The reviewer's demands, for every text and every room. The rank lines of an accepted text make a possible order, so
+-- its rows are in range; where none of them is late, the figures written are by the formulas and kept on every board.
 use mathlib.Core.Path.{_≡_, refl, sym, ap, subst, _∙_}
 use mathlib.Core.Bool.{Bool, true, false}
 use mathlib.Core.List.{List, [], _∷_}

@@ -11,7 +11,7 @@ use Rattle.rows.specs.declared.Row.{Row}
 use Rattle.responses.specs.declared.Figures.{Figures}
 use Rattle.responses.specs.Figures.{figuresUnder}
 use Rattle.responses.specs.Columns.{rowsFrom, rowsAbove, Posed}
-use Rattle.responses.proofs.Gathered.{bare, rows-more, held-times, held-figures}
+use Rattle.responses.proofs.Gathered.{bare, rows-kept, rows-more, held-times, held-figures}
 
 -- the first n places of the columns hold the times of the rows
 pub record Filled (rs : List Row) (ps ws bs : List ℕ) (n : ℕ) : Type 0 where
@@ -37,6 +37,15 @@ module _ {rs : List Row} {ps ws bs : List ℕ} {n : ℕ} (f : Filled rs ps ws bs
         (omega (arith, f .worsts-long)) (omega (arith, f .bests-long))
         ∙ ap (λ (l : List Row). l ++ (bare r ∷ [])) (f .rows-are)
         ∙ sym (ap (map bare) e ∙ map-append bare rs (r ∷ []));
+  }
+
+  -- a row that is written after them and is not counted changes nothing
+  pub filled-over : (r : Row) → Filled rs (set ps n (r .period)) (set ws n (r .worst)) (set bs n (r .best)) n
+  filled-over r = record {
+    periods-long = length-set ps n (r .period) ∙ f .periods-long;
+    worsts-long = length-set ws n (r .worst) ∙ f .worsts-long;
+    bests-long = length-set bs n (r .best) ∙ f .bests-long;
+    rows-are = rows-kept (r .period) (r .worst) (r .best) ps ws bs n 0 n (omega arith) ∙ f .rows-are;
   }
 
   pub filled-posed : n ≤ maxTasks → allRows inRange rs ≡ true → (r : Row) → inRange r ≡ true → Posed r n ps ws bs

@@ -194,13 +194,13 @@ bare-loads : (f : Row → Load) → ((r : Row) → f (bare r) ≡ f r) → (ys :
 bare-loads f h [] = refl
 bare-loads f h (r ∷ rs) = ap₂ _∷_ (h r) (bare-loads f h rs)
 
-pub bare-same : (ys : List Row) → Same (map bare ys) ys
+bare-same : (ys : List Row) → Same (map bare ys) ys
 bare-same ys = record {
   worst-same = λ x. ap (λ (ls : List Load). interference 0 x ls) (bare-loads worstLoad (λ r. refl) ys);
   best-same = λ x. ap (λ (ls : List Load). interference 1 x ls) (bare-loads bestLoad (λ r. refl) ys);
 }
 
-pub bare-times : (ys : List Row) → allRows timesInRange (map bare ys) ≡ allRows timesInRange ys
+bare-times : (ys : List Row) → allRows timesInRange (map bare ys) ≡ allRows timesInRange ys
 bare-times [] = refl
 bare-times (r ∷ rs) = ap (λ (b : Bool). timesInRange r && b) (bare-times rs)
 

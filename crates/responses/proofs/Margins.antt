@@ -1,4 +1,5 @@
--- A margin is a difference of whole numbers, is 0 or more exactly where what is taken fits, and no step of it overflows.
+-- A margin is a difference of whole numbers, is 0 or more exactly where what is taken fits,
+-- and no step of it overflows.
 use mathlib.Core.Path.{_≡_, refl, ap, sym, _∙_, subst}
 use mathlib.Core.Bool.{Bool, true, false, cond}
 use mathlib.Core.Logic.{inl, inr}

@@ -122,7 +122,8 @@ append-passes f [] qs h k = k
 append-passes f (r ∷ rs) qs h k =
     and-both (f r) (allRows f (rs ++ qs)) (head-passes f r rs h) (append-passes f rs qs (tail-passes f r rs h) k)
 
-pub at-passes : (f : Row → Bool) (rs : List Row) (i : ℕ) → allRows f rs ≡ true → i < length rs → f (getD rs i noRow) ≡ true
+pub at-passes : (f : Row → Bool) (rs : List Row) (i : ℕ) → allRows f rs ≡ true → i < length rs
+    → f (getD rs i noRow) ≡ true
 at-passes f [] i h l = absurd (omega arith)
 at-passes f (r ∷ rs) zero h l = head-passes f r rs h
 at-passes f (r ∷ rs) (suc i) h l = at-passes f rs i (tail-passes f r rs h) (omega arith)

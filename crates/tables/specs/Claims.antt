@@ -1,4 +1,5 @@
--- What is claimed of every text: a table that is accepted is sound and is what the text says, and a refusal has its reason.
+-- What is claimed of every text: a table that is accepted is sound and is what the text says,
+-- and a refusal has its reason.
 use mathlib.Core.Path.{_≡_}
 use mathlib.Core.Bool.{Bool, true, false}
 use mathlib.Core.List.{List, []}

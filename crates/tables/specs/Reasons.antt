@@ -1,5 +1,6 @@
 -- Refusals 1 to 6 by their conditions, apart from how a text is read: what lines stand before the one that is refused,
--- and what is wrong with it. On one line the lower number comes first, so each condition holds where those before it don't.
+-- and what is wrong with it. On one line the lower number comes first, so each condition holds
+-- where those before it don't.
 use mathlib.Core.Path.{_≡_}
 use mathlib.Core.Bool.{Bool, true, false, _||_, not}
 use mathlib.Core.List.{List, [], _∷_, _++_}

@@ -9,7 +9,8 @@ use native.Mathlib.Nat.{pow-succ', one-le-pow}
 use native.Mathlib.Omega.{arith}
 use lib.Dec.{eqb, ltb, leb}
 use lib.ListN.{length, getD, length-append, List·getD-append}
-use borrow.Author.Tests.{lt-ltb, le-ltb, le-leb, lt-leb, eq-eqb, ne-eqb, eqb-true, eqb-false, ltb-true, ltb-false, not-true}
+use borrow.Author.Tests.{lt-ltb, le-ltb, le-leb, lt-leb, eq-eqb, ne-eqb}
+use borrow.Author.Tests.{eqb-true, eqb-false, ltb-true, ltb-false, not-true}
 use Rattle.basics.specs.Basics.{pick, within}
 use Rattle.basics.proofs.Tests.{test-of, and-left, and-right, Within, within-true, true-within}
 use Rattle.text.specs.declared.Digits.{Digits}
@@ -194,7 +195,8 @@ spelled (b ∷ s) v f e =
                 zero-alone zero-byte (no-bytes s alone) on)
             | inr n ↦ (
                 let some = eqb-false b digitZero n in
-                let one : decimal (10 * 0 + d) ≡ b ∷ [] = decimal-one (10 * 0 + d) (omega arith) ∙ ap (λ x. x ∷ []) (omega arith) in
+                let one : decimal (10 * 0 + d) ≡ b ∷ [] =
+                decimal-one (10 * 0 + d) (omega arith) ∙ ap (λ x. x ∷ []) (omega arith) in
                 sym (read-digits s (10 * 0 + d) v (omega arith) on ∙ ap (λ l. l ++ s) one))
           ]
       | inr t ↦

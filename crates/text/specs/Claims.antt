@@ -1,4 +1,5 @@
--- What is claimed of numbers as text: the numbers that a line may hold are those that `decimal` writes, within 12 digits.
+-- What is claimed of numbers as text: the numbers that a line may hold are those that `decimal` writes,
+-- within 12 digits.
 use mathlib.Core.Path.{_≡_}
 use mathlib.Core.List.{List}
 use Prim.Native.Nat.{ℕ, _^_, _<_}

@@ -1,13 +1,12 @@
 -- The search from a set down: a row goes lowest if it may and the set without it, a smaller number, has an order.
 -- The record keeps what it has, and each answer is the law of one step of `scan`.
 use mathlib.Core.Path.{_≡_, refl, ap, sym, subst, _∙_}
-use mathlib.Core.Bool.{true, false}
-use mathlib.Core.List.{List}
-use mathlib.Core.Logic.{_⊎_, inl, inr, ⊎-elim}
-use Prim.Native.Nat.{ℕ, suc, _+_, _-_, _*_, _^_, _≤_, _<_}
+use mathlib.Core.Bool.{false}
+use mathlib.Core.Logic.{inl, inr, ⊎-elim}
+use Prim.Native.Nat.{ℕ, suc, _+_, _-_, _*_, _≤_, _<_}
 use native.Mathlib.Numerals.{add-one}
 use native.Mathlib.Omega.{arith}
-use lib.ListN.{length, getD, take, length-set}
+use lib.ListN.{length, take, length-set}
 use lib.Pow.{pow-pos}
 use borrow.Fn.Kinds.{In}
 use borrow.Fn.PlainCycle.{Measures, is, falls, and}
@@ -122,39 +121,41 @@ module _ (t : ℕ) where
 
   lowest-cast-result : lowest-lts.Need-cast-result lowest-calls lowest-at lowest.Post lowest-Inv-loop lowest-μ-loop
   lowest-cast-result c =
-      record {
-        fits = omega (arith, c .before .before .before .before .before .before .before .before .before .before .before .before .pre .1 .0 .lent .held, c .before .before .before .before .before .before .before .before .before .loop-test .taken);
-      }
+      let turn = c .before .before .before .before .before .before .before .before .before in
+      record { fits = omega (arith, turn .before .before .before .pre .1 .0 .lent .held, turn .loop-test .taken) }
 
   lowest-same-length : lowest-lts.Need-same-length lowest-calls lowest-at lowest.Post lowest-Inv-loop lowest-μ-loop
   lowest-same-length c =
-      c .before .before .before .settled .kept .1 .1 .1 .0 ∙ c .before .before .before .before .before .before .before .before .before .before .loop .inv .2
+      let below = c .before .before .before in
+      below .settled .kept .1 .1 .1 .0 ∙ below .before .before .before .before .before .before .before .loop .inv .2
 
   -- the first row that goes
   lowest-returns : lowest-lts.Need-returns lowest-calls lowest-at lowest.Post lowest-Inv-loop lowest-μ-loop
   lowest-returns c =
-      let s = c .before .before .before .before .before .before .before .before .before .before .before .before in
+      let turn = c .before .before .before .before .before .before .before .before .before in
+      let s = turn .before .before .before in
       let a = s .args in
-      let x = c .before .before .before .before .before .before .before .before .before .before .loop in
+      let x = turn .before .loop in
       let table = take (a .n) (a .rows) in
       let u = c .before .before .before .settled .ensures in
       let may = c .before .before .before .before .before .before .before .may-go .ensures in
       let yes = c .before .before .before .before .before .before .if1 .taken in
       let there = sym (u .found-is) ∙ c .if2 .taken in
+      let bit = c .before .before .before .before .before .power .ensures in
       let goes = sym (goes-then stable table (a .m) (x .i) (may .in-set yes) (may .passes yes))
-      ∙ ap (λ (k : ℕ). isSome (orderAt stable table (a .m - k))) (sym (c .before .before .before .before .before .power .ensures)) ∙ there in
-      let e = c .before .before .before .before .before .power .ensures in
+      ∙ ap (λ (k : ℕ). isSome (orderAt stable table (a .m - k))) (sym bit) ∙ there in
       let sets = c .before .before .before .settled .last .1 .1 .1 .0 in
       record {
         recorded = u .recorded;
-        rest = λ low. subst (λ (k : ℕ). Known stable table sets (a .m - k)) e (u .there);
+        rest = λ low. subst (λ (k : ℕ). Known stable table sets (a .m - k)) bit (u .there);
         says = inr (scan-yes stable by-sets table (a .m) (x .i)
-            (a-row (s .pre .1 .0 .lent) (x .i) (c .before .before .before .before .before .before .before .before .before .loop-test .taken)) (x .inv .1) goes);
+            (a-row (s .pre .1 .0 .lent) (x .i) (turn .loop-test .taken)) (x .inv .1) goes);
       }
 
   lowest-add-i : lowest-lts.Need-add-i lowest-calls lowest-at lowest.Post lowest-Inv-loop lowest-μ-loop
   lowest-add-i c =
-      record { fits = omega (arith, c .before .before .before .loop-test .taken, c .before .before .before .before .before .before .pre .1 .0 .lent .held) }
+      let turn = c .before .before .before in
+      record { fits = omega (arith, turn .loop-test .taken, turn .before .before .before .pre .1 .0 .lent .held) }
 
   lowest-loop-less : lowest-lts.Need-loop-less lowest-calls lowest-at lowest.Post lowest-Inv-loop lowest-μ-loop
   lowest-loop-less c =

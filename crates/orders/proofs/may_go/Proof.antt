@@ -1,16 +1,16 @@
--- `orders::may_go` meets its contract: a row that is not in the set, whose rest is known to have no order, or that is not
--- stable under the rest does not go lowest.
-use mathlib.Core.Path.{_≡_, refl, sym, ap, _∙_}
-use mathlib.Core.Bool.{Bool, true, false}
+-- `orders::may_go` meets its contract: a row that is not in the set, whose rest is known to have no order, or that is
+-- not stable under the rest does not go lowest.
+use mathlib.Core.Path.{_≡_, sym, ap, _∙_}
+use mathlib.Core.Bool.{false}
 use mathlib.Core.List.{List}
-use Prim.Native.Nat.{ℕ, _-_, _/_, _%_, _^_, _≤_, _<_}
+use Prim.Native.Nat.{ℕ, _-_, _/_, _%_, _^_, _<_}
 use native.Mathlib.Omega.{arith}
-use lib.ListN.{length, getD, take}
+use lib.ListN.{getD, take}
 use Rattle.basics.proofs.Tests.{never}
 use Rattle.rows.specs.declared.Row.{Row}
-use Rattle.orders.specs.Sets.{fits, goes}
+use Rattle.orders.specs.Sets.{goes}
 use Rattle.orders.specs.Stability.{stable}
-use Rattle.orders.specs.Search.{Searching, MayGo}
+use Rattle.orders.specs.Search.{MayGo}
 use Rattle.orders.proofs.Sets.{bit-le}
 use Rattle.orders.proofs.Record.{goes-out, goes-unfit, goes-none, known-none}
 use Rattle.orders.proofs.Searched.{small, a-set}
@@ -59,7 +59,8 @@ returns-2 c =
     let p = s .pre .0 in
     let table = take (a .n) (a .rows) in
     let rest : a .m - 2 ^ a .i < 2 ^ a .n = omega (arith, p .set) in
-    let byte = ap (λ (k : ℕ). getD (a .sets .now) (a .m - k) 0) (sym (c .before .before .power .ensures)) ∙ c .if2 .taken in
+    let bit = c .before .before .power .ensures in
+    let byte = ap (λ (k : ℕ). getD (a .sets .now) (a .m - k) 0) (sym bit) ∙ c .if2 .taken in
     stays-out (a .rows) (a .n) (a .m) (a .i)
     (sym (goes-none stable table (a .m) (a .i)
     (known-none stable table (small (p .lent)) (a .sets .now) (p .recorded) (a .m - 2 ^ a .i)

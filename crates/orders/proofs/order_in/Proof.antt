@@ -25,7 +25,8 @@ use Rattle.orders.proofs.order_in.Statement.{statement}
 use Rattle.orders.proofs.order_in.Tie as tie
 
 -- what is said of the whole set is said of the table
-whole : (xs : List Row) (n k : ℕ) → Lent xs n → k ≡ 2 ^ n → orderAt stable (take n xs) (k - 1) ≡ orderOf stable (take n xs)
+whole : (xs : List Row) (n k : ℕ) → Lent xs n → k ≡ 2 ^ n
+    → orderAt stable (take n xs) (k - 1) ≡ orderOf stable (take n xs)
 whole xs n k l e =
     ap (λ (j : ℕ). orderAt stable (take n xs) (j - 1)) (e ∙ ap (λ (j : ℕ). 2 ^ j) (sym (l .counted)))
     ∙ at-whole theOrder stable (take n xs)

@@ -1,4 +1,5 @@
--- `orders::stable_under` meets its contract. Invariant: the columns hold the set's rows among those passed (`Gathering`).
+-- `orders::stable_under` meets its contract.
+-- Invariant: the columns hold the set's rows among those passed (`Gathering`).
 use mathlib.Core.Path.{_≡_, refl, sym, ap, subst, _∙_}
 use Prim.Native.Nat.{ℕ, _-_, _^_, _≤_, _<_}
 use native.Mathlib.Omega.{arith}
@@ -52,9 +53,10 @@ sub-rest c =
 loop-holds : tie.Need-loop-holds Inv-loop μ-loop
 loop-holds c =
     let s = c .before in
-    let table = take (s .args .n) (s .args .t1) in
-    subst (λ (k : ℕ). Gathering table (s .args .m - 2 ^ s .args .i) _ _ _ 0 (s .args .m - k) 0) (sym (c .power .ensures))
-    (gathering-none table (s .args .m - 2 ^ s .args .i) (small s) _ _ _ refl refl refl)
+    let a = s .args in
+    let table = take (a .n) (a .t1) in
+    subst (λ (k : ℕ). Gathering table (a .m - 2 ^ a .i) _ _ _ 0 (a .m - k) 0) (sym (c .power .ensures))
+    (gathering-none table (a .m - 2 ^ a .i) _ _ _ refl refl refl)
 
 mul-row : tie.Need-mul-row Inv-loop μ-loop
 mul-row c = search needs
@@ -103,11 +105,9 @@ loop-again c =
     let test = c .before .before .before .before .loop-test in
     let x = c .before .before .before .before .before .loop in
     let s = c .before .before .before .before .before .before .before in
-    let table = take (s .args .n) (s .args .t1) in
-    let set = s .args .m - 2 ^ s .args .i in
     rw (add-one (x .j))
-    (gathering-next table set (small s) (x .periods) (x .worsts) (x .bests) (x .count) (x .rest) (x .j) (x .inv)
-    (omega (arith, long s, test .taken)) (getD (s .args .t1) (x .j) noRow) (row-is s (x .j) (test .taken)))
+    (gathering-next (x .inv) (small s) (omega (arith, long s, test .taken)) (getD (s .args .t1) (x .j) noRow)
+    (row-is s (x .j) (test .taken)))
 
 mul-figures-under : tie.Need-mul-figures-under Inv-loop μ-loop
 mul-figures-under c = search needs
@@ -126,24 +126,21 @@ slice-aggregate-figures-under-3 c = search needs
 
 figures-under-requires : tie.Need-figures-under-requires Inv-loop μ-loop
 figures-under-requires c κs =
-    let s = c .before .before .before .before .before .before .before in
-    let x = c .before .before .before .before .before .loop in
+    let end = c .before .before .before .before in
+    let s = end .before .before .before in
     let table = take (s .args .n) (s .args .t1) in
     let ranged = ap inRange (row-is s (s .args .i) (s .pre .1))
     ∙ at-passes inRange table (s .args .i) (s .pre .0 .table .in-range) (omega (arith, long s, s .pre .1)) in
-    gathered-posed table (s .args .m - 2 ^ s .args .i) (small s) (s .pre .0 .table .in-range) (x .periods) (x .worsts)
-    (x .bests) (x .count) (x .rest) (x .j) (x .inv)
-    (omega (arith, long s, c .before .before .before .before .loop-test .left)) (getD (s .args .t1) (s .args .i) noRow)
-    ranged
+    gathered-posed (end .before .loop .inv) (small s) (omega (arith, long s, end .loop-test .left))
+    (s .pre .0 .table .in-range) (getD (s .args .t1) (s .args .i) noRow) ranged
 
 returns : tie.Need-returns Inv-loop μ-loop
 returns c =
-    let s = c .before .before .before .before .before .before .before .before in
-    let x = c .before .before .before .before .before .before .loop in
+    let end = c .before .before .before .before .before in
+    let s = end .before .before .before in
     let table = take (s .args .n) (s .args .t1) in
     let set = s .args .m - 2 ^ s .args .i in
-    gathered-stable table set (small s) (s .pre .0 .table .in-range) (x .periods) (x .worsts) (x .bests) (x .count)
-    (x .rest) (x .j) (x .inv) (omega (arith, long s, c .before .before .before .before .before .loop-test .left))
+    gathered-stable (end .before .loop .inv) (small s) (omega (arith, long s, end .loop-test .left))
     (getD (s .args .t1) (s .args .i) noRow) (c .figures-under .result) (c .figures-under .ensures)
     ∙ ap (λ (r : Row). isStable r (members set table)) (row-is s (s .args .i) (s .pre .1))
 

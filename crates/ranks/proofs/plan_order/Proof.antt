@@ -1,5 +1,5 @@
--- `ranks::plan_order` meets its contract: a late rank is refusal 7, and where none is late the entries written are those
--- of the rows, which keep their limits.
+-- `ranks::plan_order` meets its contract: a late rank is refusal 7, and where none is late the entries written are
+-- those of the rows, which keep their limits.
 use mathlib.Core.Path.{_≡_, sym, ap, subst, _∙_}
 use mathlib.Core.Bool.{true}
 use mathlib.Core.List.{List}

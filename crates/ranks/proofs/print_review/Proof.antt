@@ -29,8 +29,9 @@ returns c =
     let text = now (s .args .text) in
     let says = f .review-order .ensures in
     let listed = rw (room f) at (says .demands .listed) in
+    let answer = rw (room f) at (says .answer) in
     let p = c .printed .ensures in (
-      p .text (reviewed text planRoom) (now (s .args .out)) (numbered _ reviewerRefusals refl listed) (rw (room f) at (says .answer)),
+      p .text (reviewed text planRoom) (now (s .args .out)) (numbered _ reviewerRefusals refl listed) answer,
       p .counts,
     )
 

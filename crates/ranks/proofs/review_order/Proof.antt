@@ -36,7 +36,8 @@ planned-rows : (c : tie.After-rows-for)
 planned-rows c =
     let e = c .before .before .before in
     let r = e .before .read-table in
-    given-rows (text-of (e .before)) (r .result) (r .ensures .result) (ok e) (c .rows-for .result) (c .rows-for .ensures)
+    given-rows (text-of (e .before)) (r .result) (r .ensures .result) (ok e)
+    (c .rows-for .result) (c .rows-for .ensures)
 
 read-table-requires : tie.Need-read-table-requires
 read-table-requires c κs = search needs
@@ -74,7 +75,8 @@ plan-order-requires c κs =
     let e = w .before .before .before in
     let r = e .before .read-table in (
       few true (text-of (e .before)) (r .result) (r .ensures .result) (ok e),
-      ap (allRows inRange) (planned-rows w) ∙ given-ranged (text-of (e .before)) (r .result) (r .ensures .result) (ok e),
+      ap (allRows inRange) (planned-rows w)
+          ∙ given-ranged (text-of (e .before)) (r .result) (r .ensures .result) (ok e),
     )
 
 same-length : tie.Need-same-length

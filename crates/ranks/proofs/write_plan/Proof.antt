@@ -114,10 +114,11 @@ plan-order-requires c κs =
     let d = w .before .before in
     let e = d .before .before .before .before in
     let r = e .before .read-table in
-    let o = d .before .before .order-of-first in (
-      few false (text-of (e .before)) (r .result) (r .ensures .result) (ok e),
+    let o = d .before .before .order-of-first in
+    let text = text-of (e .before) in (
+      few false text (r .result) (r .ensures .result) (ok e),
       ap (allRows inRange) (planned-rows w)
-          ∙ order-ranged (text-of (e .before)) (r .result) (r .ensures .result) (ok e) (o .result) (o .ensures) (found d),
+          ∙ order-ranged text (r .result) (r .ensures .result) (ok e) (o .result) (o .ensures) (found d),
     )
 
 same-length : tie.Need-same-length
@@ -133,11 +134,12 @@ returns-3 c =
     let o = d .before .before .order-of-first in
     let s = e .before .before .before .before in
     let room = length (now (s .args .out)) in
+    let text = text-of (e .before) in
     let is = ap (ifInTime room (r .result .table .board)) (planned-rows w)
-    ∙ ordered-plan (text-of (e .before)) (r .result) (r .ensures .result) (ok e) (o .result) (o .ensures) (found d) room in
+    ∙ ordered-plan text (r .result) (r .ensures .result) (ok e) (o .result) (o .ensures) (found d) room in
     record {
       answer = subst (λ (x : Outcome). Written x (now (s .args .out)) (p .last .0) (p .result)) is (p .ensures);
-      demands = plan-demands (text-of (e .before)) room;
+      demands = plan-demands text room;
     }
 
 pub write-plan-spec : {M : Type 1} → statement M

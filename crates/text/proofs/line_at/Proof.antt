@@ -62,8 +62,8 @@ module _ (n : tie.After-number-of) where
       let ended = n .before .if2 .left in
       let keyed = sym (k .starts-with .ensures) ∙ not-false _ (f .before .before .if1 .left) in
       ended-ranged (a .key .now) (call .pre) (a .low) (a .high) (a .text .now) (a .offset) (a .line)
-      (rest k) (k .before .rest-of .ensures) (tail f) (written f) (f .before .rest-of2 .ensures) (f .first-line .ensures)
-      keyed ended d (sym (n .number-of .ensures) ∙ e)
+      (rest k) (k .before .rest-of .ensures) (tail f) (written f) (f .before .rest-of2 .ensures)
+      (f .first-line .ensures) keyed ended d (sym (n .number-of .ensures) ∙ e)
 
   -- the line and its feed stand within the text
   within-text : next ≤ length (call .args .text .now)

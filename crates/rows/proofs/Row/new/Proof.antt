@@ -14,9 +14,7 @@ keeps-requires c κs = search needs
 -- past the test, the numbers keep their limits
 known : (c : tie.Else1)
     → let n = c .before .before .args in Limits (row (n .task) (n .period) (n .worst) (n .best) (n .alpha) (n .beta))
-known c =
-    let n = c .before .before .args in
-    limits (row (n .task) (n .period) (n .worst) (n .best) (n .alpha) (n .beta)) (sym (c .before .keeps .ensures) ∙ not-false _ (c .if1 .left))
+known c = limits _ (sym (c .before .keeps .ensures) ∙ not-false _ (c .if1 .left))
 
 returns : tie.Need-returns
 returns c = simp (sym (c .before .keeps .ensures) ∙ not-true _ (c .if1 .taken))
