@@ -1,13 +1,16 @@
 -- `text::end_at` meets its contract: each return follows from the test that led there.
+use lib.ListN.{length}
 use borrow.Author.Tests.{lt-ltb, le-ltb}
 use Rattle.text.proofs.end_at.Statement.{statement}
 use Rattle.text.proofs.end_at.Tie as tie
 
 returns : tie.Need-returns
-returns c = simp (lt-ltb _ _ (c .if1 .taken))
+returns c =
+    let a = c .before .args in simp (lt-ltb (a .offset) (length (a .text .now)) (c .if1 .taken))
 
 returns-2 : tie.Need-returns-2
-returns-2 c = simp (le-ltb _ _ (c .if1 .left))
+returns-2 c =
+    let a = c .before .args in simp (le-ltb (a .offset) (length (a .text .now)) (c .if1 .left))
 
 pub end-at-spec : {M : Type 1} → statement M
 end-at-spec = tie.close (tie.spec returns returns-2)

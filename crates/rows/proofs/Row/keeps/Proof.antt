@@ -22,7 +22,19 @@ within-requires-6 : tie.Need-within-requires-6
 within-requires-6 c κs = search needs
 
 returns : tie.Need-returns
-returns c = cc
+returns c =
+    let five = c .before in
+    let four = five .before in
+    let three = four .before in
+    let two = three .before in
+    rw (
+      two .before .within .ensures,
+      two .within2 .ensures,
+      three .within3 .ensures,
+      four .within4 .ensures,
+      five .within5 .ensures,
+      c .within6 .ensures,
+    )
 
 pub keeps-spec : {M : Type 1} → statement M
 keeps-spec =
