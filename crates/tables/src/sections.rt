@@ -99,6 +99,7 @@ fn read_row(text: &[u8], offset: usize, line: u32, rows: [Row; MAX_TASKS], count
     }
     let v = rest.numbers;
     let checked = Row::new(task, v.first, v.second, v.third, v.fourth, v.fifth);
+    // Each line was held to its range, so that the row always is in range.
     let Checked::InRange(row) = checked else {
         return RowRead::stopped(0, 0);
     };
