@@ -2,7 +2,7 @@
 use mathlib.Core.Path.{_≡_}
 use mathlib.Core.Bool.{Bool, true, false}
 use mathlib.Core.List.{List, []}
-use Prim.Native.Nat.{ℕ, zero, suc, _+_, _-_, _≤_, _<_}
+use Prim.Native.Nat.{ℕ, zero, suc, _+_, _-_, _*_, _≤_, _<_}
 use lib.Dec.{ltb, leb}
 use Rattle.basics.specs.Basics.{pick}
 use Rattle.text.specs.Text.{bytes}
@@ -16,7 +16,7 @@ use Rattle.tables.specs.declared.progress.Part.the-variants as P
 use Rattle.tables.specs.declared.progress.Progress.{Progress}
 use Rattle.tables.specs.declared.reader.Place.{Place}
 use Rattle.tables.specs.declared.reader.Reader.{Reader}
-use Rattle.tables.specs.Tables.{minBoard, maxBoard, keyAt, lowAt, highAt}
+use Rattle.tables.specs.Tables.{minBoard, maxBoard, fieldCount, keyAt, lowAt, highAt}
 
 -- how many lines a part has
 abbrev pub partSize : Part → ℕ
@@ -25,9 +25,9 @@ partSize P.Task = 1
 partSize P.Rest = 5
 partSize P.Rank = 1
 
--- two lines, twelve rows of six, twelve ranks, and the line after them
+-- two lines, the rows' lines, the rank lines, and the line after them
 abbrev pub maxLines : ℕ
-maxLines = 87
+maxLines = 2 + fieldCount * maxTasks + maxTasks + 1
 
 -- ---- the numbers of a part
 abbrev pub numbers : ℕ → ℕ → ℕ → ℕ → ℕ → Numbers
