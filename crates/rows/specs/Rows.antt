@@ -1,7 +1,7 @@
 -- A task's row: the limits of its numbers, each once and by name, and rows in range.
 use mathlib.Core.Bool.{Bool, true, false, _&&_}
 use mathlib.Core.List.{List, [], _∷_}
-use Prim.Native.Nat.{ℕ}
+use Prim.Native.Nat.{ℕ, suc}
 use lib.Dec.{eqb, leb}
 use lib.ListN.{length, getD}
 use Rattle.basics.specs.Basics.{within, isIn, distinct}
@@ -89,6 +89,11 @@ hasTask t rs = isIn t (tasksOf rs)
 -- no task number twice
 abbrev pub distinctRows : List Row → Bool
 distinctRows rs = distinct (tasksOf rs)
+
+-- where a number first stands in a list, counted from 0; as many as the list has where it does not
+abbrev pub positionOf : ℕ → List ℕ → ℕ
+positionOf x [] = 0
+positionOf x (y ∷ ys) = elim (eqb x y) [ true ↦ 0 | false ↦ suc (positionOf x ys) ]
 
 -- the row of a task number; the rows of some
 abbrev pub rowFor : ℕ → List Row → Row

@@ -1,7 +1,7 @@
 ghost use mathlib.Core.Path.{_≡_};
 ghost use Prim.Native.Nat.{_≤_};
 ghost use lib.ListN.{take};
-ghost use Rattle.rows.specs.Rows.{maxTasks, inRange, row, noRow, rowFor, rowsFor};
+ghost use Rattle.rows.specs.Rows.{maxTasks, inRange, row, noRow, tasksOf, positionOf, rowsFor};
 ghost use Rattle.rows.specs.Checked.{checked};
 use basics::within;
 
@@ -107,20 +107,34 @@ pub fn no_row() -> Row
     }
 }
 
-// The row of a task among the first n rows.
-pub fn row_for(task: u32, rows: [Row; MAX_TASKS], n: usize) -> Row
+// The task numbers of the first n rows.
+fn task_numbers(rows: [Row; MAX_TASKS], n: usize) -> [u32; MAX_TASKS]
     requires { ⌜ n ≤ maxTasks ⌝ }
-    ensures { λ r. ⌜ r ≡ rowFor task (take n rows) ⌝ }
+    ensures { λ r. ⌜ take n r ≡ tasksOf (take n rows) ⌝ }
 {
+    let mut numbers = [0u32; MAX_TASKS];
     let mut i = 0;
     while i < n {
         let row = rows[i];
-        if task == row.task {
-            return row;
+        numbers[i] = row.task;
+        i += 1;
+    }
+    numbers
+}
+
+// Where a task stands among the first n numbers; n where it does not.
+fn position_of(task: u32, numbers: [u32; MAX_TASKS], n: usize) -> usize
+    requires { ⌜ n ≤ maxTasks ⌝ }
+    ensures { λ r. ⌜ r ≡ positionOf task (take n numbers) ⌝ }
+{
+    let mut i = 0;
+    while i < n {
+        if task == numbers[i] {
+            return i;
         }
         i += 1;
     }
-    no_row()
+    n
 }
 
 // The rows of the first tasks, as many as count says, among the first n rows.
@@ -133,10 +147,14 @@ pub fn rows_for(
     requires { ⌜ (count ≤ maxTasks) × (n ≤ maxTasks) ⌝ }
     ensures { λ r. ⌜ take count r ≡ rowsFor (take count tasks) (take n rows) ⌝ }
 {
+    let numbers = task_numbers(rows, n);
     let mut found = [no_row(); MAX_TASKS];
     let mut k = 0;
     while k < count {
-        found[k] = row_for(tasks[k] as u32, rows, n);
+        let at = position_of(tasks[k] as u32, numbers, n);
+        if at < n {
+            found[k] = rows[at];
+        }
         k += 1;
     }
     found
