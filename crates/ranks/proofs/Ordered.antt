@@ -1,10 +1,10 @@
 -- What the calls plan: the rows of the order chosen, none of which is late, or of the order given.
 use mathlib.Core.Path.{_≡_, refl, sym, ap, ap₂, subst, _∙_}
 use mathlib.Core.Bool.{Bool, true, false, _&&_}
-use mathlib.Core.List.{List, [], _∷_}
+use mathlib.Core.List.{List}
 use mathlib.Core.Logic.{inl, inr}
 use mathlib.Core.Option.{Option, none, some}
-use Prim.Native.Nat.{ℕ, zero, suc, _≤_, _<_}
+use Prim.Native.Nat.{ℕ, zero, _≤_, _<_}
 use native.Mathlib.Omega.{arith}
 use lib.Dec.{eqb}
 use lib.ListN.{length, getD, take}
@@ -13,6 +13,7 @@ use Rattle.basics.specs.Basics.{distinct}
 use Rattle.basics.proofs.Tests.{and-left, true-not-false}
 use Rattle.rows.specs.Rows.{inRange, allRows, allTasks, tasksOf, rowsFor}
 use Rattle.rows.specs.declared.Row.{Row}
+use Rattle.rows.proofs.Tasks.{tasks-length}
 use Rattle.tables.specs.declared.Reading.{Reading}
 use Rattle.tables.specs.Tables.{Answer, readTable}
 use Rattle.tables.specs.Readings.{padded, reading}
@@ -82,10 +83,6 @@ module _ (text : List ℕ) (r : Reading) (is : r ≡ reading (readTable false te
 
     tasks-are : take (a .order .count) (a .order .tasks) ≡ tasksOf order
     tasks-are = found .tasks-are ∙ ap (λ (l : List Row). tasksIn (chosenOrder l)) front ∙ ap tasksIn (some-order .1)
-
-    tasks-length : (os : List Row) → length (tasksOf os) ≡ length os
-    tasks-length [] = refl
-    tasks-length (x ∷ os) = ap suc (tasks-length os)
 
     as-many : a .order .count ≡ n
     as-many =

@@ -4,9 +4,13 @@ use mathlib.Core.Bool.{Bool, true, false}
 use mathlib.Core.List.{List, [], _∷_, _++_}
 use Prim.Native.Nat.{ℕ, suc}
 use lib.Dec.{eqb}
-use lib.ListN.{getD}
+use lib.ListN.{length, getD}
 use Rattle.rows.specs.declared.Row.{Row}
 use Rattle.rows.specs.Rows.{noRow, tasksOf, positionOf, rowFor}
+
+pub tasks-length : (rs : List Row) → length (tasksOf rs) ≡ length rs
+tasks-length [] = refl
+tasks-length (r ∷ rs) = ap suc (tasks-length rs)
 
 pub tasks-last : (rs : List Row) (r : Row) → tasksOf (rs ++ (r ∷ [])) ≡ tasksOf rs ++ (r .task ∷ [])
 tasks-last [] r = refl

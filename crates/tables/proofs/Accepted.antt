@@ -17,6 +17,7 @@ use Rattle.basics.proofs.Tests.{Within, within-true, eqb-swap, in-append}
 use Rattle.rows.specs.Rows.{minTask, maxTask, minTicks, maxTicks, minAlpha, maxAlpha, minBeta, maxBeta}
 use Rattle.rows.specs.Rows.{minTasks, maxTasks, inRange, allRows, tasksOf, hasTask, distinctRows, allTasks, isPossible}
 use Rattle.rows.specs.declared.Row.{Row}
+use Rattle.rows.proofs.Tasks.{tasks-last}
 use Rattle.rows.proofs.Limits.{in-range}
 use Rattle.tables.specs.Tables.{minBoard, maxBoard, fieldCount, rowOf, accepted}
 use Rattle.tables.specs.Reasons.{Stage, at-board, at-tasks, at-field, at-rank, at-end}
@@ -31,10 +32,6 @@ distinct-last (y ∷ xs) x e h =
     let o = or-neither (eqb x y) (isIn x xs) h in
     rw (in-append y xs (x ∷ []), new, eqb-swap x y (o .0))
     (distinct-last xs x (and-right (not (isIn y xs)) (distinct xs) e) (o .1))
-
-tasks-last : (rs : List Row) (r : Row) → tasksOf (rs ++ (r ∷ [])) ≡ tasksOf rs ++ (r .task ∷ [])
-tasks-last [] r = refl
-tasks-last (x ∷ rs) r = ap (λ l. x .task ∷ l) (tasks-last rs r)
 
 all-rows-last : (f : Row → Bool) (rs : List Row) (r : Row) → allRows f rs ≡ true → f r ≡ true
     → allRows f (rs ++ (r ∷ [])) ≡ true

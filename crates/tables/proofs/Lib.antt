@@ -4,7 +4,6 @@ pub mod Stages
 pub mod Answers
 pub mod Reasons
 pub mod Numbers
-pub mod Seeks
 pub mod Told
 pub mod Steps
 pub mod Parts

@@ -197,9 +197,13 @@ module _ (rs : List Row) (text : List ℕ) (at k : ℕ) where
         (subst (RestRead task (j + 5) (fieldsFrom 5 1 (task ∷ []) rs text next j)) (sym is)
         (reads rs text task 5 [] next j refl (good-next 0 0 rs [] task (λ i l. absurd (omega arith)) passes)))
 
-  -- a whole row takes six lines
-  pub row-lines : row-is .refused ≡ 0 → row-is .line ≡ k + fieldCount
-  row-lines z =
+  -- a whole row takes six lines and is in range
+  pub record RowWhole : Type 0 where
+    pub lines : row-is .line ≡ k + fieldCount
+    pub in-range : inRange (rowOf (row-is .values)) ≡ true
+
+  pub row-whole : row-is .refused ≡ 0 → RowWhole
+  row-whole z =
       elim (task-told text at k) [
         | number t next e w ↦ elim (test-of (hasTask t rs)) [
           | inl h ↦ not-both (ap (λ x. x .refused) (row-again t next e h)) z
@@ -207,7 +211,10 @@ module _ (rs : List Row) (text : List ℕ) (at k : ℕ) where
               let rest = readPart text (started P.Rest next (k + 1)) in
               elim (row-rest t next e h w rest (k + 1) refl refl) [
                 | stops n r x ↦ not-both (ap (λ f. f .refused) x) z
-                | whole vs r l ns x i ↦ ap (λ f. f .line) x ∙ l ∙ omega arith
+                | whole vs r l ns x i ↦ record {
+                  lines = ap (λ f. f .line) x ∙ l ∙ omega arith;
+                  in-range = ap (λ f. inRange (rowOf (f .values))) x ∙ i;
+                }
               ]
         ]
         | refused n r ↦ not-both (ap (λ x. x .refused) (row-unnamed n r)) z

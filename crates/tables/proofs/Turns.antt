@@ -15,8 +15,10 @@ use Rattle.basics.proofs.Tests.{test-of}
 use Rattle.text.specs.Lines.{endAt, refusal, place, onNumber}
 use Rattle.text.specs.declared.Line.{Line}
 use Rattle.text.specs.declared.Line.the-variants as L
-use Rattle.rows.specs.Rows.{maxTasks, noRow}
+use Rattle.rows.specs.Rows.{maxTask, maxTasks, row, noRow, tasksOf}
 use Rattle.rows.specs.declared.Row.{Row}
+use Rattle.rows.proofs.Limits.{limits}
+use Rattle.rows.proofs.Tasks.{tasks-length, tasks-last}
 use Rattle.tables.specs.declared.Reading.{Reading}
 use Rattle.tables.specs.declared.sections.RowRead.{RowRead}
 use Rattle.tables.specs.declared.sections.RowsRead.{RowsRead}
@@ -25,10 +27,10 @@ use Rattle.tables.specs.declared.sections.RanksRead.{RanksRead}
 use Rattle.tables.specs.Tables.{fieldCount, rankAt, Answer, turnedDown, accepted, Fields, fieldsFrom, rowOf}
 use Rattle.tables.specs.Tables.{rowsFrom, ranksFrom}
 use Rattle.tables.specs.Readings.{padded, reading}
-use Rattle.tables.specs.Sections.{rowRead, stoppedRank, rankRead, RowsAre, rows-refused, rows-read}
+use Rattle.tables.specs.Sections.{rowRead, stoppedRank, rankRead, WithTasks, RowsAre, rows-refused, rows-read}
 use Rattle.tables.specs.Sections.{RanksAre, ranks-refused, ranks-read}
 use Rattle.tables.proofs.Parts.{rank-read}
-use Rattle.tables.proofs.RowLines.{row-is, row-lines}
+use Rattle.tables.proofs.RowLines.{row-is, row-whole}
 use Rattle.tables.proofs.Told.{not-both, refused-ends, number, refused}
 
 -- ---- lists in arrays: one more after those at the front
@@ -41,41 +43,47 @@ padded-next d x xs h =
     ∙ set-append-seam xs d (replicate left d) x
     ∙ sym (append-snoc xs x (replicate left d))
 
-pub padded-front : {A : Type 0} (d : A) (xs : List A) → take (length xs) (padded d xs) ≡ xs
+padded-front : {A : Type 0} (d : A) (xs : List A) → take (length xs) (padded d xs) ≡ xs
 padded-front d xs = take-append-seam xs _
+
+-- the tasks of some rows at the front of an array
+pub tasks-front : (numbers : List ℕ) (rs : List Row) (n : ℕ) → numbers ≡ padded 0 (tasksOf rs) → length rs ≡ n
+    → tasksOf rs ≡ take n numbers
+tasks-front numbers rs n held many =
+    sym (ap₂ take (sym (tasks-length rs ∙ many)) held ∙ padded-front 0 (tasksOf rs))
 
 -- ---- the rows
 module _ (text : List ℕ) (at₀ k₀ n : ℕ) where
-  -- some are read, and held at the front of an array
-  pub record RowsSoFar (rows : List Row) (at k i : ℕ) : Type 0 where
+  -- some are read, and held at the front of an array, their tasks at the front of another
+  pub record RowsSoFar (rows : List Row) (numbers : List ℕ) (at k i : ℕ) : Type 0 where
     pub read : List Row
     pub held : rows ≡ padded noRow read
+    pub tasks : numbers ≡ padded 0 (tasksOf read)
     pub many : length read ≡ i
     pub within : i ≤ n
     pub line : k ≡ k₀ + fieldCount * i
     pub same : (ranked : Bool) (b : ℕ) → rowsFrom ranked (n - i) b read text at k ≡ rowsFrom ranked n b [] text at₀ k₀
 
-  pub rows-start : (rows : List Row) → rows ≡ padded noRow [] → RowsSoFar rows at₀ k₀ 0
+  pub rows-start : (rows : List Row) → rows ≡ padded noRow [] → RowsSoFar rows (padded 0 []) at₀ k₀ 0
   rows-start rows e = record {
     read = [];
     held = e;
+    tasks = refl;
     many = refl;
     within = omega arith;
     line = omega arith;
     same = λ ranked b. ap (λ m. rowsFrom ranked m b [] text at₀ k₀) (omega arith);
   }
 
-  module _ (rows : List Row) (at k i : ℕ) (so : RowsSoFar rows at k i) (more : i < n) (few : n ≤ maxTasks)
-      (r : RowRead) (is : r ≡ rowRead (fieldsFrom fieldCount 0 [] (take i rows) text at k)) where
+  module _ (rows : List Row) (numbers : List ℕ) (at k i : ℕ) (so : RowsSoFar rows numbers at k i) (more : i < n)
+      (few : n ≤ maxTasks) (r : RowRead)
+      (is : WithTasks (take i numbers) (λ rs. r ≡ rowRead (fieldsFrom fieldCount 0 [] rs text at k))) where
     -- what the definition says of the row that is read
     abbrev x : Fields
     x = row-is (so .read) text at k
 
-    front : take i rows ≡ so .read
-    front = ap₂ take (sym (so .many)) (so .held) ∙ padded-front noRow (so .read)
-
     r-is : r ≡ rowRead x
-    r-is = is ∙ ap (λ rs. rowRead (row-is rs text at k)) front
+    r-is = is (so .read) (tasks-front numbers (so .read) i (so .tasks) (so .many))
 
     -- the rows that are left
     abbrev left : ℕ
@@ -97,52 +105,87 @@ module _ (text : List ℕ) (at₀ k₀ n : ℕ) where
         ap (λ j. rowsFrom ranked j b (so .read) text at k) one-less ∙ ap (goes-by ranked b) z
 
     -- a row is refused, and with it the table
-    pub rows-stop : (r .refused ≡ 0 → ⊥) → (at′ : ℕ) (rows′ : List Row)
-        → RowsAre text at₀ k₀ n (record { refused = r .refused; line = r .line; offset = at′; rows = rows′ })
-    rows-stop z at′ rows′ = by-number (x .refused) refl
+    abbrev stopped : ℕ → List Row → List ℕ → RowsRead
+    stopped at′ rows′ tasks′ =
+        record { rows = rows′; tasks = tasks′; refused = r .refused; line = r .line; offset = at′ }
+
+    pub rows-stop : (r .refused ≡ 0 → ⊥) → (at′ : ℕ) (rows′ : List Row) (tasks′ : List ℕ)
+        → RowsAre text at₀ k₀ n (stopped at′ rows′ tasks′)
+    rows-stop z at′ rows′ tasks′ = by-number (x .refused) refl
       where
-        by-number : (m : ℕ) → x .refused ≡ m
-            → RowsAre text at₀ k₀ n (record { refused = r .refused; line = r .line; offset = at′; rows = rows′ })
+        by-number : (m : ℕ) → x .refused ≡ m → RowsAre text at₀ k₀ n (stopped at′ rows′ tasks′)
         by-number zero e = absurd (z (ap (λ q. q .refused) r-is ∙ e))
         by-number (suc m) e =
             rows-refused m (ap (λ q. q .refused) r-is ∙ e)
             (λ ranked b.
             sym (so .same ranked b) ∙ by-row (suc m) e ranked b ∙ ap (λ q. turnedDown (suc m) (q .line)) (sym r-is))
 
-    -- a row is put in its place
-    pub rows-next : r .refused ≡ 0 → RowsSoFar (set rows i (r .row)) (r .offset) (r .line) (i + 1)
-    rows-next z =
-        let none : x .refused ≡ 0 = sym (ap (λ q. q .refused) r-is) ∙ z in
-        let made = rowOf (x .values) in
-        let long = so .many in
-        record {
-          read = so .read ++ (made ∷ []);
-          held =
-              ap (λ q. set rows i (q .row)) r-is
-              ∙ ap₂ (λ qs j. set qs j made) (so .held) (sym long)
-              ∙ padded-next noRow made (so .read) (omega arith);
-          many = length-append (so .read) (made ∷ []) ∙ omega arith;
-          within = omega arith;
-          line = ap (λ q. q .line) r-is ∙ row-lines (so .read) text at k none ∙ omega (arith, so .line);
-          same = λ ranked b.
-              ap (λ q. rowsFrom ranked left b (so .read ++ (made ∷ [])) text (q .offset) (q .line)) r-is
-              ∙ sym (by-row 0 none ranked b) ∙ so .same ranked b;
-        }
+    -- a row that is read has a task number of 16 bits
+    module _ (z : r .refused ≡ 0) where
+      none : x .refused ≡ 0
+      none = sym (ap (λ q. q .refused) r-is) ∙ z
+
+      abbrev made : Row
+      made = rowOf (x .values)
+
+      pub task-fits : r .row .task ≤ maxTask
+      task-fits =
+          let whole = row-whole (so .read) text at k none in
+          omega (arith, limits made (whole .in-range) .task .le-high, ap (λ q. q .row .task) r-is)
+
+      -- and is put in its place
+      pub rows-next :
+          RowsSoFar (set rows i (r .row)) (set numbers i (r .row .task)) (r .offset) (r .line) (i + 1)
+      rows-next =
+          let long = so .many in
+          let many-tasks = tasks-length (so .read) ∙ long in
+          record {
+            read = so .read ++ (made ∷ []);
+            held =
+                ap (λ q. set rows i (q .row)) r-is
+                ∙ ap₂ (λ qs j. set qs j made) (so .held) (sym long)
+                ∙ padded-next noRow made (so .read) (omega arith);
+            tasks =
+                ap (λ q. set numbers i (q .row .task)) r-is
+                ∙ ap₂ (λ qs j. set qs j (made .task)) (so .tasks) (sym many-tasks)
+                ∙ padded-next 0 (made .task) (tasksOf (so .read)) (omega arith)
+                ∙ ap (padded 0) (sym (tasks-last (so .read) made));
+            many = length-append (so .read) (made ∷ []) ∙ omega arith;
+            within = omega arith;
+            line = ap (λ q. q .line) r-is ∙ row-whole (so .read) text at k none .lines ∙ omega (arith, so .line);
+            same = λ ranked b.
+                ap (λ q. rowsFrom ranked left b (so .read ++ (made ∷ [])) text (q .offset) (q .line)) r-is
+                ∙ sym (by-row 0 none ranked b) ∙ so .same ranked b;
+          }
 
   -- all are there
-  pub rows-end : (rows : List Row) (at k i : ℕ) → RowsSoFar rows at k i → n ≤ i
-      → RowsAre text at₀ k₀ n (record { refused = 0; line = k; offset = at; rows = rows })
+  pub rows-end : (rows : List Row) (numbers : List ℕ) (at k i : ℕ) → RowsSoFar rows numbers at k i → n ≤ i
+      → RowsAre text at₀ k₀ n (record { rows = rows; tasks = numbers; refused = 0; line = k; offset = at })
   unfolding rowsFrom
-  rows-end rows at k i so h =
+  rows-end rows numbers at k i so h =
       let full : i ≡ n = omega (arith, so .within) in
       let none : n - i ≡ 0 = omega arith in
-      rows-read (so .read) refl (so .many ∙ full) (so .held) (so .line ∙ ap (λ j. k₀ + fieldCount * j) full)
+      rows-read (so .read) refl (so .many ∙ full) (so .held) (so .tasks)
+      (so .line ∙ ap (λ j. k₀ + fieldCount * j) full)
       (λ ranked b.
       sym (so .same ranked b)
       ∙ ap (λ m. rowsFrom ranked m b (so .read) text at k) none
       ∙ ap (λ m. ranksFrom (pick ranked m 0) b (so .read) [] text at k) (so .many ∙ full))
 
 -- ---- the rank lines
+-- rows of any tasks
+abbrev rows-with : List ℕ → List Row
+rows-with [] = []
+rows-with (t ∷ ts) = row t 0 0 0 0 0 ∷ rows-with ts
+
+tasks-with : (ts : List ℕ) → tasksOf (rows-with ts) ≡ ts
+tasks-with [] = refl
+tasks-with (t ∷ ts) = ap (λ l. t ∷ l) (tasks-with ts)
+
+-- what is so of all rows of some tasks is so of some
+pub for-some : (ts : List ℕ) (P : List Row → Type 0) → WithTasks ts P → P (rows-with ts)
+for-some ts P h = h (rows-with ts) (tasks-with ts)
+
 module _ (text : List ℕ) (at₀ k₀ : ℕ) (rs : List Row) (n : ℕ) where
   pub record RanksSoFar (tasks : List ℕ) (at k i : ℕ) : Type 0 where
     pub read : List ℕ
@@ -240,6 +283,7 @@ pub record RowsPass (text : List ℕ) (at k n : ℕ) (r : RowsRead) : Type 0 whe
   pub read : List Row
   pub long : length read ≡ n
   pub held : r .rows ≡ padded noRow read
+  pub tasks : r .tasks ≡ padded 0 (tasksOf read)
   pub line : r .line ≡ k + fieldCount * n
   pub same : (ranked : Bool) (b : ℕ)
       → rowsFrom ranked n b [] text at k ≡ ranksFrom (pick ranked n 0) b read [] text (r .offset) (r .line)
@@ -250,14 +294,14 @@ module _ {text : List ℕ} {at k n : ℕ} {r : RowsRead} (are : RowsAre text at 
   rows-turned z ranked b =
       elim are [
         | rows-refused m e f ↦ f ranked b ∙ ap (λ j. turnedDown j (r .line)) (sym e)
-        | rows-read rs e l h o f ↦ absurd (z e)
+        | rows-read rs e l h t o f ↦ absurd (z e)
       ]
 
   pub rows-pass : r .refused ≡ 0 → RowsPass text at k n r
   rows-pass z =
       elim are [
         | rows-refused m e f ↦ not-both e z
-        | rows-read rs e l h o f ↦ record { read = rs; long = l; held = h; line = o; same = f }
+        | rows-read rs e l h t o f ↦ record { read = rs; long = l; held = h; tasks = t; line = o; same = f }
       ]
 
 pub record RanksPass (text : List ℕ) (at k : ℕ) (rs : List Row) (n : ℕ) (r : RanksRead) : Type 0 where
@@ -307,9 +351,9 @@ module _ (b : ℕ) (rs : List Row) (os text : List ℕ) (at k : ℕ) where
 pub table-is : (b n m : ℕ) (rs rows : List Row) (os tasks : List ℕ) → length rs ≡ n → rows ≡ padded noRow rs
     → length os ≡ m → tasks ≡ padded 0 os
     → record {
+      table = record { rows = rows; board = b; count = n };
       refused = 0;
       line = 0;
-      table = record { board = b; rows = rows; count = n };
       order = record { tasks = tasks; count = m };
     } ≡ reading (accepted b rs os)
 table-is b n m rs rows os tasks long held many named =
@@ -318,8 +362,8 @@ table-is b n m rs rows os tasks long held many named =
   where
     of : ℕ → List Row → ℕ → List ℕ → Reading
     of i qs j ts = record {
+      table = record { rows = qs; board = b; count = i };
       refused = 0;
       line = 0;
-      table = record { board = b; rows = qs; count = i };
       order = record { tasks = ts; count = j };
     }

@@ -17,13 +17,13 @@ abbrev pub padded : {A : Type 0} → A → List A → List A
 padded d xs = xs ++ replicate (maxTasks - length xs) d
 
 abbrev pub tableOf : Answer → Table
-tableOf a = record { board = a .board; rows = padded noRow (a .rows); count = length (a .rows) }
+tableOf a = record { rows = padded noRow (a .rows); board = a .board; count = length (a .rows) }
 
 abbrev pub orderOf : Answer → Order
 orderOf a = record { tasks = padded 0 (a .order); count = length (a .order) }
 
 abbrev pub reading : Answer → Reading
-reading a = record { refused = a .refused; line = a .line; table = tableOf a; order = orderOf a }
+reading a = record { table = tableOf a; refused = a .refused; line = a .line; order = orderOf a }
 
 -- the result is the definition's answer, and all that is claimed of that answer holds
 pub record ReadAs (ranked : Bool) (text : List ℕ) (r : Reading) : Type 0 where

@@ -7,7 +7,7 @@ use lib.ListN.{length}
 use Rattle.basics.specs.Basics.{pick}
 use Rattle.text.specs.Lines.{refusal, place, onNumber}
 use Rattle.text.specs.declared.Line.{Line}
-use Rattle.rows.specs.Rows.{noRow}
+use Rattle.rows.specs.Rows.{noRow, tasksOf}
 use Rattle.rows.specs.declared.Row.{Row}
 use Rattle.tables.specs.declared.sections.RowRead.{RowRead}
 use Rattle.tables.specs.declared.sections.RowsRead.{RowsRead}
@@ -32,12 +32,17 @@ rankRead l k =
     (λ v next. record { refused = 0; line = k + 1; offset = next; task = v })
     (stoppedRank (refusal l) (place l))
 
+-- ---- so of any rows with these tasks, whatever else they say
+abbrev pub WithTasks : List ℕ → (List Row → Type 0) → Type 0
+WithTasks ts P = (rs : List Row) → tasksOf rs ≡ ts → P rs
+
 -- ---- n rows: all are there and the reading of the table goes on after them, or it is refused
 pub data RowsAre (text : List ℕ) (at k n : ℕ) (r : RowsRead) : Type 0 where
   rows-refused : (m : ℕ) → r .refused ≡ suc m
       → ((ranked : Bool) (b : ℕ) → rowsFrom ranked n b [] text at k ≡ turnedDown (suc m) (r .line))
       → RowsAre text at k n r
-  rows-read : (rs : List Row) → r .refused ≡ 0 → length rs ≡ n → r .rows ≡ padded noRow rs → r .line ≡ k + fieldCount * n
+  rows-read : (rs : List Row) → r .refused ≡ 0 → length rs ≡ n
+      → r .rows ≡ padded noRow rs → r .tasks ≡ padded 0 (tasksOf rs) → r .line ≡ k + fieldCount * n
       → ((ranked : Bool) (b : ℕ)
       → rowsFrom ranked n b [] text at k ≡ ranksFrom (pick ranked n 0) b rs [] text (r .offset) (r .line))
       → RowsAre text at k n r

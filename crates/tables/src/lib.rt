@@ -22,8 +22,8 @@ mod sections;
 
 // A table by value: its first rows are those counted.
 pub struct Table {
-    pub board: u32,
     pub rows: [Row; MAX_TASKS],
+    pub board: u32,
     pub count: usize,
 }
 
@@ -41,9 +41,9 @@ impl Table {
 // What a text reads as: refusal 0 and a table, with the order of its rank lines where they are expected; or a
 // refusal's number and its line.
 pub struct Reading {
+    pub table: Table,
     pub refused: u8,
     pub line: u32,
-    pub table: Table,
     pub order: Order,
 }
 
@@ -52,8 +52,8 @@ impl Reading {
         ensures { λ r. ⌜ r ≡ reading (turnedDown refused line) ⌝ }
     {
         let table = Table {
-            board: 0,
             rows: [no_row(); MAX_TASKS],
+            board: 0,
             count: 0,
         };
         let order = Order {
@@ -61,9 +61,9 @@ impl Reading {
             count: 0,
         };
         Reading {
+            table,
             refused,
             line,
-            table,
             order,
         }
     }
@@ -89,9 +89,9 @@ pub fn read_table(text: &[u8], ranked: bool) -> Reading
     if table.refused != 0 {
         return Reading::stopped(table.refused, table.line);
     }
-    let rows = table.rows;
+    let numbers = table.tasks;
     let ranks = rank_lines(ranked, count);
-    let order = read_ranks(text, table.offset, table.line, rows, count, ranks);
+    let order = read_ranks(text, table.offset, table.line, numbers, count, ranks);
     if order.refused != 0 {
         return Reading::stopped(order.refused, order.line);
     }
@@ -101,11 +101,12 @@ pub fn read_table(text: &[u8], ranked: bool) -> Reading
         return Reading::stopped(trailing, place_of(end));
     }
     let board = head.numbers.first as u32;
+    let rows = table.rows;
     let tasks = order.tasks;
     Reading {
+        table: Table { rows, board, count },
         refused: 0,
         line: 0,
-        table: Table { board, rows, count },
         order: Order {
             tasks,
             count: ranks,

@@ -4,10 +4,10 @@ ghost use mathlib.Core.List.{[]};
 ghost use Prim.Native.Nat.{_+_, _*_, _≤_, _<_};
 ghost use lib.ListN.{take};
 ghost use Rattle.basics.specs.Basics.{isIn};
-ghost use Rattle.rows.specs.Rows.{maxTasks, hasTask};
+ghost use Rattle.rows.specs.Rows.{maxTasks};
 ghost use Rattle.tables.specs.Tables.{fieldCount, fieldsFrom, rankAt};
 ghost use Rattle.tables.specs.Steps.{maxLines, partSize, started, readPart};
-ghost use Rattle.tables.specs.Sections.{stoppedRow, rowRead, stoppedRank, rankRead, RowsAre, RanksAre};
+ghost use Rattle.tables.specs.Sections.{stoppedRow, rowRead, stoppedRank, rankRead, WithTasks, RowsAre, RanksAre};
 use super::progress::Part;
 use super::progress::Progress;
 use super::reader::read_lines;
@@ -27,30 +27,14 @@ pub fn read_part(text: &[u8], part: Part, offset: usize, line: u32) -> Progress
     read_lines(text, Progress::started(part, offset, line))
 }
 
-// Whether a task number is among the first rows.
-fn has_task(task: u64, rows: [Row; MAX_TASKS], count: usize) -> bool
+// Whether a task number is among the first numbers.
+fn is_in(task: u64, numbers: [u16; MAX_TASKS], count: usize) -> bool
     requires { ⌜ count ≤ maxTasks ⌝ }
-    ensures { λ r. ⌜ r ≡ hasTask task (take count rows) ⌝ }
+    ensures { λ r. ⌜ r ≡ isIn task (take count numbers) ⌝ }
 {
     let mut i = 0;
     while i < count {
-        let row = rows[i];
-        if task == row.task as u64 {
-            return true;
-        }
-        i += 1;
-    }
-    false
-}
-
-// Whether a task number is among the first of an order.
-fn is_in(task: u64, order: [u16; MAX_TASKS], count: usize) -> bool
-    requires { ⌜ count ≤ maxTasks ⌝ }
-    ensures { λ r. ⌜ r ≡ isIn task (take count order) ⌝ }
-{
-    let mut i = 0;
-    while i < count {
-        if task == order[i] as u64 {
+        if task == numbers[i] as u64 {
             return true;
         }
         i += 1;
@@ -79,17 +63,24 @@ impl RowRead {
     }
 }
 
-// A row, where the first rows have other tasks.
-fn read_row(text: &[u8], offset: usize, line: u32, rows: [Row; MAX_TASKS], count: usize) -> RowRead
+// A row, where the rows before it have the first of the task numbers.
+fn read_row(
+    text: &[u8],
+    offset: usize,
+    line: u32,
+    numbers: [u16; MAX_TASKS],
+    count: usize,
+) -> RowRead
     requires { ⌜ (count ≤ maxTasks) × (line + fieldCount ≤ maxLines) ⌝ }
-    ensures { λ r. ⌜ r ≡ rowRead (fieldsFrom fieldCount 0 [] (take count rows) (now (text .entry)) offset line) ⌝ }
+    ensures { λ r. ⌜ WithTasks (take count numbers)
+        (λ rs. r ≡ rowRead (fieldsFrom fieldCount 0 [] rs (now (text .entry)) offset line)) ⌝ }
 {
     let named = read_part(text, Part::Task, offset, line);
     if named.refused != 0 {
         return RowRead::stopped(named.refused, named.line);
     }
     let task = named.numbers.first;
-    if has_task(task, rows, count) {
+    if is_in(task, numbers, count) {
         let again = Line::Repeated(line);
         return RowRead::stopped(refusal_of(again), place_of(again));
     }
@@ -111,12 +102,13 @@ fn read_row(text: &[u8], offset: usize, line: u32, rows: [Row; MAX_TASKS], count
     }
 }
 
-// The rows and the place after them, or a refusal and its line.
+// The rows, their task numbers and the place after them, or a refusal and its line.
 pub struct RowsRead {
+    pub rows: [Row; MAX_TASKS],
+    pub tasks: [u16; MAX_TASKS],
     pub refused: u8,
     pub line: u32,
     pub offset: usize,
-    pub rows: [Row; MAX_TASKS],
 }
 
 // As many rows as are asked for, each put in its place as it is read.
@@ -125,30 +117,34 @@ pub fn read_rows(text: &[u8], offset: usize, line: u32, tasks: usize) -> RowsRea
     ensures { λ r. ⌜ RowsAre (now (text .entry)) offset line tasks r ⌝ }
 {
     let mut rows = [no_row(); MAX_TASKS];
+    let mut numbers = [0u16; MAX_TASKS];
     let mut at = offset;
     let mut below = line;
     let mut i = 0;
     while i < tasks {
-        let read = read_row(text, at, below, rows, i);
+        let read = read_row(text, at, below, numbers, i);
         if read.refused != 0 {
             return RowsRead {
+                rows,
+                tasks: numbers,
                 refused: read.refused,
                 line: read.line,
                 offset: at,
-                rows,
             };
         }
         let row = read.row;
         rows[i] = row;
+        numbers[i] = row.task as u16;
         at = read.offset;
         below = read.line;
         i += 1;
     }
     RowsRead {
+        rows,
+        tasks: numbers,
         refused: 0,
         line: below,
         offset: at,
-        rows,
     }
 }
 
@@ -173,25 +169,26 @@ impl RankRead {
     }
 }
 
-// A rank line names a task of the table that was not named yet.
+// A rank line names a task of the table that was not named yet; the table's are the first of the task numbers.
 fn read_rank(
     text: &[u8],
     offset: usize,
     line: u32,
-    rows: [Row; MAX_TASKS],
+    numbers: [u16; MAX_TASKS],
     count: usize,
     order: [u16; MAX_TASKS],
     named: usize,
 ) -> RankRead
     requires { ⌜ (count ≤ maxTasks) × (named ≤ maxTasks) × (line < maxLines) ⌝ }
-    ensures { λ r. ⌜ r ≡ rankRead (rankAt (take count rows) (take named order) (now (text .entry)) offset line) line ⌝ }
+    ensures { λ r. ⌜ WithTasks (take count numbers)
+        (λ rs. r ≡ rankRead (rankAt rs (take named order) (now (text .entry)) offset line) line) ⌝ }
 {
     let read = read_part(text, Part::Rank, offset, line);
     if read.refused != 0 {
         return RankRead::stopped(read.refused, read.line);
     }
     let task = read.numbers.first;
-    let known = has_task(task, rows, count);
+    let known = is_in(task, numbers, count);
     let again = is_in(task, order, named);
     if known & !again {
         return RankRead {
@@ -213,24 +210,24 @@ pub struct RanksRead {
     pub tasks: [u16; MAX_TASKS],
 }
 
-// As many rank lines as are asked for, of a table's first rows.
+// As many rank lines as are asked for, of a table whose tasks are the first of the task numbers.
 pub fn read_ranks(
     text: &[u8],
     offset: usize,
     line: u32,
-    rows: [Row; MAX_TASKS],
+    numbers: [u16; MAX_TASKS],
     count: usize,
     ranks: usize,
 ) -> RanksRead
     requires { ⌜ (count ≤ maxTasks) × (ranks ≤ maxTasks) × (line + ranks ≤ maxLines) ⌝ }
-    ensures { λ r. ⌜ RanksAre (now (text .entry)) offset line (take count rows) ranks r ⌝ }
+    ensures { λ r. ⌜ WithTasks (take count numbers) (λ rs. RanksAre (now (text .entry)) offset line rs ranks r) ⌝ }
 {
     let mut tasks = [0u16; MAX_TASKS];
     let mut at = offset;
     let mut below = line;
     let mut i = 0;
     while i < ranks {
-        let read = read_rank(text, at, below, rows, count, tasks, i);
+        let read = read_rank(text, at, below, numbers, count, tasks, i);
         if read.refused != 0 {
             return RanksRead {
                 refused: read.refused,

@@ -8,13 +8,14 @@ use lib.ListN.{take}
 use borrow.Author.Needs.{needs}
 use Rattle.basics.specs.Basics.{pick}
 use Rattle.text.specs.Lines.{refusal, place}
-use Rattle.rows.specs.Rows.{noRow}
+use Rattle.rows.specs.Rows.{tasksOf}
 use Rattle.tables.specs.declared.Reading.{Reading}
 use Rattle.tables.specs.Tables.{Answer, turnedDown, ranksFrom, readTable}
 use Rattle.tables.specs.Readings.{reading, ReadAs}
+use Rattle.tables.specs.Sections.{RanksAre}
 use Rattle.tables.proofs.Parts.{HeadPasses, head-turned, head-passes}
 use Rattle.tables.proofs.Reasons.{read}
-use Rattle.tables.proofs.Turns.{padded-front, RowsPass, rows-turned, rows-pass}
+use Rattle.tables.proofs.Turns.{tasks-front, RowsPass, rows-turned, rows-pass}
 use Rattle.tables.proofs.Turns.{RanksPass, ranks-turned, ranks-pass, end-turned, end-passes, table-is}
 use Rattle.tables.proofs.read_table.Statement.{statement}
 use Rattle.tables.proofs.read_table.Tie as tie
@@ -58,9 +59,11 @@ module _ (c : tie.Else2) where
       (past-head .before .before .read-part .result .line) (tasks past-head) (c .before .before .read-rows .result)
   rows = rows-pass (c .before .before .read-rows .ensures) (c .if2 .left)
 
-  -- the rows are those at the front of the array
-  front : take (tasks past-head) (c .before .before .read-rows .result .rows) ≡ rows .read
-  front = ap₂ take (sym (rows .long)) (rows .held) ∙ padded-front noRow (rows .read)
+  -- their tasks are those at the front of the array
+  front : tasksOf (rows .read) ≡ take (tasks past-head) (c .before .before .read-rows .result .tasks)
+  front =
+      let r = c .before .before .read-rows .result in
+      tasks-front (r .tasks) (rows .read) (tasks past-head) (rows .tasks) (rows .long)
 
   rows-same : let r = c .before .before .read-rows .result in
       readTable (ranked past-head) (text past-head)
@@ -76,16 +79,22 @@ module _ (c : tie.After-read-ranks) where
   abbrev first : tie.Else1
   first = past-head past-rows
 
-  -- what is left after the rows, with the rows and the number of rank lines as the code has them
+  -- what is left after the rows, with the number of rank lines as the code has it
   left-is : let r = past-rows .before .before .read-rows .result in
       readTable (ranked first) (text first)
-      ≡ ranksFrom (c .before .rank-lines .result) (board first)
-      (take (tasks first) (past-rows .before .before .read-rows .result .rows)) [] (text first) (r .offset) (r .line)
+      ≡ ranksFrom (c .before .rank-lines .result) (board first) (rows past-rows .read) [] (text first) (r .offset)
+      (r .line)
   left-is =
       let r = past-rows .before .before .read-rows .result in
       rows-same past-rows
-      ∙ ap₂ (λ n rs. ranksFrom n (board first) rs [] (text first) (r .offset) (r .line))
-      (sym (c .before .rank-lines .ensures)) (sym (front past-rows))
+      ∙ ap (λ n. ranksFrom n (board first) (rows past-rows .read) [] (text first) (r .offset) (r .line))
+      (sym (c .before .rank-lines .ensures))
+
+  -- and what is read of it
+  ranks-are : let r = past-rows .before .before .read-rows .result in
+      RanksAre (text first) (r .offset) (r .line) (rows past-rows .read) (c .before .rank-lines .result)
+      (c .read-ranks .result)
+  ranks-are = c .read-ranks .ensures (rows past-rows .read) (front past-rows)
 
 module _ (c : tie.Else3) where
   abbrev named : tie.After-read-ranks
@@ -95,18 +104,14 @@ module _ (c : tie.Else3) where
   past = first named
 
   abbrev ranks : RanksPass (text past) (past-rows named .before .before .read-rows .result .offset)
-      (past-rows named .before .before .read-rows .result .line)
-      (take (tasks past) (past-rows named .before .before .read-rows .result .rows)) (named .before .rank-lines .result)
-      (named .read-ranks .result)
-  ranks = ranks-pass (named .read-ranks .ensures) (c .if3 .left)
+      (past-rows named .before .before .read-rows .result .line) (rows (past-rows named) .read)
+      (named .before .rank-lines .result) (named .read-ranks .result)
+  ranks = ranks-pass (ranks-are named) (c .if3 .left)
 
   ranks-same : let r = named .read-ranks .result in
       readTable (ranked past) (text past)
       ≡ ranksFrom 0 (board past) (rows (past-rows named) .read) (ranks .read) (text past) (r .offset) (r .line)
-  ranks-same =
-      let r = named .read-ranks .result in
-      left-is named ∙ ranks .same (board past)
-      ∙ ap (λ rs. ranksFrom 0 (board past) rs (ranks .read) (text past) (r .offset) (r .line)) (front (past-rows named))
+  ranks-same = left-is named ∙ ranks .same (board past)
 
 read-part-requires : tie.Need-read-part-requires
 read-part-requires c κs = search needs
@@ -156,7 +161,7 @@ returns-3 c =
     let n = c .before .before .before in
     let e = first n in
     read-as (ranked e) (text e) (c .stopped3 .result) _ (c .stopped3 .ensures)
-    (left-is n ∙ ranks-turned (n .read-ranks .ensures) (c .before .if3 .taken) (board e))
+    (left-is n ∙ ranks-turned (ranks-are n) (c .before .if3 .taken) (board e))
 
 end-at-requires : tie.Need-end-at-requires
 end-at-requires c κs = search needs
@@ -189,7 +194,7 @@ cast-board c =
 
 returns-5 : tie.Need-returns-5
 returns-5 c =
-    let o = c .before .before .before in
+    let o = c .before .before .before .before in
     let e = o .before .before in
     let r = named e .read-ranks .result in
     let rs = rows (past-rows (named e)) in
@@ -198,7 +203,7 @@ returns-5 c =
     (rs .long) (rs .held) (ranks e .long) (ranks e .held))
     (ranks-same e
     ∙ end-passes (board (past e)) (rs .read) (ranks e .read) (text (past e)) (r .offset) (r .line)
-    (sym (o .refusal-of .ensures ∙ ap refusal (o .before .end-at .ensures)) ∙ c .before .before .if4 .left))
+    (sym (o .refusal-of .ensures ∙ ap refusal (o .before .end-at .ensures)) ∙ c .before .before .before .if4 .left))
 
 pub read-table-spec : {M : Type 1} → statement M
 read-table-spec =

@@ -1,23 +1,23 @@
--- `tables::lines::is_in` meets its contract. Invariant: none of the numbers passed is the one, so the rest decides.
+-- `tables::sections::is_in` meets its contract. Invariant: none of the numbers passed is the one, so the rest decides.
 use mathlib.Core.Path.{_≡_, sym, _∙_, ap, refl}
-use Prim.Native.Nat.{_-_, _≤_}
+use mathlib.Core.Bool.{_||_}
+use Prim.Native.Nat.{suc, _-_, _≤_}
 use native.Mathlib.Omega.{arith}
 use native.Mathlib.Numerals.{add-one}
-use lib.Dec.{eqb}
 use lib.ListN.{take, drop}
 use borrow.Author.Needs.{needs}
 use borrow.Author.Tests.{eq-eqb, ne-eqb}
 use Rattle.basics.specs.Basics.{isIn}
-use Rattle.tables.proofs.Seeks.{found, passed-over, none-left}
+use Rattle.basics.proofs.Fronts.{left-none, left-next}
 use Rattle.tables.proofs.sections.is_in.Statement.{statement}
 use Rattle.tables.proofs.sections.is_in.Tie as tie
 
 abbrev Inv-loop : tie.InvT-loop
-Inv-loop task count order i₀ i =
-    (i ≤ count) × (isIn task (take count order) ≡ isIn task (drop i (take count order)))
+Inv-loop task count numbers i₀ i =
+    (i ≤ count) × (isIn task (take count numbers) ≡ isIn task (drop i (take count numbers)))
 
 abbrev μ-loop : tie.MeasureT-loop
-μ-loop task count order i₀ i = count - i
+μ-loop task count numbers i₀ i = count - i
 
 loop-holds : tie.Need-loop-holds Inv-loop μ-loop
 loop-holds c = (omega arith, refl)
@@ -35,8 +35,9 @@ returns : tie.Need-returns Inv-loop μ-loop
 returns c =
     let a = c .before .before .before .args in
     let x = c .before .before .loop in
-    sym (x .inv .1 ∙ found (isIn (a .task)) (eqb (a .task)) (λ y ys. refl) (a .t2) (a .count) (x .i) 0
-    (omega arith) (omega arith) (eq-eqb _ _ (c .if1 .taken)))
+    let rest = drop (suc (x .i)) (take (a .count) (a .t2)) in
+    sym (x .inv .1 ∙ ap (isIn (a .task)) (left-next (a .t2) (a .count) (x .i) 0 (omega arith) (omega arith))
+    ∙ ap (λ b. b || isIn (a .task) rest) (eq-eqb _ _ (c .if1 .taken)))
 
 add-i : tie.Need-add-i Inv-loop μ-loop
 add-i c = omega arith
@@ -48,15 +49,18 @@ loop-again : tie.Need-loop-again Inv-loop μ-loop
 loop-again c =
     let a = c .before .before .before .args in
     let x = c .before .before .loop in
-    let on = passed-over (isIn (a .task)) (eqb (a .task)) (λ y ys. refl) (a .t2) (a .count) (x .i) 0
-    (omega arith) (omega arith) (ne-eqb _ _ (c .if1 .left)) in
-    rw (add-one (x .i)) (omega arith, x .inv .1 ∙ on)
+    let rest = drop (suc (x .i)) (take (a .count) (a .t2)) in
+    rw (add-one (x .i)) (
+      omega arith,
+      x .inv .1 ∙ ap (isIn (a .task)) (left-next (a .t2) (a .count) (x .i) 0 (omega arith) (omega arith))
+          ∙ ap (λ b. b || isIn (a .task) rest) (ne-eqb _ _ (c .if1 .left)),
+    )
 
 returns-2 : tie.Need-returns-2 Inv-loop μ-loop
 returns-2 c =
     let a = c .before .before .args in
     let x = c .before .loop in
-    sym (x .inv .1 ∙ ap (isIn (a .task)) (none-left (a .t2) (a .count) (x .i) (omega arith)))
+    sym (x .inv .1 ∙ ap (isIn (a .task)) (left-none (a .t2) (a .count) (x .i) (omega arith)))
 
 pub is-in-spec : {M : Type 1} → statement M
 is-in-spec =

@@ -1,4 +1,5 @@
--- `tables::sections::read_rank` meets its contract: its line, and the tests against the rows and the ranks before.
+-- `tables::sections::read_rank` meets its contract: its line, and the tests against the table's tasks and the ranks
+-- before.
 use mathlib.Core.Path.{_≡_, refl, sym, ap, ap₂, _∙_}
 use mathlib.Core.Bool.{_&&_, not}
 use mathlib.Core.List.{List}
@@ -6,11 +7,11 @@ use Prim.Native.Nat.{ℕ}
 use native.Mathlib.Omega.{arith}
 use lib.ListN.{take}
 use borrow.Author.Needs.{needs}
-use Rattle.basics.specs.Basics.{pick}
+use Rattle.basics.specs.Basics.{pick, isIn}
 use Rattle.basics.proofs.Tests.{within-true}
 use Rattle.text.specs.declared.Line.{Line}
 use Rattle.text.specs.declared.Line.the-variants as L
-use Rattle.rows.specs.Rows.{minTask, maxTask}
+use Rattle.rows.specs.Rows.{minTask, maxTask, tasksOf}
 use Rattle.rows.specs.declared.Row.{Row}
 use Rattle.tables.specs.declared.progress.Part.the-variants as P
 use Rattle.tables.specs.declared.progress.Progress.{Progress}
@@ -26,8 +27,9 @@ module _ (c : tie.After-read-part) where
   abbrev start : tie.Start
   start = c .before .before
 
-  abbrev rs : List Row
-  rs = take (start .args .count) (start .args .rows)
+  -- some rows' tasks are the first numbers
+  abbrev Before : List Row → Type 0
+  Before rs = tasksOf rs ≡ take (start .args .count) (start .args .numbers)
 
   abbrev os : List ℕ
   os = take (start .args .named) (start .args .order)
@@ -35,8 +37,8 @@ module _ (c : tie.After-read-part) where
   abbrev read : Progress
   read = c .read-part .result
 
-  abbrev defined : Line
-  defined = let a = start .args in rankAt rs os (a .text .now) (a .offset) (a .line)
+  abbrev defined : List Row → Line
+  defined rs = let a = start .args in rankAt rs os (a .text .now) (a .offset) (a .line)
 
   line-read : read .refused ≡ 0
       → let a = start .args in TaskRead (rank-line (a .text .now) (a .offset) (a .line)) (a .line) read
@@ -46,7 +48,7 @@ module _ (c : tie.After-read-part) where
       (c .read-part .ensures)
 
 -- ---- and from where both tests are made
-module _ (c : tie.After-is-in) where
+module _ (c : tie.After-is-in2) where
   abbrev first : tie.After-read-part
   first = c .before .before .before .before
 
@@ -54,15 +56,16 @@ module _ (c : tie.After-is-in) where
       TaskRead (rank-line (a .text .now) (a .offset) (a .line)) (a .line) (read first)
   passes = line-read first (c .before .before .if1 .left)
 
-  by-tests : let known = c .before .has-task .result in
-      let again = c .is-in .result in
-      defined first ≡ pick (known && not again) (L.Number (read first .numbers .first) (read first .offset))
+  by-tests : (rs : List Row) → Before first rs → let known = c .before .is-in .result in
+      let again = c .is-in2 .result in
+      defined first rs ≡ pick (known && not again) (L.Number (read first .numbers .first) (read first .offset))
       (L.Impossible (start first .args .line))
-  by-tests =
+  by-tests rs b =
       let a = start first .args in
-      rank-number (rs first) (os first) (a .text .now) (a .offset) (a .line) (read first .numbers .first)
-      (read first .offset) (passes .line-is) (c .before .has-task .result) (c .is-in .result)
-      (sym (c .before .has-task .ensures)) (sym (c .is-in .ensures))
+      let task = read first .numbers .first in
+      rank-number rs (os first) (a .text .now) (a .offset) (a .line) task (read first .offset) (passes .line-is)
+      (c .before .is-in .result) (c .is-in2 .result) (ap (isIn task) b ∙ sym (c .before .is-in .ensures))
+      (sym (c .is-in2 .ensures))
 
 read-part-requires : tie.Need-read-part-requires
 read-part-requires c κs = search needs
@@ -71,7 +74,7 @@ stopped-requires : tie.Need-stopped-requires
 stopped-requires c κs = search needs
 
 returns : tie.Need-returns
-returns c =
+returns c rs b =
     let f = c .before .before .before in
     let a = start f .args in
     let l = rank-line (a .text .now) (a .offset) (a .line) in
@@ -81,13 +84,13 @@ returns c =
     c .stopped .ensures
     ∙ ap₂ stoppedRank (t .refused ∙ sym (t .refusal-is)) (t .line)
     ∙ sym (no-number l _ _ none)
-    ∙ ap (λ x. rankRead x (a .line)) (rank-stops (rs f) (os f) (a .text .now) (a .offset) (a .line) none)
-
-has-task-requires : tie.Need-has-task-requires
-has-task-requires c κs = search needs
+    ∙ ap (λ x. rankRead x (a .line)) (rank-stops rs (os f) (a .text .now) (a .offset) (a .line) none)
 
 is-in-requires : tie.Need-is-in-requires
 is-in-requires c κs = search needs
+
+is-in-requires-2 : tie.Need-is-in-requires-2
+is-in-requires-2 c κs = search needs
 
 cast-t16 : tie.Need-cast-t16
 cast-t16 c =
@@ -95,14 +98,14 @@ cast-t16 c =
     omega (arith, within-true minTask maxTask (read (first i) .numbers .first) (passes i .in-range) .le-high)
 
 returns-2 : tie.Need-returns-2
-returns-2 c =
+returns-2 c rs b =
     let i = c .before in
     let f = first i in
     let p = read f in
     let k = start f .args .line in
     let named = L.Number (p .numbers .first) (p .offset) in
     ap (λ j. record { refused = 0; line = j; offset = p .offset; task = p .numbers .first }) (passes i .next-line)
-    ∙ sym (ap (λ x. rankRead x k) (by-tests i ∙ ap (λ b. pick b named (L.Impossible k)) (c .if2 .taken)))
+    ∙ sym (ap (λ x. rankRead x k) (by-tests i rs b ∙ ap (λ t. pick t named (L.Impossible k)) (c .if2 .taken)))
 
 refusal-of-requires : tie.Need-refusal-of-requires
 refusal-of-requires c κs = search needs
@@ -114,7 +117,7 @@ stopped-requires-2 : tie.Need-stopped-requires-2
 stopped-requires-2 c κs = search needs
 
 returns-3 : tie.Need-returns-3
-returns-3 c =
+returns-3 c rs b =
     let e = c .before .before .before in
     let i = e .before in
     let f = first i in
@@ -123,7 +126,7 @@ returns-3 c =
     let named = L.Number (p .numbers .first) (p .offset) in
     c .stopped2 .ensures
     ∙ ap₂ stoppedRank (c .before .before .refusal-of .ensures) (c .before .place-of .ensures)
-    ∙ sym (ap (λ x. rankRead x k) (by-tests i ∙ ap (λ b. pick b named (L.Impossible k)) (e .if2 .left)))
+    ∙ sym (ap (λ x. rankRead x k) (by-tests i rs b ∙ ap (λ t. pick t named (L.Impossible k)) (e .if2 .left)))
 
 pub read-rank-spec : {M : Type 1} → statement M
 read-rank-spec =
@@ -132,8 +135,8 @@ read-rank-spec =
     read-part-requires
     stopped-requires
     returns
-    has-task-requires
     is-in-requires
+    is-in-requires-2
     cast-t16
     returns-2
     refusal-of-requires

@@ -1,43 +1,45 @@
 -- `tables::sections::read_ranks` meets its contract. Invariant: the tasks named so far stand at the front of the array,
--- and the table's reading goes on after them (`RanksSoFar`).
+-- and the reading of any table with the tasks goes on after them (`RanksSoFar`).
 use Prim.Native.Nat.{_-_}
 use native.Mathlib.Omega.{arith}
 use lib.ListN.{take}
 use borrow.Author.Needs.{needs}
-use Rattle.tables.proofs.Turns.{RanksSoFar, ranks-start, ranks-stop, ranks-next, ranks-end}
+use Rattle.tables.specs.Sections.{WithTasks}
+use Rattle.tables.proofs.Turns.{RanksSoFar, ranks-start, ranks-stop, ranks-next, ranks-end, for-some}
 use Rattle.tables.proofs.sections.read_ranks.Statement.{statement}
 use Rattle.tables.proofs.sections.read_ranks.Tie as tie
 
 abbrev Inv-loop : tie.InvT-loop
-Inv-loop text offset line rows count ranks tasks₀ at₀ below₀ i₀ tasks at below i =
-    RanksSoFar text offset line (take count rows) ranks tasks at below i
+Inv-loop text offset line numbers count ranks tasks₀ at₀ below₀ i₀ tasks at below i =
+    WithTasks (take count numbers) (λ rs. RanksSoFar text offset line rs ranks tasks at below i)
 
 abbrev μ-loop : tie.MeasureT-loop
-μ-loop text offset line rows count ranks tasks₀ at₀ below₀ i₀ tasks at below i = ranks - i
+μ-loop text offset line numbers count ranks tasks₀ at₀ below₀ i₀ tasks at below i = ranks - i
 
 loop-holds : tie.Need-loop-holds Inv-loop μ-loop
-loop-holds c =
+loop-holds c rs b =
     let a = c .before .args in
-    ranks-start (a .text .now) (a .offset) (a .line) (take (a .count) (a .rows)) (a .ranks)
+    ranks-start (a .text .now) (a .offset) (a .line) rs (a .ranks)
 
 read-rank-requires : tie.Need-read-rank-requires Inv-loop μ-loop
 read-rank-requires c κs =
     let s = c .before .before .before in
-    let x = c .before .loop in (
+    let x = c .before .loop in
+    let so = for-some (take (s .args .count) (s .args .numbers)) _ (x .inv) in (
       s .pre .0,
-      omega (arith, x .inv .within, s .pre .1),
-      omega (arith, x .inv .line, c .loop-test .taken, s .pre .2),
+      omega (arith, so .within, s .pre .1),
+      omega (arith, so .line, c .loop-test .taken, s .pre .2),
     )
 
 returns : tie.Need-returns Inv-loop μ-loop
-returns c =
+returns c rs b =
     let r = c .before .before in
     let x = r .before .before .loop in
     let s = r .before .before .before .before in
     let a = s .args in
-    ranks-stop (a .text .now) (a .offset) (a .line) (take (a .count) (a .rows)) (a .ranks)
-    (x .tasks) (x .at) (x .below) (x .i) (x .inv) (r .before .loop-test .taken) (s .pre .1) (r .read-rank .result)
-    (r .read-rank .ensures) (c .if1 .taken) (x .at) (x .tasks)
+    ranks-stop (a .text .now) (a .offset) (a .line) rs (a .ranks)
+    (x .tasks) (x .at) (x .below) (x .i) (x .inv rs b) (r .before .loop-test .taken) (s .pre .1) (r .read-rank .result)
+    (r .read-rank .ensures rs b) (c .if1 .taken) (x .at) (x .tasks)
 
 mul-tasks : tie.Need-mul-tasks Inv-loop μ-loop
 mul-tasks c = search needs
@@ -52,22 +54,22 @@ loop-less : tie.Need-loop-less Inv-loop μ-loop
 loop-less c = search needs
 
 loop-again : tie.Need-loop-again Inv-loop μ-loop
-loop-again c =
+loop-again c rs b =
     let r = c .before .before in
     let x = r .before .before .loop in
     let s = r .before .before .before .before in
     let a = s .args in
-    ranks-next (a .text .now) (a .offset) (a .line) (take (a .count) (a .rows)) (a .ranks)
-    (x .tasks) (x .at) (x .below) (x .i) (x .inv) (r .before .loop-test .taken) (s .pre .1) (r .read-rank .result)
-    (r .read-rank .ensures) (c .if1 .left)
+    ranks-next (a .text .now) (a .offset) (a .line) rs (a .ranks)
+    (x .tasks) (x .at) (x .below) (x .i) (x .inv rs b) (r .before .loop-test .taken) (s .pre .1) (r .read-rank .result)
+    (r .read-rank .ensures rs b) (c .if1 .left)
 
 returns-2 : tie.Need-returns-2 Inv-loop μ-loop
-returns-2 c =
+returns-2 c rs b =
     let x = c .before .loop in
     let s = c .before .before .before in
     let a = s .args in
-    ranks-end (a .text .now) (a .offset) (a .line) (take (a .count) (a .rows)) (a .ranks)
-    (x .tasks) (x .at) (x .below) (x .i) (x .inv) (c .loop-test .left)
+    ranks-end (a .text .now) (a .offset) (a .line) rs (a .ranks)
+    (x .tasks) (x .at) (x .below) (x .i) (x .inv rs b) (c .loop-test .left)
 
 pub read-ranks-spec : {M : Type 1} → statement M
 read-ranks-spec =

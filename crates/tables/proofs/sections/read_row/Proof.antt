@@ -1,10 +1,12 @@
--- `tables::sections::read_row` meets its contract: its task's line, the test against the rows before, and the rest.
+-- `tables::sections::read_row` meets its contract: its task's line, the test against the tasks before, and the rest.
 use mathlib.Core.Path.{_≡_, refl, sym, ap, ap₂, _∙_}
 use mathlib.Core.List.{List}
 use Prim.Native.Nat.{_+_}
 use native.Mathlib.Omega.{arith}
 use lib.ListN.{take}
 use borrow.Author.Needs.{needs}
+use Rattle.basics.specs.Basics.{isIn}
+use Rattle.rows.specs.Rows.{tasksOf, hasTask}
 use Rattle.rows.specs.declared.Row.{Row}
 use Rattle.tables.specs.declared.progress.Part.the-variants as P
 use Rattle.tables.specs.declared.progress.Progress.{Progress}
@@ -21,15 +23,16 @@ module _ (c : tie.After-read-part) where
   abbrev start : tie.Start
   start = c .before .before
 
-  abbrev rs : List Row
-  rs = take (start .args .count) (start .args .rows)
-
   abbrev named : Progress
   named = c .read-part .result
 
-  -- what the definition says of the row
-  abbrev defined : Fields
-  defined = let a = start .args in row-is rs (a .text .now) (a .offset) (a .line)
+  -- what the definition says of the row, after some rows
+  abbrev defined : List Row → Fields
+  defined rs = let a = start .args in row-is rs (a .text .now) (a .offset) (a .line)
+
+  -- their tasks are the first numbers
+  abbrev Before : List Row → Type 0
+  Before rs = tasksOf rs ≡ take (start .args .count) (start .args .numbers)
 
   named-read : named .refused ≡ 0
       → let a = start .args in TaskRead (task-line (a .text .now) (a .offset) (a .line)) (a .line) named
@@ -38,20 +41,29 @@ module _ (c : tie.After-read-part) where
       task-read P.Task refl (a .text .now) (a .offset) (a .line) (task-told (a .text .now) (a .offset) (a .line)) named
       (c .read-part .ensures)
 
--- ---- and from where the rest is
+-- ---- and from where the task is sought
+module _ (c : tie.After-is-in) where
+  abbrev first-of : tie.After-read-part
+  first-of = c .before .before .before
+
+  there : (rs : List Row) → Before first-of rs → hasTask (named first-of .numbers .first) rs ≡ c .is-in .result
+  there rs b = ap (isIn (named first-of .numbers .first)) b ∙ sym (c .is-in .ensures)
+
+-- ---- and from where the rest is read
 module _ (c : tie.After-read-part2) where
   abbrev first : tie.After-read-part
-  first = c .before .before .before .before .before
+  first = first-of (c .before .before)
 
   abbrev rest : Progress
   rest = c .read-part2 .result
 
-  rest-read : RestRead (named first .numbers .first) (named first .line + 5) (defined first) rest
-  rest-read =
+  rest-read : (rs : List Row) → Before first rs
+      → RestRead (named first .numbers .first) (named first .line + 5) (defined first rs) rest
+  rest-read rs b =
       let a = start first .args in
       let t = named-read first (c .before .before .before .if1 .left) in
-      row-rest (rs first) (a .text .now) (a .offset) (a .line) (named first .numbers .first) (named first .offset)
-      (t .line-is) (sym (c .before .before .has-task .ensures) ∙ c .before .if2 .left) (t .in-range) rest
+      row-rest rs (a .text .now) (a .offset) (a .line) (named first .numbers .first) (named first .offset)
+      (t .line-is) (there (c .before .before) rs b ∙ c .before .if2 .left) (t .in-range) rest
       (named first .line) (t .next-line) (c .read-part2 .ensures)
 
 read-part-requires : tie.Need-read-part-requires
@@ -61,17 +73,17 @@ stopped-requires : tie.Need-stopped-requires
 stopped-requires c κs = search needs
 
 returns : tie.Need-returns
-returns c =
+returns c rs b =
     let f = c .before .before .before in
     let a = start f .args in
     let t = task-refused P.Task refl (a .text .now) (a .offset) (a .line)
     (task-told (a .text .now) (a .offset) (a .line)) (named f) (f .read-part .ensures) (c .before .if1 .taken) in
     c .stopped .ensures
     ∙ ap₂ stoppedRow (t .refused) (t .line)
-    ∙ sym (ap rowRead (row-unnamed (rs f) (a .text .now) (a .offset) (a .line) (t .number) (t .refusal-is)))
+    ∙ sym (ap rowRead (row-unnamed rs (a .text .now) (a .offset) (a .line) (t .number) (t .refusal-is)))
 
-has-task-requires : tie.Need-has-task-requires
-has-task-requires c κs = search needs
+is-in-requires : tie.Need-is-in-requires
+is-in-requires c κs = search needs
 
 refusal-of-requires : tie.Need-refusal-of-requires
 refusal-of-requires c κs = search needs
@@ -83,7 +95,7 @@ stopped-requires-2 : tie.Need-stopped-requires-2
 stopped-requires-2 c κs = search needs
 
 returns-2 : tie.Need-returns-2
-returns-2 c =
+returns-2 c rs b =
     let h = c .before .before .before .before in
     let f = h .before .before .before in
     let a = start f .args in
@@ -91,8 +103,8 @@ returns-2 c =
     c .stopped2 .ensures
     ∙ ap₂ stoppedRow (c .before .before .refusal-of .ensures) (c .before .place-of .ensures)
     ∙ sym (ap rowRead
-    (row-again (rs f) (a .text .now) (a .offset) (a .line) (named f .numbers .first) (named f .offset) (t .line-is)
-    (sym (h .has-task .ensures) ∙ c .before .before .before .if2 .taken)))
+    (row-again rs (a .text .now) (a .offset) (a .line) (named f .numbers .first) (named f .offset) (t .line-is)
+    (there h rs b ∙ c .before .before .before .if2 .taken)))
 
 read-part-requires-2 : tie.Need-read-part-requires-2
 read-part-requires-2 c κs =
@@ -103,9 +115,9 @@ stopped-requires-3 : tie.Need-stopped-requires-3
 stopped-requires-3 c κs = search needs
 
 returns-3 : tie.Need-returns-3
-returns-3 c =
+returns-3 c rs b =
     let r = c .before .before .before in
-    c .stopped3 .ensures ∙ sym (ap rowRead (rest-stopped (rest-read r) (c .before .if3 .taken)))
+    c .stopped3 .ensures ∙ sym (ap rowRead (rest-stopped (rest-read r rs b) (c .before .if3 .taken)))
 
 new-requires : tie.Need-new-requires
 new-requires c κs = search needs
@@ -120,18 +132,18 @@ stopped-requires-4 : tie.Need-stopped-requires-4
 stopped-requires-4 c κs = search needs
 
 returns-4 : tie.Need-returns-4
-returns-4 c =
+returns-4 c rs b =
     let n = c .before .before .before in
     let r = n .before .before .before .before in
-    let none = rest-made (rest-read r) (n .before .before .if3 .left) (n .new .result) (n .new .ensures) in
+    let none = rest-made (rest-read r rs b) (n .before .before .if3 .left) (n .new .result) (n .new .ensures) in
     absurd (none (c .before .enum-told .given .1))
 
 returns-5 : tie.Need-returns-5
-returns-5 c =
+returns-5 c rs b =
     let n = c .before .before .before in
     let r = n .before .before .before .before in
     let d = c .before .checked .given in
-    rest-row (rest-read r) (n .before .before .if3 .left) (n .new .result) (n .new .ensures) (d .0 .0) (d .1)
+    rest-row (rest-read r rs b) (n .before .before .if3 .left) (n .new .result) (n .new .ensures) (d .0 .0) (d .1)
 
 pub read-row-spec : {M : Type 1} → statement M
 read-row-spec =
@@ -140,7 +152,7 @@ read-row-spec =
     read-part-requires
     stopped-requires
     returns
-    has-task-requires
+    is-in-requires
     refusal-of-requires
     place-of-requires
     stopped-requires-2

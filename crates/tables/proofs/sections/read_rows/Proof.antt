@@ -1,20 +1,21 @@
--- `tables::sections::read_rows` meets its contract. Invariant: the rows read so far stand at the front of the array,
--- and the table's reading goes on after them (`RowsSoFar`).
+-- `tables::sections::read_rows` meets its contract. Invariant: the rows read so far and their tasks stand at the front
+-- of their arrays, and the table's reading goes on after them (`RowsSoFar`).
 use mathlib.Core.Path.{ap}
 use Prim.Native.Nat.{_-_}
 use native.Mathlib.Omega.{arith}
 use lib.ListN.{replicate}
 use borrow.Author.Needs.{needs}
 use Rattle.rows.specs.Rows.{maxTasks}
-use Rattle.tables.proofs.Turns.{RowsSoFar, rows-start, rows-stop, rows-next, rows-end}
+use Rattle.tables.proofs.Turns.{RowsSoFar, rows-start, rows-stop, task-fits, rows-next, rows-end}
 use Rattle.tables.proofs.sections.read_rows.Statement.{statement}
 use Rattle.tables.proofs.sections.read_rows.Tie as tie
 
 abbrev Inv-loop : tie.InvT-loop
-Inv-loop text offset line tasks rows₀ at₀ below₀ i₀ rows at below i = RowsSoFar text offset line tasks rows at below i
+Inv-loop text offset line tasks rows₀ numbers₀ at₀ below₀ i₀ rows numbers at below i =
+    RowsSoFar text offset line tasks rows numbers at below i
 
 abbrev μ-loop : tie.MeasureT-loop
-μ-loop text offset line tasks rows₀ at₀ below₀ i₀ rows at below i = tasks - i
+μ-loop text offset line tasks rows₀ numbers₀ at₀ below₀ i₀ rows numbers at below i = tasks - i
 
 no-row-requires : tie.Need-no-row-requires Inv-loop μ-loop
 no-row-requires c κs = search needs
@@ -36,15 +37,33 @@ returns c =
     let x = r .before .before .loop in
     let s = r .before .before .before .before .before in
     let a = s .args in
-    rows-stop (a .text .now) (a .offset) (a .line) (a .tasks) (x .rows) (x .at) (x .below) (x .i)
+    rows-stop (a .text .now) (a .offset) (a .line) (a .tasks) (x .rows) (x .numbers) (x .at) (x .below) (x .i)
     (x .inv) (r .before .loop-test .taken) (s .pre .0) (r .read-row .result) (r .read-row .ensures) (c .if1 .taken)
-    (x .at) (x .rows)
+    (x .at) (x .rows) (x .numbers)
 
 mul-rows : tie.Need-mul-rows Inv-loop μ-loop
 mul-rows c = search needs
 
 array-set-from-rows : tie.Need-array-set-from-rows Inv-loop μ-loop
 array-set-from-rows c = search needs
+
+cast-numbers : tie.Need-cast-numbers Inv-loop μ-loop
+cast-numbers c =
+    let e = c .before .before in
+    let r = e .before .before in
+    let x = r .before .before .loop in
+    let s = r .before .before .before .before .before in
+    let a = s .args in
+    let fits = task-fits (a .text .now) (a .offset) (a .line) (a .tasks)
+    (x .rows) (x .numbers) (x .at) (x .below) (x .i) (x .inv) (r .before .loop-test .taken) (s .pre .0)
+    (r .read-row .result) (r .read-row .ensures) (e .if1 .left) in
+    record { fits = omega (arith, fits) }
+
+mul-numbers : tie.Need-mul-numbers Inv-loop μ-loop
+mul-numbers c = search needs
+
+array-write-numbers : tie.Need-array-write-numbers Inv-loop μ-loop
+array-write-numbers c = search needs
 
 add-i : tie.Need-add-i Inv-loop μ-loop
 add-i c = search needs
@@ -54,12 +73,12 @@ loop-less c = search needs
 
 loop-again : tie.Need-loop-again Inv-loop μ-loop
 loop-again c =
-    let e = c .before in
+    let e = c .before .before in
     let r = e .before .before in
     let x = r .before .before .loop in
     let s = r .before .before .before .before .before in
     let a = s .args in
-    rows-next (a .text .now) (a .offset) (a .line) (a .tasks) (x .rows) (x .at) (x .below) (x .i)
+    rows-next (a .text .now) (a .offset) (a .line) (a .tasks) (x .rows) (x .numbers) (x .at) (x .below) (x .i)
     (x .inv) (r .before .loop-test .taken) (s .pre .0) (r .read-row .result) (r .read-row .ensures) (e .if1 .left)
 
 returns-2 : tie.Need-returns-2 Inv-loop μ-loop
@@ -67,7 +86,7 @@ returns-2 c =
     let x = c .before .loop in
     let s = c .before .before .before .before in
     let a = s .args in
-    rows-end (a .text .now) (a .offset) (a .line) (a .tasks) (x .rows) (x .at) (x .below) (x .i)
+    rows-end (a .text .now) (a .offset) (a .line) (a .tasks) (x .rows) (x .numbers) (x .at) (x .below) (x .i)
     (x .inv) (c .loop-test .left)
 
 pub read-rows-spec : {M : Type 1} → statement M
@@ -82,6 +101,9 @@ read-rows-spec =
     returns
     mul-rows
     array-set-from-rows
+    cast-numbers
+    mul-numbers
+    array-write-numbers
     add-i
     loop-less
     loop-again
