@@ -1,7 +1,7 @@
 ghost use mathlib.Core.Path.{_≡_};
 ghost use Prim.Native.Nat.{_≤_};
 ghost use lib.ListN.{take};
-ghost use Rattle.rows.specs.Rows.{maxTasks, inRange, row, noRow, tasksOf, positionOf, rowsFor};
+ghost use Rattle.rows.specs.Rows.{maxTasks, inRange, row, noRow, positionOf, rowsFor};
 ghost use Rattle.rows.specs.Checked.{checked};
 use basics::within;
 
@@ -107,21 +107,6 @@ pub fn no_row() -> Row
     }
 }
 
-// The task numbers of the first n rows.
-fn task_numbers(rows: [Row; MAX_TASKS], n: usize) -> [u32; MAX_TASKS]
-    requires { ⌜ n ≤ maxTasks ⌝ }
-    ensures { λ r. ⌜ take n r ≡ tasksOf (take n rows) ⌝ }
-{
-    let mut numbers = [0u32; MAX_TASKS];
-    let mut i = 0;
-    while i < n {
-        let row = rows[i];
-        numbers[i] = row.task;
-        i += 1;
-    }
-    numbers
-}
-
 // Where a task stands among the first n numbers; n where it does not.
 fn position_of(task: u32, numbers: [u32; MAX_TASKS], n: usize) -> usize
     requires { ⌜ n ≤ maxTasks ⌝ }
@@ -147,7 +132,14 @@ pub fn rows_for(
     requires { ⌜ (count ≤ maxTasks) × (n ≤ maxTasks) ⌝ }
     ensures { λ r. ⌜ take count r ≡ rowsFor (take count tasks) (take n rows) ⌝ }
 {
-    let numbers = task_numbers(rows, n);
+    // The task numbers apart, so that seeking a task takes no copy of the rows.
+    let mut numbers = [0u32; MAX_TASKS];
+    let mut i = 0;
+    while i < n {
+        let row = rows[i];
+        numbers[i] = row.task;
+        i += 1;
+    }
     let mut found = [no_row(); MAX_TASKS];
     let mut k = 0;
     while k < count {

@@ -1,5 +1,5 @@
--- `rows::rows_for` meets its contract. Invariant: the rows found so far are those of the tasks so far, and none stands
--- after them.
+-- `rows::rows_for` meets its contract. Invariant of the first loop: the numbers so far are the tasks of the rows so
+-- far; of the second: the rows found so far are those of the tasks so far, and none stands after them.
 use mathlib.Core.Path.{_≡_, refl, sym, ap, _∙_, subst}
 use mathlib.Core.List.{List, [], _∷_, _++_}
 use mathlib.Core.Logic.{⊎-elim}
@@ -11,22 +11,40 @@ use lib.ListN.{length, getD, take, set, replicate, length-set, length-take, List
 use lib.Seq.{take-suc, take-suc-set, getD-take, getD-set-other, set-getD}
 use Rattle.rows.specs.declared.Row.{Row}
 use Rattle.rows.specs.Rows.{maxTasks, noRow, tasksOf, positionOf, rowFor, rowsFor}
-use Rattle.rows.proofs.Tasks.{row-at}
+use Rattle.rows.proofs.Tasks.{tasks-last, row-at}
 use Rattle.rows.proofs.rows_for.Statement.{statement}
 use Rattle.rows.proofs.rows_for.Tie as tie
 
+-- ---- one row more
+numbered-more : (rows : List Row) (numbers : List ℕ) (i : ℕ) → i < length rows → i < length numbers
+    → take i numbers ≡ tasksOf (take i rows)
+    → take (suc i) (set numbers i (getD rows i noRow .task)) ≡ tasksOf (take (suc i) rows)
+numbered-more rows numbers i h l e =
+    let r = getD rows i noRow in
+    take-suc-set numbers i (r .task) l
+    ∙ ap (λ ts. ts ++ (r .task ∷ [])) e
+    ∙ sym (ap tasksOf (take-suc rows i noRow h) ∙ tasks-last (take i rows) r)
+
+-- ---- the rows found for the first k tasks
 record Found (ts : List ℕ) (rs : List Row) (found : List Row) (k : ℕ) : Type 0 where
   long : length found ≡ maxTasks
   front : take k found ≡ rowsFor (take k ts) rs
   none-after : (j : ℕ) → k ≤ j → getD found j noRow ≡ noRow
 
--- ---- none yet
+-- none yet
 blank : (n j : ℕ) → getD (replicate n noRow) j noRow ≡ noRow
 blank zero j = refl
 blank (suc n) zero = refl
 blank (suc n) (suc j) = blank n j
 
--- ---- one task more
+found-none-yet : (ts : List ℕ) (rs : List Row) (r : Row) → r ≡ noRow → Found ts rs (replicate maxTasks r) 0
+found-none-yet ts rs r e = record {
+  long = refl;
+  front = refl;
+  none-after = λ j h. ap (λ x. getD (replicate maxTasks x) j noRow) e ∙ blank maxTasks j;
+}
+
+-- one task more
 for-more : (ts : List ℕ) (t : ℕ) (rs : List Row) → rowsFor (ts ++ (t ∷ [])) rs ≡ rowsFor ts rs ++ (rowFor t rs ∷ [])
 for-more [] t rs = refl
 for-more (x ∷ ts) t rs = ap (λ (l : List Row). rowFor x rs ∷ l) (for-more ts t rs)
@@ -52,7 +70,7 @@ module _ (ts : List ℕ) (rs found : List Row) (k : ℕ) (so : Found ts rs found
   found-none e =
       sym (set-getD found k noRow) ∙ ap (set found k) (so .none-after k (omega arith) ∙ e)
 
--- the row at the position of a task among the first n, or none past them
+-- ---- the row at the position of a task among the first n, or none past them
 module _ (t : ℕ) (numbers : List ℕ) (rows : List Row) (n at : ℕ) (is : at ≡ positionOf t (take n numbers))
     (tasks : take n numbers ≡ tasksOf (take n rows)) where
   at-row : getD (take n rows) at noRow ≡ rowFor t (take n rows)
@@ -66,74 +84,126 @@ module _ (t : ℕ) (numbers : List ℕ) (rows : List Row) (n at : ℕ) (is : at 
       sym (List·getD-eq-default (take n rows) noRow {n = at} (omega (arith, length-take n rows))) ∙ at-row
 
 abbrev Inv-loop : tie.InvT-loop
-Inv-loop count n tasks rows numbers found₀ k₀ found k = (k ≤ count) × Found tasks (take n rows) found k
+Inv-loop count n tasks rows numbers₀ i₀ numbers i =
+    (i ≤ n) × (length numbers ≡ maxTasks) × (take i numbers ≡ tasksOf (take i rows))
 
 abbrev μ-loop : tie.MeasureT-loop
-μ-loop count n tasks rows numbers found₀ k₀ found k = count - k
+μ-loop count n tasks rows numbers₀ i₀ numbers i = n - i
 
-task-numbers-requires : tie.Need-task-numbers-requires Inv-loop μ-loop
-task-numbers-requires c κs = search needs
+abbrev Inv-loop2 : tie.InvT-loop2
+Inv-loop2 count n tasks rows numbers i found₀ k₀ found k =
+    (k ≤ count) × (take n numbers ≡ tasksOf (take n rows)) × Found tasks (take n rows) found k
 
-no-row-requires : tie.Need-no-row-requires Inv-loop μ-loop
-no-row-requires c κs = search needs
+abbrev μ-loop2 : tie.MeasureT-loop2
+μ-loop2 count n tasks rows numbers i found₀ k₀ found k = count - k
 
-loop-holds : tie.Need-loop-holds Inv-loop μ-loop
-loop-holds c =
-    (omega arith, record { long = refl; front = refl; none-after = λ j h. ap (λ r. getD (replicate maxTasks r) j noRow) (c .no-row .ensures) ∙ blank maxTasks j })
+rows-long : (c : tie.Start Inv-loop μ-loop Inv-loop2 μ-loop2) → length (c .args .t3) ≡ 12
+rows-long c = c .good .1 .1 .0 .1 .0 .1
 
-mul-position-of : tie.Need-mul-position-of Inv-loop μ-loop
-mul-position-of c = search needs
+loop-holds : tie.Need-loop-holds Inv-loop μ-loop Inv-loop2 μ-loop2
+loop-holds c = (omega arith, refl, refl)
 
-array-read-position-of : tie.Need-array-read-position-of Inv-loop μ-loop
-array-read-position-of c = search needs
+mul-row : tie.Need-mul-row Inv-loop μ-loop Inv-loop2 μ-loop2
+mul-row c = search needs
 
-cast-position-of : tie.Need-cast-position-of Inv-loop μ-loop
-cast-position-of c = search needs
+array-copy-out-row : tie.Need-array-copy-out-row Inv-loop μ-loop Inv-loop2 μ-loop2
+array-copy-out-row c = search needs
 
-position-of-requires : tie.Need-position-of-requires Inv-loop μ-loop
-position-of-requires c κs = search needs
+mul-numbers : tie.Need-mul-numbers Inv-loop μ-loop Inv-loop2 μ-loop2
+mul-numbers c = search needs
 
-mul-found : tie.Need-mul-found Inv-loop μ-loop
-mul-found c = search needs
+array-write-numbers : tie.Need-array-write-numbers Inv-loop μ-loop Inv-loop2 μ-loop2
+array-write-numbers c = search needs
 
-array-copy-out-found : tie.Need-array-copy-out-found Inv-loop μ-loop
-array-copy-out-found c = search needs
+add-i : tie.Need-add-i Inv-loop μ-loop Inv-loop2 μ-loop2
+add-i c = search needs
 
-mul-found-2 : tie.Need-mul-found-2 Inv-loop μ-loop
-mul-found-2 c = search needs
-
-array-set-from-found : tie.Need-array-set-from-found Inv-loop μ-loop
-array-set-from-found c = search needs
-
-add-k : tie.Need-add-k Inv-loop μ-loop
-add-k c = search needs
-
-loop-less : tie.Need-loop-less Inv-loop μ-loop
+loop-less : tie.Need-loop-less Inv-loop μ-loop Inv-loop2 μ-loop2
 loop-less c = search needs
 
-loop-again : tie.Need-loop-again Inv-loop μ-loop
+loop-again : tie.Need-loop-again Inv-loop μ-loop Inv-loop2 μ-loop2
 loop-again c =
+    let s = c .before .before .before in
+    let x = c .before .before .loop in
+    let rows = s .args .t3 in
+    let long = rows-long s in
+    rw (add-one (x .i)) (
+      omega arith,
+      length-set (x .numbers) (x .i) (getD rows (x .i) noRow .task) ∙ x .inv .1,
+      numbered-more rows (x .numbers) (x .i) (omega arith) (omega arith) (x .inv .2),
+    )
+
+no-row-requires : tie.Need-no-row-requires Inv-loop μ-loop Inv-loop2 μ-loop2
+no-row-requires c κs = search needs
+
+loop2-holds : tie.Need-loop2-holds Inv-loop μ-loop Inv-loop2 μ-loop2
+loop2-holds c =
+    let x = c .before .before .loop in
+    let a = c .before .before .before .args in
+    let all : x .i ≡ a .n = omega arith in (
+      omega arith,
+      rw all at (x .inv .2),
+      found-none-yet (a .t1) (take (a .n) (a .t3)) (c .no-row .result) (c .no-row .ensures),
+    )
+
+mul-position-of : tie.Need-mul-position-of Inv-loop μ-loop Inv-loop2 μ-loop2
+mul-position-of c = search needs
+
+array-read-position-of : tie.Need-array-read-position-of Inv-loop μ-loop Inv-loop2 μ-loop2
+array-read-position-of c = search needs
+
+cast-position-of : tie.Need-cast-position-of Inv-loop μ-loop Inv-loop2 μ-loop2
+cast-position-of c = search needs
+
+position-of-requires : tie.Need-position-of-requires Inv-loop μ-loop Inv-loop2 μ-loop2
+position-of-requires c κs = search needs
+
+mul-found : tie.Need-mul-found Inv-loop μ-loop Inv-loop2 μ-loop2
+mul-found c = search needs
+
+array-copy-out-found : tie.Need-array-copy-out-found Inv-loop μ-loop Inv-loop2 μ-loop2
+array-copy-out-found c = search needs
+
+mul-found-2 : tie.Need-mul-found-2 Inv-loop μ-loop Inv-loop2 μ-loop2
+mul-found-2 c = search needs
+
+array-set-from-found : tie.Need-array-set-from-found Inv-loop μ-loop Inv-loop2 μ-loop2
+array-set-from-found c = search needs
+
+add-k : tie.Need-add-k Inv-loop μ-loop Inv-loop2 μ-loop2
+add-k c = search needs
+
+loop2-less : tie.Need-loop2-less Inv-loop μ-loop Inv-loop2 μ-loop2
+loop2-less c = search needs
+
+loop2-again : tie.Need-loop2-again Inv-loop μ-loop Inv-loop2 μ-loop2
+loop2-again c =
     let p = c .before in
-    let x = p .before .before .loop in
-    let t = p .before .before .before .before .task-numbers in
-    let a = p .before .before .before .before .before .args in
+    let x = p .before .before .loop2 in
+    let a = p .before .before .before .before .before .before .args in
+    let numbers = p .before .before .before .before .before .loop .numbers in
+    let at = p .position-of .result in
     let rs = take (a .n) (a .t3) in
     let task = getD (a .t1) (x .k) 0 in
-    let made = found-more (a .t1) rs (x .found) (x .k) (x .inv .1) (omega arith) (omega arith) in
-    let there = row-there task (t .result) (a .t3) (a .n) (p .position-of .result) (p .position-of .ensures) (t .ensures) in
-    let none = row-none task (t .result) (a .t3) (a .n) (p .position-of .result) (p .position-of .ensures) (t .ensures) in
-    let put : c .if1 .found ≡ set (x .found) (x .k) (rowFor task rs) =
-    ⊎-elim (λ w. w .2 ∙ ap (set (x .found) (x .k)) (there (w .0 .taken)))
-    (λ w. w .1 ∙ found-none (a .t1) rs (x .found) (x .k) (x .inv .1) (omega arith) (omega arith) (none (w .0 .left)))
-    (c .if1 .came) in
-    rw (add-one (x .k)) (omega arith, subst (λ l. Found (a .t1) rs l (suc (x .k))) (sym put) made)
+    let here = set (x .found) (x .k) in
+    let there = row-there task numbers (a .t3) (a .n) at (p .position-of .ensures) (x .inv .1) in
+    let none = row-none task numbers (a .t3) (a .n) at (p .position-of .ensures) (x .inv .1) in
+    let unchanged = found-none (a .t1) rs (x .found) (x .k) (x .inv .2) (omega arith) (omega arith) in
+    let put : c .if1 .found ≡ here (rowFor task rs) =
+    ⊎-elim (λ w. w .2 ∙ ap here (there (w .0 .taken))) (λ w. w .1 ∙ unchanged (none (w .0 .left))) (c .if1 .came) in
+    let more = found-more (a .t1) rs (x .found) (x .k) (x .inv .2) (omega arith) (omega arith) in
+    rw (add-one (x .k)) (
+      omega arith,
+      x .inv .1,
+      subst (λ l. Found (a .t1) rs l (suc (x .k))) (sym put) more,
+    )
 
-returns : tie.Need-returns Inv-loop μ-loop
+returns : tie.Need-returns Inv-loop μ-loop Inv-loop2 μ-loop2
 returns c =
-    let a = c .before .before .before .before .args in
-    let x = c .before .loop in
+    let a = c .before .before .before .before .before .args in
+    let x = c .before .loop2 in
     let all : x .k ≡ a .count = omega arith in
-    rw (← all) (x .inv .1 .front)
+    rw (← all) (x .inv .2 .front)
 
 pub rows-for-spec : {M : Type 1} → statement M
 rows-for-spec =
@@ -141,9 +211,18 @@ rows-for-spec =
     (tie.spec
     Inv-loop
     μ-loop
-    task-numbers-requires
-    no-row-requires
+    Inv-loop2
+    μ-loop2
     loop-holds
+    mul-row
+    array-copy-out-row
+    mul-numbers
+    array-write-numbers
+    add-i
+    loop-less
+    loop-again
+    no-row-requires
+    loop2-holds
     mul-position-of
     array-read-position-of
     cast-position-of
@@ -153,6 +232,6 @@ rows-for-spec =
     mul-found-2
     array-set-from-found
     add-k
-    loop-less
-    loop-again
+    loop2-less
+    loop2-again
     returns)
