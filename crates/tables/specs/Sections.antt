@@ -32,7 +32,7 @@ rankRead l k =
     (λ v next. record { refused = 0; line = k + 1; offset = next; task = v })
     (stoppedRank (refusal l) (place l))
 
--- ---- so of any rows with these tasks, whatever else they say
+-- ---- what holds of all rows with these tasks, whatever else they say
 abbrev pub WithTasks : List ℕ → (List Row → Type 0) → Type 0
 WithTasks ts P = (rs : List Row) → tasksOf rs ≡ ts → P rs
 
