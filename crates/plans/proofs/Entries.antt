@@ -1,26 +1,26 @@
 -- The entry at a rank is that of its row under the rows before it; the first late rank is late and those above it are
--- not; and the entries of rows in range of which none is late keep their limits.
+-- not; and the entry of a row that is not late keeps its limits.
 use mathlib.Core.Path.{_≡_, refl, sym, ap, subst, _∙_}
-use mathlib.Core.Bool.{Bool, true, false, _&&_}
+use mathlib.Core.Bool.{true, false}
 use mathlib.Core.List.{List, [], _∷_, _++_, append-nil}
 use mathlib.Core.Logic.{inl, inr}
-use Prim.Native.Nat.{ℕ, zero, suc, _+_, _-_, _*_, _≤_, _<_}
+use Prim.Native.Nat.{ℕ, zero, suc, _+_, _≤_, _<_}
 use native.Mathlib.Nat.{mul-le-mul}
 use native.Mathlib.Omega.{arith}
-use lib.Dec.{leb, ltb}
-use lib.IntN.{ℤ, pos, negsuc, natAbs, subℕ}
+use lib.Dec.{ltb}
+use lib.IntN.{natAbs, subℕ}
 use lib.ListN.{length, getD, take}
 use lib.Seq.{append-snoc}
-use borrow.Author.Tests.{le-leb, ltb-true, ltb-false}
-use Rattle.basics.proofs.Tests.{test-of, and-both, true-not-false}
-use Rattle.rows.specs.Rows.{maxTask, maxTicks, maxAlpha, maxBeta, inRange, timesInRange, allRows, noRow}
+use borrow.Author.Tests.{ltb-true}
+use Rattle.basics.proofs.Tests.{test-of}
+use Rattle.rows.specs.Rows.{maxTask, maxTicks, maxAlpha, maxBeta, inRange, allRows, noRow}
 use Rattle.rows.specs.declared.Row.{Row}
-use Rattle.rows.proofs.Limits.{limits, in-range-times, all-times, head-passes, tail-passes, append-passes}
-use Rattle.responses.specs.Figures.{latest, isLate, earliest, jitter, margin}
+use Rattle.rows.proofs.Limits.{limits, in-range-times, all-times}
+use Rattle.responses.specs.Figures.{latest, isLate, jitter}
 use Rattle.responses.specs.Claims.{spent}
 use Rattle.responses.proofs.Responses.{figured}
 use Rattle.plans.specs.declared.Entry.{Entry}
-use Rattle.plans.specs.Entries.{entry, entriesFrom, entries, lateFrom, firstLate, inLimits, allInLimits}
+use Rattle.plans.specs.Entries.{entry, entriesFrom, entries, lateFrom, firstLate}
 
 -- ---- by rank
 pub entries-length : (above order : List Row) → length (entriesFrom above order) ≡ length order
@@ -123,8 +123,16 @@ difference-limit a b m ha hb = elim (test-of (ltb a b)) [
   | inr e ↦ rw e (omega arith)
 ]
 
-entry-limits : (r : Row) (above : List Row) → inRange r ≡ true → allRows inRange above ≡ true
-    → isLate r above ≡ false → inLimits (entry r above) ≡ true
+-- a margin's size is at most beta's limit
+pub record InLimits (e : Entry) : Type 0 where
+  pub task-in : e .task ≤ maxTask
+  pub best-in : e .best ≤ maxTicks
+  pub worst-in : e .worst ≤ maxTicks
+  pub jitter-in : e .jitter ≤ maxTicks
+  pub margin-in : natAbs (e .margin) ≤ maxBeta
+
+pub entry-limits : (r : Row) (above : List Row) → inRange r ≡ true → allRows inRange above ≡ true
+    → isLate r above ≡ false → InLimits (entry r above)
 entry-limits r above hr ha l =
     let limit = limits r hr in
     let f = figured r above (in-range-times r hr) (all-times above ha) in
@@ -133,30 +141,10 @@ entry-limits r above hr ha l =
     let most : latest r above ≤ maxTicks = omega (arith, w .2, limit .period .le-high) in
     let steep = mul-le-mul {n₁ = r .alpha} {m₁ = jitter r above} {n₂ = maxAlpha} {m₂ = maxTicks}
     (limit .alpha .le-high) (omega arith) in
-    let size = difference-limit (r .beta) (spent r above) maxBeta (limit .beta .le-high) (omega (arith, e .2)) in
-    simp (
-      le-leb (r .task) maxTask (limit .task .le-high),
-      le-leb (earliest r above) maxTicks (omega (arith, e .2)),
-      le-leb (latest r above) maxTicks most,
-      le-leb (jitter r above) maxTicks (omega arith),
-      le-leb (natAbs (margin r above)) maxBeta size,
-    )
-
-limits-from : (above order : List Row) → allRows inRange above ≡ true → allRows inRange order ≡ true
-    → ((i : ℕ) → i < length order → isLate (getD order i noRow) (above ++ take i order) ≡ false)
-    → allInLimits (entriesFrom above order) ≡ true
-unfolding allInLimits
-limits-from above [] ha ho l = refl
-limits-from above (r ∷ rs) ha ho l =
-    let hr = head-passes inRange r rs ho in
-    let in-time : isLate r above ≡ false = sym (ap (isLate r) (append-nil above)) ∙ l 0 (omega arith) in
-    let more = append-passes inRange above (r ∷ []) ha (and-both (inRange r) true hr refl) in
-    and-both (inLimits (entry r above)) (allInLimits (entriesFrom (above ++ (r ∷ [])) rs))
-    (entry-limits r above hr ha in-time)
-    (limits-from (above ++ (r ∷ [])) rs more (tail-passes inRange r rs ho)
-    (λ i h. ap (isLate (getD rs i noRow)) (append-snoc above r (take i rs)) ∙ l (suc i) (omega arith)))
-
-pub entries-limits : (order : List Row) → allRows inRange order ≡ true
-    → ((i : ℕ) → i < length order → isLate (getD order i noRow) (take i order) ≡ false)
-    → allInLimits (entries order) ≡ true
-entries-limits order h l = limits-from [] order refl h l
+    record {
+      task-in = limit .task .le-high;
+      best-in = omega (arith, e .2);
+      worst-in = most;
+      jitter-in = omega arith;
+      margin-in = difference-limit (r .beta) (spent r above) maxBeta (limit .beta .le-high) (omega (arith, e .2));
+    }

@@ -1,77 +1,90 @@
--- A rank has at most 82 bytes, so twelve ranks and three lines before them have at most 1,012: every plan within the
--- limits has room. A refusal's three lines have at most 35.
-use mathlib.Core.Path.{_≡_}
-use mathlib.Core.Bool.{Bool, true, _&&_}
-use mathlib.Core.List.{List, [], _∷_}
+-- A rank has at most 82 bytes, and the three lines before the ranks at most 28, so a plan of twelve ranks has at most
+-- 1,012: every plan of rows in range has room. A refusal's three lines have at most 35.
+use mathlib.Core.Path.{_≡_, refl, sym, ap, _∙_}
+use mathlib.Core.Bool.{true, false}
+use mathlib.Core.List.{List, [], _∷_, _++_, append-nil}
 use Prim.Native.Nat.{ℕ, suc, _+_, _*_, _^_, _≤_, _<_}
 use native.Mathlib.Omega.{arith}
-use borrow.Author.Tests.{leb-true}
-use lib.Dec.{leb}
 use lib.IntN.{ℤ, pos, negsuc, natAbs}
-use lib.ListN.{length, length-append}
-use Rattle.basics.proofs.Tests.{and-left, and-right}
-use Rattle.text.specs.Text.{decimal, signed, joined}
+use lib.ListN.{length, getD, take, length-append}
+use lib.Seq.{append-snoc}
+use Rattle.basics.proofs.Tests.{and-both}
+use Rattle.text.specs.Text.{signed, joined}
 use Rattle.text.proofs.Decimals.{decimal-short}
 use Rattle.text.proofs.Spelling.{line-length}
-use Rattle.rows.specs.Rows.{maxTask, maxTicks, maxBeta, maxTasks}
+use Rattle.rows.specs.Rows.{maxBeta, maxTasks, inRange, allRows, noRow}
+use Rattle.rows.specs.declared.Row.{Row}
+use Rattle.rows.proofs.Limits.{head-passes, tail-passes, append-passes}
+use Rattle.responses.specs.Figures.{isLate}
 use Rattle.plans.specs.declared.Entry.{Entry}
-use Rattle.plans.specs.Entries.{inLimits, allInLimits}
-use Rattle.plans.specs.Plans.{rankText, rankTexts, planText, refusalText, planRoom}
+use Rattle.plans.specs.Entries.{entry, entriesFrom, entries}
+use Rattle.plans.specs.Plans.{rankText, rankTexts, headText, planText, refusalText, planRoom, rankRoom}
+use Rattle.plans.proofs.Entries.{InLimits, entries-length, entry-limits}
 
-number-length : (v k most : ℕ) → leb v most ≡ true → most < 10 ^ suc k → length (decimal v) ≤ suc k
-number-length v k most e h = decimal-short v k (omega (arith, leb-true v most e))
-
-margin-length : (z : ℤ) → leb (natAbs z) maxBeta ≡ true → length (signed z) ≤ 13
+margin-length : (z : ℤ) → natAbs z ≤ maxBeta → length (signed z) ≤ 13
 unfolding signed
-margin-length (pos v) e = omega (arith, number-length v 11 maxBeta e (omega arith))
-margin-length (negsuc v) e = omega (arith, number-length (suc v) 11 maxBeta e (omega arith))
+margin-length (pos v) h = omega (arith, decimal-short v 11 (omega arith))
+margin-length (negsuc v) h = omega (arith, decimal-short (suc v) 11 (omega arith))
 
-rank-length : (k : ℕ) (e : Entry) → k ≤ maxTasks → inLimits e ≡ true → length (rankText k e) ≤ 82
+pub rank-length : (k : ℕ) (e : Entry) → k ≤ maxTasks → InLimits e → length (rankText k e) ≤ rankRoom
 unfolding rankText
-rank-length k e h h₅ =
-    let t₁ = leb (e .task) maxTask in
-    let t₂ = leb (e .best) maxTicks in
-    let t₃ = leb (e .worst) maxTicks in
-    let t₄ = leb (e .jitter) maxTicks in
-    let t₅ = leb (natAbs (e .margin)) maxBeta in
-    let h₄ = and-left (t₁ && t₂ && t₃ && t₄) t₅ h₅ in
-    let h₃ = and-left (t₁ && t₂ && t₃) t₄ h₄ in
-    let h₂ = and-left (t₁ && t₂) t₃ h₃ in
+rank-length k e h l =
     simp (length-append, line-length)
     (omega (
       arith,
       decimal-short k 1 (omega arith),
-      number-length (e .task) 4 maxTask (and-left t₁ t₂ h₂) (omega arith),
-      number-length (e .best) 6 maxTicks (and-right t₁ t₂ h₂) (omega arith),
-      number-length (e .worst) 6 maxTicks (and-right (t₁ && t₂) t₃ h₃) (omega arith),
-      number-length (e .jitter) 6 maxTicks (and-right (t₁ && t₂ && t₃) t₄ h₄) (omega arith),
-      margin-length (e .margin) (and-right (t₁ && t₂ && t₃ && t₄) t₅ h₅),
+      decimal-short (e .task) 4 (omega (arith, l .task-in)),
+      decimal-short (e .best) 6 (omega (arith, l .best-in)),
+      decimal-short (e .worst) 6 (omega (arith, l .worst-in)),
+      decimal-short (e .jitter) 6 (omega (arith, l .jitter-in)),
+      margin-length (e .margin) (l .margin-in),
     ))
 
-ranks-length : (k : ℕ) (es : List Entry) → k + length es ≤ suc maxTasks → allInLimits es ≡ true
-    → length (joined (rankTexts k es)) ≤ 82 * length es
-unfolding allInLimits
-ranks-length k [] h e = omega arith
-ranks-length k (x ∷ es) h e =
+-- the ranks from k on of rows in range, none of which is late
+ranks-length : (k : ℕ) (above order : List Row) → k + length order ≤ suc maxTasks
+    → allRows inRange above ≡ true → allRows inRange order ≡ true
+    → ((i : ℕ) → i < length order → isLate (getD order i noRow) (above ++ take i order) ≡ false)
+    → length (joined (rankTexts k (entriesFrom above order))) ≤ length order * rankRoom
+ranks-length k above [] h ha ho l = omega arith
+ranks-length k above (r ∷ rs) h ha ho l =
+    let hr = head-passes inRange r rs ho in
+    let in-time : isLate r above ≡ false = sym (ap (isLate r) (append-nil above)) ∙ l 0 (omega arith) in
+    let more = append-passes inRange above (r ∷ []) ha (and-both (inRange r) true hr refl) in
+    let e = entry r above in
+    let rest = entriesFrom (above ++ (r ∷ [])) rs in
     omega (
       arith,
-      rank-length k x (omega arith) (and-left (inLimits x) (allInLimits es) e),
-      ranks-length (suc k) es (omega arith) (and-right (inLimits x) (allInLimits es) e),
-      length-append (rankText k x) (joined (rankTexts (suc k) es)),
+      rank-length k e (omega arith) (entry-limits r above hr ha in-time),
+      ranks-length (suc k) (above ++ (r ∷ [])) rs (omega arith) more (tail-passes inRange r rs ho)
+          (λ i m. ap (isLate (getD rs i noRow)) (append-snoc above r (take i rs)) ∙ l (suc i) (omega arith)),
+      length-append (rankText k e) (joined (rankTexts (suc k) rest)),
     )
 
-pub plan-fits : (board : ℕ) (es : List Entry) → board < 10 ^ 5 → length es ≤ maxTasks → allInLimits es ≡ true
-    → length (planText board es) ≤ planRoom
-unfolding planText
-plan-fits board es h n e =
+pub head-length : (board count : ℕ) → board < 10 ^ 5 → count ≤ maxTasks → length (headText board count) ≤ 28
+unfolding headText
+head-length board count h n =
     simp (length-append, line-length)
     (omega (
       arith,
       decimal-short 1 0 (omega arith),
       decimal-short board 4 h,
-      decimal-short (length es) 1 (omega arith),
-      ranks-length 1 es (omega arith) e,
+      decimal-short count 1 (omega arith),
     ))
+
+pub plan-fits : (board : ℕ) (order : List Row) → board < 10 ^ 5 → length order ≤ maxTasks
+    → allRows inRange order ≡ true
+    → ((i : ℕ) → i < length order → isLate (getD order i noRow) (take i order) ≡ false)
+    → length (planText board (entries order)) ≤ planRoom
+unfolding planText
+plan-fits board order h n ok l =
+    let es = entries order in
+    let many = entries-length [] order in
+    omega (
+      arith,
+      head-length board (length es) h (omega (arith, many)),
+      ranks-length 1 [] order (omega arith) refl ok l,
+      length-append (headText board (length es)) (joined (rankTexts 1 es)),
+    )
 
 pub refusal-length : (number place : ℕ) → number < 10 ^ 3 → place < 10 ^ 10 → length (refusalText number place) ≤ 35
 unfolding refusalText

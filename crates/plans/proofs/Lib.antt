@@ -2,5 +2,5 @@
 pub mod Entries
 pub mod Lengths
 pub mod Outcomes
-pub mod Turns
 pub mod Ranks
+pub mod Turns

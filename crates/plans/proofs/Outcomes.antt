@@ -2,15 +2,17 @@
 -- call returned, since every refusal has one.
 use mathlib.Core.Path.{_≡_, refl, sym, ap, _∙_}
 use mathlib.Core.List.{List}
-use Prim.Native.Nat.{ℕ, _≤_, _<_}
+use Prim.Native.Nat.{ℕ, zero, suc, _≤_, _<_}
 use native.Mathlib.Omega.{arith}
 use lib.ListN.{length}
 use borrow.Author.Tests.{le-leb, lt-leb}
 use Rattle.text.specs.Puts.{Wrote}
 use Rattle.text.proofs.Puts.{wrote-counts}
+use Rattle.rows.specs.declared.Row.{Row}
 use Rattle.plans.specs.declared.Plan.{Plan}
+use Rattle.plans.specs.Entries.{firstLate}
 use Rattle.plans.specs.Plans.{refusalText}
-use Rattle.plans.specs.Outcomes.{Outcome, writes, refuses, fitted, result, Written, printed}
+use Rattle.plans.specs.Outcomes.{Outcome, writes, refuses, fitted, planOf, ifInTime, result, Written, printed}
 use Rattle.plans.specs.Prints.{Numbered}
 
 pub fits : (room : ℕ) (t : List ℕ) → length t ≤ room → fitted room t ≡ writes t
@@ -20,6 +22,18 @@ fits room t h = rw (le-leb (length t) room h, fitted)
 pub fits-not : (room : ℕ) (t : List ℕ) → room < length t → fitted room t ≡ refuses 9 0
 unfolding fitted
 fits-not room t h = rw (lt-leb (length t) room h, fitted)
+
+-- ---- by the first late rank
+pub late-outcome : (room board : ℕ) (order : List Row) (k : ℕ) → firstLate order ≡ k → (k ≡ 0 → ⊥)
+    → ifInTime room board order ≡ refuses 7 k
+unfolding ifInTime
+late-outcome room board order zero e h = absurd (h (omega arith))
+late-outcome room board order (suc k) e h = rw (e, ifInTime)
+
+pub timely-outcome : (room board : ℕ) (order : List Row) → firstLate order ≡ 0
+    → ifInTime room board order ≡ planOf room board order
+unfolding ifInTime
+timely-outcome room board order e = rw (e, ifInTime)
 
 -- a refusal leaves the buffer as it was
 pub refused : {w : Outcome} {o : List ℕ} {r : Plan} {number place : ℕ} → w ≡ refuses number place

@@ -1,10 +1,8 @@
 -- The figures that a plan writes of an order, rank by rank: each row under those above it, in the order's own sequence.
-use mathlib.Core.Bool.{Bool, true, false, _&&_}
+use mathlib.Core.Bool.{true, false}
 use mathlib.Core.List.{List, [], _∷_, _++_}
 use Prim.Native.Nat.{ℕ, suc}
-use lib.Dec.{leb}
-use lib.IntN.{pos, natAbs}
-use Rattle.rows.specs.Rows.{maxTask, maxTicks, maxBeta}
+use lib.IntN.{pos}
 use Rattle.rows.specs.declared.Row.{Row}
 use Rattle.responses.specs.Figures as Figures
 use Rattle.responses.specs.Figures.{isLate}
@@ -37,16 +35,3 @@ lateFrom k above (r ∷ rs) = elim (isLate r above) [ true ↦ k | false ↦ lat
 
 abbrev pub firstLate : List Row → ℕ
 firstLate order = lateFrom 1 [] order
-
--- the limits of an entry: a margin's size is at most beta's limit
-abbrev pub inLimits : Entry → Bool
-inLimits e =
-    leb (e .task) maxTask
-    && leb (e .best) maxTicks
-    && leb (e .worst) maxTicks
-    && leb (e .jitter) maxTicks
-    && leb (natAbs (e .margin)) maxBeta
-
-unfoldable pub allInLimits : List Entry → Bool
-allInLimits [] = true
-allInLimits (e ∷ es) = inLimits e && allInLimits es

@@ -2,11 +2,13 @@
 use mathlib.Core.Path.{_≡_}
 use mathlib.Core.Bool.{true, false}
 use mathlib.Core.List.{List, _++_}
-use Prim.Native.Nat.{ℕ}
+use Prim.Native.Nat.{ℕ, zero, suc}
 use lib.Dec.{leb}
 use lib.ListN.{length, drop}
+use Rattle.rows.specs.declared.Row.{Row}
 use Rattle.plans.specs.declared.Plan.{Plan}
-use Rattle.plans.specs.Plans.{refusalText}
+use Rattle.plans.specs.Entries.{entries, firstLate}
+use Rattle.plans.specs.Plans.{planText, refusalText}
 
 -- a text to write, or a refusal with its place
 pub data Outcome : Type 0 where
@@ -16,6 +18,14 @@ pub data Outcome : Type 0 where
 -- refusal 9: the buffer is shorter than the text
 unfoldable pub fitted : ℕ → List ℕ → Outcome
 fitted room text = elim (leb (length text) room) [ true ↦ writes text | false ↦ refuses 9 0 ]
+
+-- an order's plan; refusal 9
+abbrev pub planOf : ℕ → ℕ → List Row → Outcome
+planOf room board order = fitted room (planText board (entries order))
+
+-- an order's plan, where none of its tasks is late; else refusal 7 with the first late rank
+unfoldable pub ifInTime : ℕ → ℕ → List Row → Outcome
+ifInTime room board order = elim (firstLate order) [ zero ↦ planOf room board order | suc k ↦ refuses 7 (suc k) ]
 
 abbrev pub result : Outcome → Plan
 result (writes text) = record { number = 0; place = 0; long = length text }

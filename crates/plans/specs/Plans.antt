@@ -21,12 +21,16 @@ abbrev pub rankTexts : ℕ → List Entry → List (List ℕ)
 rankTexts k [] = []
 rankTexts k (e ∷ es) = rankText k e ∷ rankTexts (suc k) es
 
-unfoldable pub planText : ℕ → List Entry → List ℕ
-planText board es = joined (
+-- the three lines before the ranks
+unfoldable pub headText : ℕ → ℕ → List ℕ
+headText board count = joined (
     keyLine (bytes "plan=") (decimal 1)
     ∷ keyLine (bytes "board=") (decimal board)
-    ∷ keyLine (bytes "tasks=") (decimal (length es))
-    ∷ rankTexts 1 es)
+    ∷ keyLine (bytes "tasks=") (decimal count)
+    ∷ [])
+
+unfoldable pub planText : ℕ → List Entry → List ℕ
+planText board es = joined (headText board (length es) ∷ rankTexts 1 es)
 
 -- a refusal's number and place
 unfoldable pub refusalText : ℕ → ℕ → List ℕ
@@ -39,3 +43,7 @@ refusalText number place = joined (
 -- the room that every plan has enough of
 abbrev pub planRoom : ℕ
 planRoom = 1024
+
+-- and every rank of it
+abbrev pub rankRoom : ℕ
+rankRoom = 82

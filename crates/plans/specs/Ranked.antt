@@ -1,11 +1,14 @@
--- What the code answers of an order: its entries, or its first late rank.
+-- What the code answers of an order: its ranks' text, put at a place, or its first late rank.
 use mathlib.Core.Path.{_≡_}
 use mathlib.Core.List.{List}
-use lib.ListN.{length, take}
+use Prim.Native.Nat.{ℕ}
+use Rattle.text.specs.Text.{joined}
+use Rattle.text.specs.Puts.{Put}
 use Rattle.rows.specs.declared.Row.{Row}
-use Rattle.plans.specs.declared.by_rank.Ranked.{Ranked}
+use Rattle.plans.specs.declared.by_rank.RanksPut.{RanksPut}
 use Rattle.plans.specs.Entries.{entries, firstLate}
+use Rattle.plans.specs.Plans.{rankTexts}
 
-pub record RankedAs (order : List Row) (r : Ranked) : Type 0 where
+pub record Ranked (order : List Row) (at : ℕ) (buffer buffer′ : List ℕ) (r : RanksPut) : Type 0 where
   pub late-is : r .late ≡ firstLate order
-  pub entries-are : firstLate order ≡ 0 → take (length order) (r .entries) ≡ entries order
+  pub text-put : firstLate order ≡ 0 → Put (joined (rankTexts 1 (entries order))) at buffer buffer′ (r .end)

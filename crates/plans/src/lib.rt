@@ -1,20 +1,19 @@
-// Text out: the entries of an order as a plan, a refusal's lines, and what a program prints of a call's answer.
+// Text out: an order's plan, a refusal's lines, and what a program prints of a call's answer.
 
-// by_rank.rt: the figures of an order, rank by rank.
-pub mod by_rank;
+// by_rank.rt: the ranks of an order.
+mod by_rank;
 
 ghost use mathlib.Core.Path.{_≡_};
 ghost use mathlib.Core.Bool.{true};
 ghost use Prim.Native.Nat.{_+_, _≤_};
 ghost use lib.ListN.{length, take};
-ghost use Rattle.text.specs.Text.{joined};
 ghost use Rattle.text.specs.Puts.{Put, Wrote};
-ghost use Rattle.rows.specs.Rows.{maxTasks};
-ghost use Rattle.plans.specs.Entries.{allInLimits};
-ghost use Rattle.plans.specs.Plans.{rankText, rankTexts, planText, refusalText, planRoom};
-ghost use Rattle.plans.specs.Outcomes.{refuses, fitted, result, Written};
+ghost use Rattle.rows.specs.Rows.{maxTasks, inRange, allRows};
+ghost use Rattle.plans.specs.Plans.{rankText, headText, refusalText, planRoom};
+ghost use Rattle.plans.specs.Outcomes.{refuses, ifInTime, result, Written};
 ghost use Rattle.plans.specs.Prints.{Prints};
 use rows::MAX_TASKS;
+use rows::Row;
 use text::put_bytes;
 use text::put_line;
 use text::put_signed_line;
@@ -79,30 +78,14 @@ fn put_rank(out: &mut [u8], at: usize, rank: u64, e: Entry) -> usize
     put_signed_line(out, at, b"margin=", e.margin)
 }
 
-// The first ranks of a plan, as many as count says.
-fn put_ranks(out: &mut [u8], at: usize, count: usize, entries: [Entry; MAX_TASKS]) -> usize
-    requires { ⌜ count ≤ maxTasks ⌝ }
-    requires { ⌜ at + length (joined (rankTexts 1 (take count entries))) ≤ length (now out) ⌝ }
-    ensures { λ r. ⌜ Put (joined (rankTexts 1 (take count entries))) at (now (out .entry)) (now (out .exit)) r ⌝ }
-{
-    let mut end = at;
-    let mut i = 0;
-    while i < count {
-        end = put_rank(out, end, i as u64 + 1, entries[i]);
-        i += 1;
-    }
-    end
-}
-
-fn put_plan(out: &mut [u8], board: u16, count: usize, entries: [Entry; MAX_TASKS]) -> usize
-    requires { ⌜ count ≤ maxTasks ⌝ }
-    requires { ⌜ length (planText board (take count entries)) ≤ length (now out) ⌝ }
-    ensures { λ r. ⌜ Wrote (planText board (take count entries)) (now (out .entry)) (now (out .exit)) r ⌝ }
+// The lines before the ranks.
+fn put_head(out: &mut [u8], board: u16, count: usize) -> usize
+    requires { ⌜ length (headText board count) ≤ length (now out) ⌝ }
+    ensures { λ r. ⌜ Put (headText board count) 0 (now (out .entry)) (now (out .exit)) r ⌝ }
 {
     let at = put_line(out, 0, b"plan=", 1);
     let at = put_line(out, at, b"board=", board as u64);
-    let at = put_line(out, at, b"tasks=", count as u64);
-    put_ranks(out, at, count, entries)
+    put_line(out, at, b"tasks=", count as u64)
 }
 
 pub fn put_refusal(out: &mut [u8], number: u8, place: u32) -> usize
@@ -114,14 +97,21 @@ pub fn put_refusal(out: &mut [u8], number: u8, place: u32) -> usize
     put_line(out, at, b"line=", place as u64)
 }
 
-// A plan is written whole in a buffer of the call's own, so that one that does not fit leaves out as it was.
-pub fn finish(out: &mut [u8], board: u16, count: usize, entries: [Entry; MAX_TASKS]) -> Plan
-    requires { ⌜ (count ≤ maxTasks) × (allInLimits (take count entries) ≡ true) ⌝ }
-    ensures { λ r. ⌜ Written (fitted (length (now (out .entry))) (planText board (take count entries)))
+// The plan of the first n rows as an order, highest rank first: refusal 7 where one is late, 9 where it does not fit.
+// A plan is written whole in a buffer of the call's own, so that a refusal leaves out as it was.
+pub fn plan_order(out: &mut [u8], board: u16, rows: [Row; MAX_TASKS], n: usize) -> Plan
+    requires { ⌜ (n ≤ maxTasks) × (allRows inRange (take n rows) ≡ true) ⌝ }
+    ensures { λ r. ⌜ Written (ifInTime (length (now (out .entry))) board (take n rows))
         (now (out .entry)) (now (out .exit)) r ⌝ }
 {
-    let mut text = buffer();
-    let long = put_plan(&mut text, board, count, entries);
+    let mut text = [0; ROOM];
+    let at = put_head(&mut text, board, n);
+    let ranks = by_rank::put_order(&mut text, at, rows, n);
+    let late = ranks.late;
+    if late != 0 {
+        return Plan::refused(7, late);
+    }
+    let long = ranks.end;
     let room = out.len();
     if room < long {
         return Plan::refused(9, 0);

@@ -5,14 +5,14 @@ use Rattle.text.specs.Lines.{numberOf, lineAt}
 use Rattle.tables.specs.Tables.{fieldAt, rankAt, ranksFrom, fieldsFrom, rowsFrom, tasksFrom, boardFrom}
 use Rattle.responses.specs.Fixed.{smallest, largest}
 use Rattle.orders.specs.Orders.{overSet}
-use Rattle.plans.specs.Plans.{rankText, planText}
+use Rattle.plans.specs.Plans.{rankText, headText, planText}
 use Rattle.plans.specs.Outcomes.{fitted}
 use Rattle.ranks.specs.Calls.{onTable, ifOrdered}
 use Rattle.ranks.specs.Cases.{AllHold, starred}
 
 pub starred-hold : AllHold starred
 unfolding digits decimal signed keyLine numberOf lineAt fieldAt rankAt ranksFrom fieldsFrom rowsFrom tasksFrom boardFrom
-    smallest largest overSet rankText planText fitted onTable ifOrdered
+    smallest largest overSet rankText headText planText fitted onTable ifOrdered
 starred-hold = (
   (refl, refl, refl, refl, refl),
   (

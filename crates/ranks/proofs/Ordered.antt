@@ -27,9 +27,10 @@ use Rattle.orders.proofs.Scan.{some-of}
 use Rattle.orders.proofs.Tasks.{rows-for}
 use Rattle.boards.specs.Claims.{NoneLate}
 use Rattle.plans.specs.Entries.{firstLate}
-use Rattle.plans.specs.Outcomes.{Outcome, refuses}
+use Rattle.plans.specs.Outcomes.{Outcome, refuses, planOf, ifInTime}
 use Rattle.plans.proofs.Entries.{first-late-some}
-use Rattle.ranks.specs.Calls.{onTable, planOf, ifOrdered, ifInTime, planned, givenOrder, reviewed}
+use Rattle.plans.proofs.Outcomes.{timely-outcome}
+use Rattle.ranks.specs.Calls.{onTable, ifOrdered, planned, givenOrder, reviewed}
 use Rattle.ranks.specs.Demands.{Accepts}
 use Rattle.ranks.proofs.Outcomes.{zero-or-more, on-accepted}
 use Rattle.ranks.proofs.Planned as Planned
@@ -46,8 +47,7 @@ none-late-first order h = elim (zero-or-more (firstLate order)) [
 
 in-time-plan : (room board : ℕ) (order : List Row) → NoneLate order
     → ifInTime room board order ≡ planOf room board order
-unfolding ifInTime
-in-time-plan room board order h = rw (none-late-first order h, ifInTime)
+in-time-plan room board order h = timely-outcome room board order (none-late-first order h)
 
 -- ---- the planner: what the search found
 module _ (text : List ℕ) (r : Reading) (is : r ≡ reading (readTable false text)) (ok : Accepts false text)

@@ -30,7 +30,6 @@ use Rattle.plans.specs.Entries.{entries}
 use Rattle.plans.specs.Plans.{planText, planRoom}
 use Rattle.plans.specs.Outcomes.{Outcome, writes, refuses, fitted}
 use Rattle.plans.proofs.Outcomes.{fits, fits-not}
-use Rattle.plans.proofs.Entries.{entries-length, entries-limits}
 use Rattle.plans.proofs.Lengths.{plan-fits}
 use Rattle.ranks.specs.Calls.{onTable, ifOrdered, planned}
 use Rattle.ranks.specs.Demands.{Promised, Accepts, EveryOrderFails, entryAt, PlanDemands}
@@ -75,9 +74,8 @@ module _ (text : List ℕ) where
       order-fits : length (planText (answer .board) (entries order)) ≤ planRoom
       order-fits =
           let as-many = possible-length (choice .is-possible order is) in
-          plan-fits (answer .board) (entries order) (omega (arith, sound .board-high))
-          (omega (arith, entries-length [] order, sound .few-rows))
-          (entries-limits order order-in-range in-time)
+          plan-fits (answer .board) order (omega (arith, sound .board-high)) (omega (arith, sound .few-rows))
+          order-in-range in-time
 
   -- ---- how the outcome comes about
   module _ (room : ℕ) where

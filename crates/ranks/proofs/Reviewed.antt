@@ -23,10 +23,10 @@ use Rattle.boards.specs.Claims.{NoneLate}
 use Rattle.plans.specs.Entries.{entries, firstLate}
 use Rattle.plans.specs.Plans.{planText, planRoom}
 use Rattle.plans.specs.Outcomes.{Outcome, writes, refuses, fitted}
-use Rattle.plans.proofs.Outcomes.{fits, fits-not}
-use Rattle.plans.proofs.Entries.{entries-length, entries-limits, FirstLate, first-late-none, first-late-some}
+use Rattle.plans.proofs.Outcomes.{fits, fits-not, late-outcome, timely-outcome}
+use Rattle.plans.proofs.Entries.{FirstLate, first-late-none, first-late-some}
 use Rattle.plans.proofs.Lengths.{plan-fits}
-use Rattle.ranks.specs.Calls.{onTable, ifInTime, givenOrder, reviewed}
+use Rattle.ranks.specs.Calls.{onTable, givenOrder, reviewed}
 use Rattle.ranks.specs.Demands.{Promised, Accepts, ReviewDemands}
 use Rattle.ranks.proofs.Outcomes.{same-refusal, same-text, not-both, zero-or-more, on-accepted, on-refused}
 use Rattle.ranks.proofs.Outcomes.{listed-more}
@@ -57,9 +57,8 @@ module _ (text : List ℕ) where
       order-fits : length (planText (answer .board) (entries order)) ≤ planRoom
       order-fits =
           let as-many = possible-length (is-possible .0) in
-          plan-fits (answer .board) (entries order) (omega (arith, sound .board-high))
-          (omega (arith, entries-length [] order, sound .few-rows))
-          (entries-limits order order-in-range in-time)
+          plan-fits (answer .board) order (omega (arith, sound .board-high)) (omega (arith, sound .few-rows))
+          order-in-range in-time
 
   -- ---- how the outcome comes about
   module _ (room : ℕ) where
@@ -73,17 +72,19 @@ module _ (text : List ℕ) where
       written : Accepts true text → NoneLate order → length plan ≤ room → reviewed text room ≡ writes plan → Cases
 
     accepted : Accepts true text → Cases
-    unfolding ifInTime
     accepted a =
         elim (zero-or-more (firstLate order)) [
           | inl z ↦
-              let is : reviewed text room ≡ fitted room plan = on-accepted answer _ a ∙ rw (z, ifInTime) in
+              let is : reviewed text room ≡ fitted room plan =
+              on-accepted answer _ a ∙ timely-outcome room (answer .board) order z in
               let in-time : NoneLate order = first-late-none order z in
               elim (le-or-lt (length plan) room) [
                 | inl h ↦ written a in-time h (is ∙ fits room plan h)
                 | inr h ↦ short a in-time h (is ∙ fits-not room plan h)
               ]
-          | inr l ↦ late (l .0) (first-late-some order (l .0) (l .1)) (on-accepted answer _ a ∙ rw (l .1, ifInTime))
+          | inr l ↦
+              let is = late-outcome room (answer .board) order (suc (l .0)) (l .1) (λ e. omega (arith, e)) in
+              late (l .0) (first-late-some order (l .0) (l .1)) (on-accepted answer _ a ∙ is)
         ]
 
     cases : Cases

@@ -7,17 +7,12 @@ use Rattle.rows.specs.Rows.{rowsFor}
 use Rattle.rows.specs.declared.Row.{Row}
 use Rattle.tables.specs.Tables.{Answer, readTable}
 use Rattle.orders.specs.Stability.{chosenOrder}
-use Rattle.plans.specs.Entries.{entries, firstLate}
-use Rattle.plans.specs.Plans.{planText, planRoom}
-use Rattle.plans.specs.Outcomes.{Outcome, refuses, fitted, printed}
+use Rattle.plans.specs.Plans.{planRoom}
+use Rattle.plans.specs.Outcomes.{Outcome, refuses, planOf, ifInTime, printed}
 
 -- refusals 1 to 6: those of the text; else what its table comes to
 unfoldable pub onTable : Answer → Outcome → Outcome
 onTable a next = elim (a .refused) [ zero ↦ next | suc n ↦ refuses (suc n) (a .line) ]
-
--- an order's plan; refusal 9
-abbrev pub planOf : ℕ → ℕ → List Row → Outcome
-planOf room board order = fitted room (planText board (entries order))
 
 -- the planner: 1 to 5, 8, 9
 unfoldable pub ifOrdered : ℕ → ℕ → Option (List Row) → Outcome
@@ -29,13 +24,11 @@ planned text room =
     let a = readTable false text in
     onTable a (ifOrdered room (a .board) (chosenOrder (a .rows)))
 
--- the reviewer: 1 to 6, 7 with the first late rank, 9
-unfoldable pub ifInTime : ℕ → ℕ → List Row → Outcome
-ifInTime room board order = elim (firstLate order) [ zero ↦ planOf room board order | suc k ↦ refuses 7 (suc k) ]
-
+-- the order of the rank lines
 abbrev pub givenOrder : List ℕ → List Row
 givenOrder text = let a = readTable true text in rowsFor (a .order) (a .rows)
 
+-- the reviewer: 1 to 6, 7 with the first late rank, 9
 abbrev pub reviewed : List ℕ → ℕ → Outcome
 reviewed text room =
     let a = readTable true text in

@@ -10,9 +10,9 @@ use denote.Ref.{now}
 use lib.ListN.{length, take}
 use Rattle.rows.specs.Rows.{inRange, allRows}
 use Rattle.rows.specs.declared.Row.{Row}
-use Rattle.plans.specs.Outcomes.{Outcome, Written}
+use Rattle.plans.specs.Outcomes.{Outcome, ifInTime, Written}
 use Rattle.plans.proofs.Outcomes.{refused}
-use Rattle.ranks.specs.Calls.{ifInTime, givenOrder}
+use Rattle.ranks.specs.Calls.{givenOrder}
 use Rattle.ranks.specs.Demands.{Accepts}
 use Rattle.ranks.proofs.Reviewed.{review-demands}
 use Rattle.ranks.proofs.Readings.{accepts, refusal-is, few, board-fits}

@@ -14,9 +14,9 @@ use Rattle.rows.specs.Rows.{inRange, allRows}
 use Rattle.rows.specs.declared.Row.{Row}
 use Rattle.tables.specs.declared.Reading.{Reading}
 use Rattle.tables.specs.Tables.{readTable}
-use Rattle.plans.specs.Outcomes.{Outcome, Written}
+use Rattle.plans.specs.Outcomes.{Outcome, ifInTime, Written}
 use Rattle.plans.proofs.Outcomes.{refused}
-use Rattle.ranks.specs.Calls.{ifInTime, planned}
+use Rattle.ranks.specs.Calls.{planned}
 use Rattle.ranks.specs.Demands.{Accepts}
 use Rattle.ranks.proofs.Planned.{plan-demands}
 use Rattle.ranks.proofs.Readings.{accepts, refusal-is, few, lent, board-fits}

@@ -1,4 +1,4 @@
--- `plans::by_rank::entries_of` meets its contract. Invariant: the columns, the entries and the late ranks so far are
+-- `plans::by_rank::put_order` meets its contract. Invariant: the columns, the ranks put and the late ranks so far are
 -- those of the rows passed (`Turning`).
 use mathlib.Core.Path.{_≡_, refl, ap}
 use Prim.Native.Nat.{_+_, _-_}
@@ -11,57 +11,46 @@ use mir.Syntax.{w64}
 use mir.Val.{toZ, ofZ}
 use mir.Facts.{toZ-ofZ}
 use Rattle.rows.specs.Rows.{noRow}
-use Rattle.plans.proofs.Turns.{entryFrom, Turning, starts, posed, found-late, turned, finished}
-use Rattle.plans.proofs.by_rank.entries_of.Statement.{statement}
-use Rattle.plans.proofs.by_rank.entries_of.Tie as tie
-use Rattle.plans.proofs.by_rank.entries_of.Reads as reads
-use Rattle.plans.proofs.by_rank.entries_of.Lts as lts
-use Rattle.plans.proofs.by_rank.no_entry.Reads as no-entry-reads
-use Rattle.responses.proofs.figures_under.Reads as figures-under-reads
+use Rattle.responses.specs.declared.Figures.{Figures}
+use Rattle.plans.specs.declared.Entry.{Entry}
+use Rattle.plans.proofs.Turns.{Turning, starts, posed, found-late, rank-fits, turned, finished}
+use Rattle.plans.proofs.by_rank.put_order.Statement.{statement}
+use Rattle.plans.proofs.by_rank.put_order.Tie as tie
 
 abbrev Inv-loop : tie.InvT-loop
-Inv-loop n rows entries₀ periods₀ worsts₀ bests₀ i₀ entries periods worsts bests i =
-    Turning n rows entries periods worsts bests i
+Inv-loop out₀ at n rows periods₀ worsts₀ bests₀ end₀ i₀ out periods worsts bests end i =
+    Turning n rows at out₀ end out periods worsts bests i
 
 abbrev μ-loop : tie.MeasureT-loop
-μ-loop n rows entries₀ periods₀ worsts₀ bests₀ i₀ entries periods worsts bests i = n - i
+μ-loop out₀ at n rows periods₀ worsts₀ bests₀ end₀ i₀ out periods worsts bests end i = n - i
 
-rows-long : (c : tie.Start Inv-loop μ-loop) → length (c .args .t1) ≡ 12
-rows-long c = c .good .0 .1 .0 .1
+rows-long : (c : tie.Start Inv-loop μ-loop) → length (c .args .t3) ≡ 12
+rows-long c = c .good .1 .1 .0 .1 .0 .1
 
 -- where a turn stands, from its figures on
 abbrev turn : tie.After-figures-under Inv-loop μ-loop → tie.In-loop Inv-loop μ-loop
 turn c = c .before .before .before .before .before
 
-seen : (c : tie.After-struct-told Inv-loop μ-loop)
-    → let m = c .before .before .figures-under .result .margin in toZ w64 (ofZ w64 m) ≡ m
-seen c = toZ-ofZ (search needs)
+abbrev figures : tie.After-struct-told Inv-loop μ-loop → Figures
+figures c = c .before .before .figures-under .result
 
--- the margin of an entry is stored as it was found
-same-margin : (c : tie.After-struct-told Inv-loop μ-loop)
-    → let k = turn (c .before .before) in
-    let r = getD (k .before .before .before .args .t1) (k .before .loop .i) noRow in
-    let f = c .before .before .figures-under .result in
-    record {
-      task = r .task;
-      best = f .best;
-      worst = f .worst;
-      jitter = f .jitter;
-      margin = toZ w64 (ofZ w64 (f .margin));
-    } ≡ entryFrom r f
-same-margin c =
+-- the entry of a turn's row, with a margin
+abbrev entry-told : tie.After-struct-told Inv-loop μ-loop → ℤ → Entry
+entry-told c margin =
     let k = turn (c .before .before) in
-    let r = getD (k .before .before .before .args .t1) (k .before .loop .i) noRow in
-    let f = c .before .before .figures-under .result in
-    ap (λ (m : ℤ). record { task = r .task; best = f .best; worst = f .worst; jitter = f .jitter; margin = m }) (seen c)
+    let r = getD (k .before .before .before .args .t3) (k .before .loop .i) noRow in
+    let f = figures c in
+    record { task = r .task; best = f .best; worst = f .worst; jitter = f .jitter; margin = margin }
 
-no-entry-requires : tie.Need-no-entry-requires Inv-loop μ-loop
-no-entry-requires c κs = search needs
+-- the margin is stored as it was found
+same-margin : (c : tie.After-struct-told Inv-loop μ-loop)
+    → entry-told c (toZ w64 (ofZ w64 (figures c .margin))) ≡ entry-told c (figures c .margin)
+same-margin c = ap (entry-told c) (toZ-ofZ (search needs))
 
 loop-holds : tie.Need-loop-holds Inv-loop μ-loop
 loop-holds c =
     let s = c .before in
-    starts (s .pre .0) (rows-long s) (s .pre .1) _ _ _ _ refl refl refl refl
+    starts (s .pre .0 .0) (rows-long s) (s .pre .0 .1) (s .pre .1) _ _ _ refl refl refl
 
 mul-row : tie.Need-mul-row Inv-loop μ-loop
 mul-row c = omega arith
@@ -89,19 +78,28 @@ cast-rank c = omega arith
 add-rank : tie.Need-add-rank Inv-loop μ-loop
 add-rank c = omega arith
 
+same-length : tie.Need-same-length Inv-loop μ-loop
+same-length c = turn (c .before) .before .loop .inv .same
+
 returns : tie.Need-returns Inv-loop μ-loop
 returns c =
     let k = turn (c .before) in
     let x = k .before .loop in
     let f = c .before .figures-under in
-    found-late (x .inv) (k .loop-test .taken) (f .result) (f .ensures) (c .if1 .taken) (x .entries) (x .i + 1)
+    found-late (x .inv) (k .loop-test .taken) (f .result) (f .ensures) (c .if1 .taken) (x .i + 1) (x .end)
     (add-one (x .i))
 
-mul-entries : tie.Need-mul-entries Inv-loop μ-loop
-mul-entries c = omega arith
+add-put-rank : tie.Need-add-put-rank Inv-loop μ-loop
+add-put-rank c = omega arith
 
-array-set-from-entries : tie.Need-array-set-from-entries Inv-loop μ-loop
-array-set-from-entries c = omega arith
+put-rank-requires : tie.Need-put-rank-requires Inv-loop μ-loop
+put-rank-requires c κs =
+    let told = c .before in
+    let k = turn (told .before .before) in
+    let x = k .before .loop in
+    let f = told .before .before .figures-under in
+    rank-fits (x .inv) (k .loop-test .taken) (f .result) (f .ensures) (told .before .if1 .left) (x .i + 1)
+    (add-one (x .i)) _ (same-margin told)
 
 cast-periods : tie.Need-cast-periods Inv-loop μ-loop
 cast-periods c = search needs
@@ -138,23 +136,26 @@ loop-less c = omega arith
 
 loop-again : tie.Need-loop-again Inv-loop μ-loop
 loop-again c =
-    let told = c .before .before .before in
+    let put = c .before .before .before .before .before in
+    let told = put .before .before in
     let k = turn (told .before .before) in
     let x = k .before .loop in
     let f = told .before .before .figures-under in
-    rw (add-one (x .i))
-    (turned (x .inv) (k .loop-test .taken) (f .result) (f .ensures) (told .before .if1 .left) _ (same-margin told))
+    turned (x .inv) (k .loop-test .taken) (f .result) (f .ensures) (told .before .if1 .left) (x .i + 1)
+    (add-one (x .i)) _ (same-margin told) (put .put-rank .ensures) (x .i + 1) (add-one (x .i))
+
+same-length-2 : tie.Need-same-length-2 Inv-loop μ-loop
+same-length-2 c = c .before .loop .inv .same
 
 returns-2 : tie.Need-returns-2 Inv-loop μ-loop
 returns-2 c = finished (c .before .loop .inv) (c .loop-test .left)
 
-pub entries-of-spec : {M : Type 1} → statement M
-entries-of-spec =
+pub put-order-spec : {M : Type 1} → statement M
+put-order-spec =
     tie.close
     (tie.spec
     Inv-loop
     μ-loop
-    no-entry-requires
     loop-holds
     mul-row
     array-copy-out-row
@@ -164,9 +165,10 @@ entries-of-spec =
     figures-under-requires
     cast-rank
     add-rank
+    same-length
     returns
-    mul-entries
-    array-set-from-entries
+    add-put-rank
+    put-rank-requires
     cast-periods
     mul-periods
     array-write-periods
@@ -179,4 +181,5 @@ entries-of-spec =
     add-i
     loop-less
     loop-again
+    same-length-2
     returns-2)
