@@ -9,5 +9,6 @@ pub mod Sets
 pub mod Scan
 pub mod Record
 pub mod Listed
+pub mod Numbered
 pub mod Gathering
 pub mod Searched

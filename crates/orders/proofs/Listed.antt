@@ -1,125 +1,103 @@
 -- The order read off the record. The record is closed, so a set that it has, with an order, has a chain: its lowest
 -- row, that of the rest, and so on. The tasks along the chain are the order's.
-use mathlib.Core.Path.{_≡_, refl, ap, ap₂, sym, _∙_, subst}
+use mathlib.Core.Path.{_≡_, ap, ap₂, sym, _∙_}
 use mathlib.Core.Bool.{true}
 use mathlib.Core.List.{List, [], _∷_, _++_}
-use Prim.Native.Nat.{ℕ, zero, suc, _-_, _/_, _%_, _^_, _<_}
+use Prim.Native.Nat.{ℕ, zero, suc, _-_, _/_, _%_, _^_, _≤_, _<_}
+use native.Mathlib.Decide.{ℕ-discrete}
 use native.Mathlib.Omega.{arith}
-use lib.ListN.{length, getD, take}
-use lib.Seq.{getD-take}
-use lib.Pow.{pow-mono}
+use lib.ListN.{length, getD, set, take}
+use lib.Seq.{getD-take, take-suc-set}
+use lib.Pow.{pow-pos}
 use Rattle.rows.specs.declared.Row.{Row}
-use Rattle.rows.specs.Rows.{maxTasks, rowAt, tasksOf}
+use Rattle.rows.specs.Rows.{maxTasks, inRange, noRow, rowAt}
+use Rattle.rows.proofs.Limits.{at-passes}
+use Rattle.rows.proofs.Tasks.{tasks-last}
 use Rattle.orders.specs.Orders.{theOrder}
-use Rattle.orders.specs.Sets.{size, isSome, orderAt, Known, Recorded}
+use Rattle.orders.specs.Sets.{members, isSome, orderAt, Known, Recorded}
 use Rattle.orders.specs.Stability.{stable}
-use Rattle.orders.specs.Search.{tasksIn, Lent, Pushed, Chained, chainTasks, Listed}
-use Rattle.orders.proofs.Sets.{less-row, size-empty, size-zero, size-less}
+use Rattle.orders.specs.Search.{tasksIn, Lent, Chained, chainTasks}
+use Rattle.orders.proofs.Possible.{taken-length}
+use Rattle.orders.proofs.Sets.{less-row, taken-at, no-members, all-members, some-member}
 use Rattle.orders.proofs.Searched.{small, a-set}
 use Rattle.orders.proofs.Scan.{at-empty}
 use Rattle.orders.proofs.Record.{says-lowest}
 
--- ---- along the chain
-module _ (sets : List ℕ) (m : ℕ) where
-  abbrev i : ℕ
-  i = getD sets m 0
-
-  -- a set that is not empty: its lowest row is in the record, and the rest has a chain
-  pub record Step : Type 0 where
-    pub row : i < maxTasks
-    pub in-set : m / 2 ^ i % 2 ≡ 1
-    pub chained : Chained sets (size (m - 2 ^ i)) (m - 2 ^ i)
-    pub one-more : size m ≡ suc (size (m - 2 ^ i))
-
-  step-of : (k : ℕ) → size m ≡ k → (m ≡ 0 → ⊥) → Chained sets k m → Step
-  step-of zero e h c = absurd (h c)
-  step-of (suc k) e h c =
-      let more = size-less maxTasks i m (m - 2 ^ i) (c .0) (less-row i m (c .1) .0) in
-      let rest : k ≡ size (m - 2 ^ i) = omega (arith, more, e) in
-      record {
-        row = c .0;
-        in-set = c .1;
-        chained = subst (λ (j : ℕ). Chained sets j (m - 2 ^ i)) rest (c .2);
-        one-more = more;
-      }
-
-  pub step : (m ≡ 0 → ⊥) → Chained sets (size m) m → Step
-  step = step-of (size m) refl
+-- ---- along the chain of a set that is not empty
+module _ (rows : List Row) (sets : List ℕ) where
+  -- its lowest row, and the rest
+  pub row-of :
+      (m k : ℕ) →
+      0 < k →
+      Chained rows sets k m →
+      let i = getD sets m 0 in
+      (i < maxTasks)
+      × (inRange (rowAt rows i) ≡ true)
+      × (m / 2 ^ i % 2 ≡ 1)
+      × Chained rows sets (k - 1) (m - 2 ^ i)
+  row-of m zero l c = absurd (omega arith)
+  row-of m (suc k) l c = let e : suc k - 1 ≡ k = omega arith in rw e c
 
   -- the lowest row's task goes below those of the rest
-  pub listed-lowest :
-      (tasks above : List ℕ) (count : ℕ) (listed : List ℕ) (count′ : ℕ) →
-      Step →
-      Listed tasks sets (m - 2 ^ i) above count →
-      Pushed above count (getD tasks i 0) listed count′ →
-      Listed tasks sets m listed count′
-  listed-lowest tasks above count listed count′ s l p = record {
-    long = p .long;
-    counted = omega (arith, p .one-more, l .counted, s .one-more);
-    front = p .listed
-        ∙ ap (λ (ts : List ℕ). ts ++ (getD tasks i 0 ∷ [])) (l .front)
-        ∙ sym (ap (λ (k : ℕ). chainTasks tasks sets k m) (s .one-more));
-  }
-
-pub listed-empty :
-    (tasks sets listed : List ℕ) (count : ℕ) →
-    length listed ≡ maxTasks →
-    count ≡ 0 →
-    Listed tasks sets 0 listed count
-listed-empty tasks sets listed count e z =
-    let none = size-empty maxTasks in
-    record {
-      long = e;
-      counted = z ∙ sym none;
-      front = ap (λ (k : ℕ). take k listed) z ∙ sym (ap (λ (k : ℕ). chainTasks tasks sets k 0) none);
-    }
-
--- ---- the task numbers of some rows
-task-at : (rs : List Row) (i : ℕ) → getD (tasksOf rs) i 0 ≡ rowAt rs i .task
-task-at [] i = refl
-task-at (r ∷ rs) zero = refl
-task-at (r ∷ rs) (suc i) = task-at rs i
-
-pub tasks-more : (rs : List Row) (r : Row) → tasksOf (rs ++ (r ∷ [])) ≡ tasksOf rs ++ (r .task ∷ [])
-tasks-more [] r = refl
-tasks-more (x ∷ rs) r = ap (λ (l : List ℕ). x .task ∷ l) (tasks-more rs r)
+  pub chain-lowest :
+      (m k : ℕ) (tasks : List ℕ) (r : Row) →
+      0 < k →
+      k ≤ length tasks →
+      let i = getD sets m 0 in
+      r ≡ rowAt rows i →
+      take (k - 1) tasks ≡ chainTasks rows sets (k - 1) (m - 2 ^ i) →
+      take k (set tasks (k - 1) (r .task)) ≡ chainTasks rows sets k m
+  chain-lowest m zero tasks r l few is h = absurd (omega arith)
+  chain-lowest m (suc k) tasks r l few is h =
+      let e : suc k - 1 ≡ k = omega arith in
+      let task = rowAt rows (getD sets m 0) .task in
+      rw (is, e) (take-suc-set tasks k task few ∙ ap (λ (ts : List ℕ). ts ++ (task ∷ [])) (rw e at h))
 
 -- ---- the chain of a set that has an order, and is in the record
-module _ (rows : List Row) (n : ℕ) (lent : Lent rows n) (tasks : List ℕ) (are : take n tasks ≡ tasksOf (take n rows))
-    (sets : List ℕ) (rec : Recorded stable (take n rows) sets) where
+module _ (rows : List Row) (n : ℕ) (lent : Lent rows n) (sets : List ℕ)
+    (rec : Recorded stable (take n rows) sets) where
   abbrev table : List Row
   table = take n rows
 
-  task-is : (i : ℕ) → i < n → getD tasks i 0 ≡ rowAt table i .task
-  task-is i l = sym (getD-take n tasks i 0 l) ∙ ap (λ (ts : List ℕ). getD ts i 0) are ∙ task-at table i
-
   chain-of :
       (k m : ℕ) →
-      size m ≡ k →
+      length (members m table) ≡ k →
       m < 2 ^ n →
       Known stable table sets m →
       isSome (orderAt stable table m) ≡ true →
-      Chained sets k m × (chainTasks tasks sets k m ≡ tasksIn (orderAt stable table m))
-  chain-of zero m e l h o =
-      let z = size-zero maxTasks m (omega (arith, pow-mono (lent .held))) e in
-      (z, sym (ap (λ (j : ℕ). tasksIn (orderAt stable table j)) z ∙ ap tasksIn (at-empty theOrder stable table)))
+      Chained rows sets k m × (chainTasks rows sets k m ≡ tasksIn (orderAt stable table m))
+  chain-of zero m e l h o = elim (ℕ-discrete m 0) [
+    | yes z ↦ (
+      z,
+      sym (ap (λ (j : ℕ). tasksIn (orderAt stable table j)) z ∙ ap tasksIn (at-empty theOrder stable table)),
+    )
+    | no z ↦ absurd (omega (arith, some-member table m z (a-set lent m l) .1))
+  ]
   chain-of (suc k) m e l h o =
       let i = getD sets m 0 in
-      let some-row : m ≡ 0 → ⊥ = λ z. omega (arith, ap size z, size-empty maxTasks) in
+      let some-row : m ≡ 0 → ⊥ =
+      λ z. omega (arith, ap (λ (j : ℕ). length (members j table)) z, ap length (no-members table)) in
       let low = says-lowest stable table (small lent) m i (h some-row) o in
       let row : i < n = omega (arith, low .in-table, lent .counted) in
-      let more = size-less maxTasks i m (m - 2 ^ i) (omega (arith, lent .held)) (less-row i m (low .in-set) .0) in
+      let taken = taken-at 1 table i m (m - 2 ^ i) (low .in-table) (less-row i m (low .in-set) .0) in
+      let is = sym (getD-take n rows i noRow row) in
+      let ranged = at-passes inRange table i (lent .table .in-range) (low .in-table) in
       let there = rec .closed m (a-set lent m l) low in
-      let rest = chain-of k (m - 2 ^ i) (omega (arith, more)) (omega arith) there (ap isSome (low .above-is)) in (
-        (omega (arith, lent .held), low .in-set, rest .0),
-        ap₂ (λ (ts : List ℕ) (t : ℕ). ts ++ (t ∷ [])) (rest .1 ∙ ap tasksIn (low .above-is)) (task-is i row)
-            ∙ sym (ap tasksIn (low .order-is) ∙ tasks-more (low .above) (rowAt table i)),
+      let rest = chain-of k (m - 2 ^ i) (omega (arith, taken-length taken)) (omega arith) there
+      (ap isSome (low .above-is)) in (
+        (omega (arith, row, lent .held), ap inRange is ∙ ranged, low .in-set, rest .0),
+        ap₂ (λ (ts : List ℕ) (r : Row). ts ++ (r .task ∷ [])) (rest .1 ∙ ap tasksIn (low .above-is)) is
+            ∙ sym (ap tasksIn (low .order-is) ∙ tasks-last (low .above) (rowAt table i)),
       )
 
+  -- of the whole table
   pub chain :
-      (m : ℕ) →
-      m < 2 ^ n →
-      Known stable table sets m →
-      isSome (orderAt stable table m) ≡ true →
-      Chained sets (size m) m × (chainTasks tasks sets (size m) m ≡ tasksIn (orderAt stable table m))
-  chain m = chain-of (size m) m refl
+      (all : ℕ) →
+      all ≡ 2 ^ n - 1 →
+      Known stable table sets all →
+      isSome (orderAt stable table all) ≡ true →
+      Chained rows sets n all × (chainTasks rows sets n all ≡ tasksIn (orderAt stable table all))
+  chain all e =
+      let whole : all ≡ 2 ^ length table - 1 = e ∙ ap (λ (k : ℕ). 2 ^ k - 1) (sym (lent .counted)) in
+      let full = ap (λ (m : ℕ). length (members m table)) whole ∙ ap length (all-members table) ∙ lent .counted in
+      chain-of n all full (omega (arith, pow-pos n))

@@ -17,6 +17,13 @@ use Rattle.orders.specs.Sets as S
 use Rattle.orders.specs.Sets.{hasBit, isSome, unknown, noOrder}
 use Rattle.orders.proofs.Scan.{at-empty}
 
+-- every byte says that its set isn't known
+pub fresh : (n k : ℕ) → 2 ^ n ≤ k → S.Fresh n (replicate k unknown)
+fresh n k h = record {
+  room = rw (length-replicate {A = ℕ} k unknown) h;
+  none-known = λ m l. getD-replicate {A = ℕ} k m unknown 0 (omega arith);
+}
+
 module _ (test : Row → List Row → List Row → Bool) (table : List Row) where
   abbrev orderAt : ℕ → Option (List Row)
   orderAt = S.orderAt test table
@@ -117,11 +124,9 @@ module _ (test : Row → List Row → List Row → Bool) (table : List Row) wher
       }
 
     -- a record that has no set
-    pub fresh : (n : ℕ) → 2 ^ length table ≤ n → S.Recorded test table (replicate n unknown)
-    fresh n h = record {
-      room = rw (length-replicate {A = ℕ} n unknown) h;
-      entries = λ k l. inl (getD-replicate {A = ℕ} n k unknown 0 (omega arith));
-      closed = λ k l low.
-          let e = getD-replicate {A = ℕ} n k unknown 0 (omega arith) in
-          absurd (omega (arith, low .in-table, e));
+    pub begun : (sets : List ℕ) → S.Fresh (length table) sets → S.Recorded test table sets
+    begun sets f = record {
+      room = f .room;
+      entries = λ k l. inl (f .none-known k l);
+      closed = λ k l low. absurd (omega (arith, low .in-table, f .none-known k l));
     }

@@ -14,7 +14,7 @@ use lib.Pow.{shr-shr, pow-pos}
 use Rattle.rows.specs.Rows.{rowAt}
 use Rattle.rows.specs.declared.Row.{Row}
 use Rattle.orders.specs.Orders.{Taken, here, later}
-use Rattle.orders.specs.Sets.{keep, withBit, members, others, sizeIn}
+use Rattle.orders.specs.Sets.{keep, withBit, members, others}
 
 pub halved : (m i : ℕ) → m / 2 ^ suc i ≡ m / 2 / 2 ^ i
 halved m i = let e : 1 + i ≡ suc i = omega arith in sym (rw e at (shr-shr m 1 i))
@@ -130,30 +130,3 @@ some-member (r ∷ rs) m h l =
       | yes e ↦ (length (members (m / 2) rs), rw (eq-eqb (m % 2) 1 e))
       | no n ↦ rw (ne-eqb (m % 2) 1 n) (some-member rs (m / 2) (λ q. h (omega arith)) (omega arith))
     ]
-
--- ---- how many rows a set has, of the first k
-pub size-few : (k m : ℕ) → sizeIn k m ≤ k
-unfolding sizeIn
-size-few zero m = omega arith
-size-few (suc k) m = let ih = size-few k (m / 2) in omega arith
-
-pub size-empty : (k : ℕ) → sizeIn k 0 ≡ 0
-unfolding sizeIn
-size-empty zero = refl
-size-empty (suc k) = omega (arith, size-empty k)
-
-pub size-zero : (k m : ℕ) → m < 2 ^ k → sizeIn k m ≡ 0 → m ≡ 0
-unfolding sizeIn
-size-zero zero m l e = omega arith
-size-zero (suc k) m l e = let ih = size-zero k (m / 2) (omega arith) (omega arith) in omega arith
-
--- one more than without its row i
-pub size-less : (k i m c : ℕ) → i < k → Differ 1 i m c → sizeIn k m ≡ suc (sizeIn k c)
-unfolding sizeIn
-size-less zero i m c l d = absurd (omega arith)
-size-less (suc k) zero m c l d =
-    let even : c % 2 ≡ 0 = omega (arith, d .1) in
-    omega (arith, d .0, ap (sizeIn k) (d .2))
-size-less (suc k) (suc i) m c l d =
-    let ih = size-less k i (m / 2) (c / 2) (omega arith) (d .1) in
-    omega (arith, d .0)

@@ -2,4 +2,5 @@
 pub mod Orders
 pub mod Stability
 pub mod Sets
+pub mod Numbers
 pub mod Search

@@ -5,10 +5,10 @@ use mathlib.Core.List.{List, [], _∷_, _++_}
 use mathlib.Core.Option.{Option, none, some}
 use Prim.Native.Nat.{ℕ, zero, suc, _-_, _/_, _%_, _^_, _≤_, _<_}
 use lib.ListN.{length, getD, take}
-use Rattle.rows.specs.Rows.{maxTasks, inRange, allRows, tasksOf, distinctRows}
+use Rattle.rows.specs.Rows.{maxTasks, inRange, allRows, rowAt, tasksOf, distinctRows}
 use Rattle.rows.specs.declared.Row.{Row}
 use Rattle.orders.specs.Orders.{Chosen}
-use Rattle.orders.specs.Sets.{size, isSome, fits, goes, LowestIs, Says, Known, Recorded}
+use Rattle.orders.specs.Sets.{isSome, fits, goes, LowestIs, Says, Known, Recorded}
 use Rattle.orders.specs.Stability.{stable, chosenOrder}
 use Rattle.orders.specs.declared.Answer.{Answer}
 
@@ -47,32 +47,26 @@ pub record MayGo (rows : List Row) (n m i : ℕ) (r : Bool) : Type 0 where
   pub passes : r ≡ true → fits stable (take n rows) m i ≡ true
   pub goes-not : r ≡ false → goes stable (take n rows) m i ≡ false
 
--- one task more
-pub record Pushed (tasks : List ℕ) (count task : ℕ) (tasks′ : List ℕ) (count′ : ℕ) : Type 0 where
-  pub long : length tasks′ ≡ maxTasks
-  pub one-more : count′ ≡ suc count
-  pub listed : take count′ tasks′ ≡ take count tasks ++ (task ∷ [])
-
--- taking out of set m the row that its byte is, out of the rest the row that the rest's byte is, and so on, leaves no
--- row after k steps
-abbrev pub Chained : List ℕ → ℕ → ℕ → Type 0
-Chained sets zero m = m ≡ 0
-Chained sets (suc k) m =
+-- taking out of set m the row that its byte is, a row in range, out of the rest the row that the rest's byte is, and so
+-- on, leaves no row after k steps
+abbrev pub Chained : List Row → List ℕ → ℕ → ℕ → Type 0
+Chained rows sets zero m = m ≡ 0
+Chained rows sets (suc k) m =
     let i = getD sets m 0 in
-    (i < maxTasks) × (m / 2 ^ i % 2 ≡ 1) × Chained sets k (m - 2 ^ i)
+    (i < maxTasks) × (inRange (rowAt rows i) ≡ true) × (m / 2 ^ i % 2 ≡ 1) × Chained rows sets k (m - 2 ^ i)
 
 -- the tasks of the rows taken out, the first lowest
-abbrev pub chainTasks : List ℕ → List ℕ → ℕ → ℕ → List ℕ
-chainTasks tasks sets zero m = []
-chainTasks tasks sets (suc k) m =
+abbrev pub chainTasks : List Row → List ℕ → ℕ → ℕ → List ℕ
+chainTasks rows sets zero m = []
+chainTasks rows sets (suc k) m =
     let i = getD sets m 0 in
-    chainTasks tasks sets k (m - 2 ^ i) ++ (getD tasks i 0 ∷ [])
+    chainTasks rows sets k (m - 2 ^ i) ++ (rowAt rows i .task ∷ [])
 
--- the front of the list is the tasks of set m, in the order that the record has
-pub record Listed (tasks sets : List ℕ) (m : ℕ) (listed : List ℕ) (count : ℕ) : Type 0 where
+-- the front of the list is the tasks of the n rows of set m, in the order that the record has
+pub record Listed (rows : List Row) (sets : List ℕ) (n m : ℕ) (listed : List ℕ) (count : ℕ) : Type 0 where
   pub long : length listed ≡ maxTasks
-  pub counted : count ≡ size m
-  pub front : take count listed ≡ chainTasks tasks sets (size m) m
+  pub counted : count ≡ n
+  pub front : take n listed ≡ chainTasks rows sets n m
 
 -- the answer is the order chosen, which is as `Chosen` says
 pub record Answered (table : List Row) (r : Answer) : Type 0 where

@@ -4,10 +4,10 @@ use mathlib.Core.Bool.{Bool, true, false, _&&_}
 use mathlib.Core.List.{List, [], _∷_, _++_}
 use mathlib.Core.Option.{Option, none, some}
 use mathlib.Core.Logic.{_⊎_}
-use Prim.Native.Nat.{ℕ, zero, suc, _+_, _-_, _/_, _%_, _^_, _≤_, _<_}
+use Prim.Native.Nat.{ℕ, _-_, _/_, _%_, _^_, _≤_, _<_}
 use lib.Dec.{eqb}
 use lib.ListN.{length, getD}
-use Rattle.rows.specs.Rows.{maxTasks, rowAt}
+use Rattle.rows.specs.Rows.{rowAt}
 use Rattle.rows.specs.declared.Row.{Row}
 use Rattle.orders.specs.Orders.{ByLowest, overSet, theOrder}
 
@@ -30,14 +30,6 @@ others m table = withBit 0 m table
 abbrev pub hasBit : ℕ → ℕ → Bool
 hasBit m i = eqb (m / 2 ^ i % 2) 1
 
--- how many rows set m has, of the first k and of all
-unfoldable pub sizeIn : ℕ → ℕ → ℕ
-sizeIn zero m = 0
-sizeIn (suc k) m = m % 2 + sizeIn k (m / 2)
-
-abbrev pub size : ℕ → ℕ
-size m = sizeIn maxTasks m
-
 abbrev pub isSome : Option (List Row) → Bool
 isSome none = false
 isSome (some os) = true
@@ -48,6 +40,11 @@ unknown = 254
 
 abbrev pub noOrder : ℕ
 noOrder = 255
+
+-- a record with room for the sets of n rows that has none of them yet
+pub record Fresh (n : ℕ) (sets : List ℕ) : Type 0 where
+  pub room : 2 ^ n ≤ length sets
+  pub none-known : (m : ℕ) → m < 2 ^ n → getD sets m 0 ≡ unknown
 
 module _ {A : Type 0} (known : ByLowest A) (test : Row → List Row → List Row → Bool) (table : List Row) where
   -- what is known of set m over the table's other rows

@@ -1,12 +1,20 @@
 // The order of a table's tasks by the rule, found from the whole set down with a byte for each set.
+
+// numbers.rt: rows as numbers, which the search is lent.
+mod numbers;
+
 ghost use mathlib.Core.Path.{_≡_};
-ghost use Prim.Native.Nat.{_+_, _*_, _/_, _%_, _^_, _≤_, _<_};
+ghost use Prim.Native.Nat.{_/_, _%_, _^_, _≤_, _<_};
 ghost use lib.ListN.{length, take};
-ghost use Rattle.rows.specs.Rows.{maxTasks, tasksOf};
-ghost use Rattle.orders.specs.Sets.{size, fits, Settled};
+ghost use Rattle.rows.specs.Rows.{maxTasks};
+ghost use Rattle.orders.specs.Sets.{fits, Fresh, Settled};
 ghost use Rattle.orders.specs.Stability.{stable};
+ghost use Rattle.orders.specs.Numbers.{rowsIn};
 ghost use Rattle.orders.specs.Search.{Lent, Searching, MayGo, Told};
-ghost use Rattle.orders.specs.Search.{Pushed, Chained, Listed, Table, Answered};
+ghost use Rattle.orders.specs.Search.{Chained, chainTasks, Listed, Table, Answered};
+use numbers::NUMBERS;
+use numbers::put_rows;
+use numbers::row_at;
 use responses::figures_under;
 use rows::MAX_TASKS;
 use rows::Order;
@@ -14,6 +22,11 @@ use rows::Row;
 
 // How many sets of tasks there are.
 const SETS: usize = 1 << MAX_TASKS;
+
+// Few tasks, and how many sets of them there are.
+const FEW_TASKS: usize = 6;
+
+const FEW_SETS: usize = 1 << FEW_TASKS;
 
 // A byte of the record of sets that is no row: the set isn't known yet, or has no order.
 const UNKNOWN: u8 = 254;
@@ -29,9 +42,9 @@ fn power(i: usize) -> usize
 }
 
 // Whether row i of set m is stable as its lowest row, under the rest of the set.
-fn stable_under(rows: [Row; MAX_TASKS], n: usize, m: usize, i: usize) -> bool
-    requires { ⌜ Lent rows n × (i < n) × (m / 2 ^ i % 2 ≡ 1) ⌝ }
-    ensures { λ r. ⌜ r ≡ fits stable (take n rows) m i ⌝ }
+fn stable_under(numbers: &[u64; NUMBERS], n: usize, m: usize, i: usize) -> bool
+    requires { ⌜ Lent (rowsIn (now numbers)) n × (i < n) × (m / 2 ^ i % 2 ≡ 1) ⌝ }
+    ensures { λ r. ⌜ r ≡ fits stable (take n (rowsIn (now (numbers .entry)))) m i ⌝ }
 {
     let mut periods = [0u64; MAX_TASKS];
     let mut worsts = [0u64; MAX_TASKS];
@@ -41,7 +54,7 @@ fn stable_under(rows: [Row; MAX_TASKS], n: usize, m: usize, i: usize) -> bool
     let mut j: usize = 0;
     // Every row is written, and the next overwrites one outside the set: no branch for the processor to mispredict.
     while j < n {
-        let row = rows[j];
+        let row = row_at(numbers, j);
         periods[count] = row.period as u64;
         worsts[count] = row.worst as u64;
         bests[count] = row.best as u64;
@@ -49,14 +62,15 @@ fn stable_under(rows: [Row; MAX_TASKS], n: usize, m: usize, i: usize) -> bool
         rest = rest / 2;
         j += 1;
     }
-    let figures = figures_under(rows[i], &periods, &worsts, &bests, count);
+    let row = row_at(numbers, i);
+    let figures = figures_under(row, &periods, &worsts, &bests, count);
     figures.stable
 }
 
 // Whether row i may go lowest in set m: it is in the set and stable there, and the rest isn't known to have no order.
-fn may_go(rows: [Row; MAX_TASKS], n: usize, m: usize, i: usize, sets: &[u8]) -> bool
-    requires { ⌜ Searching rows n m (now sets) × (i < n) ⌝ }
-    ensures { λ r. ⌜ MayGo rows n m i r ⌝ }
+fn may_go(numbers: &[u64; NUMBERS], n: usize, m: usize, i: usize, sets: &[u8]) -> bool
+    requires { ⌜ Searching (rowsIn (now numbers)) n m (now sets) × (i < n) ⌝ }
+    ensures { λ r. ⌜ MayGo (rowsIn (now (numbers .entry))) n m i r ⌝ }
 {
     if (m >> i) % 2 == 0 {
         return false;
@@ -64,18 +78,18 @@ fn may_go(rows: [Row; MAX_TASKS], n: usize, m: usize, i: usize, sets: &[u8]) -> 
     if sets[m - power(i)] == NO_ORDER {
         return false;
     }
-    stable_under(rows, n, m, i)
+    stable_under(numbers, n, m, i)
 }
 
 // The first row of the table that goes lowest in set m.
-fn lowest(rows: [Row; MAX_TASKS], n: usize, m: usize, sets: &mut [u8]) -> u8
-    requires { ⌜ Searching rows n m (now sets) × (1 ≤ m) ⌝ }
-    ensures { λ r. ⌜ Told rows n m (now (sets .exit)) r ⌝ }
+fn lowest(numbers: &[u64; NUMBERS], n: usize, m: usize, sets: &mut [u8]) -> u8
+    requires { ⌜ Searching (rowsIn (now numbers)) n m (now sets) × (1 ≤ m) ⌝ }
+    ensures { λ r. ⌜ Told (rowsIn (now (numbers .entry))) n m (now (sets .exit)) r ⌝ }
 {
     let mut i: usize = 0;
     while i < n {
-        if may_go(rows, n, m, i, sets) {
-            if settled(rows, n, m - power(i), sets) {
+        if may_go(numbers, n, m, i, sets) {
+            if settled(numbers, n, m - power(i), sets) {
                 return i as u8;
             }
         }
@@ -85,16 +99,16 @@ fn lowest(rows: [Row; MAX_TASKS], n: usize, m: usize, sets: &mut [u8]) -> u8
 }
 
 // Whether set m has an order; the record then has the set.
-fn settled(rows: [Row; MAX_TASKS], n: usize, m: usize, sets: &mut [u8]) -> bool
-    requires { ⌜ Searching rows n m (now sets) ⌝ }
-    ensures { λ r. ⌜ Settled stable (take n rows) m (now (sets .exit)) r ⌝ }
+fn settled(numbers: &[u64; NUMBERS], n: usize, m: usize, sets: &mut [u8]) -> bool
+    requires { ⌜ Searching (rowsIn (now numbers)) n m (now sets) ⌝ }
+    ensures { λ r. ⌜ Settled stable (take n (rowsIn (now (numbers .entry)))) m (now (sets .exit)) r ⌝ }
 {
     if m == 0 {
         return true;
     }
     let known = sets[m];
     if known == UNKNOWN {
-        let found = lowest(rows, n, m, sets);
+        let found = lowest(numbers, n, m, sets);
         sets[m] = found;
         return found != NO_ORDER;
     }
@@ -111,44 +125,29 @@ fn nothing() -> Order
     }
 }
 
-// The order with one task more, lowest.
-fn pushed(o: Order, task: u16) -> Order
-    requires { ⌜ (length (o .tasks) ≡ maxTasks) × (o .count < maxTasks) ⌝ }
-    ensures { λ r. ⌜ Pushed (o .tasks) (o .count) task (r .tasks) (r .count) ⌝ }
+// The n tasks of set m's order, read off the record into the front of tasks: those of the set without its lowest row,
+// then that row's.
+fn rebuild(numbers: &[u64; NUMBERS], n: usize, m: usize, sets: &[u8], tasks: &mut [u16])
+    requires { ⌜ (n ≤ length (now tasks)) × (m < length (now sets)) × Chained (rowsIn (now numbers)) (now sets) n m ⌝ }
+    ensures { λ _. ⌜ take n (now (tasks .exit)) ≡ chainTasks (rowsIn (now (numbers .entry))) (now (sets .entry)) n m ⌝ }
 {
-    let at = o.count;
-    let mut next = o;
-    next.tasks[at] = task;
-    next.count = at + 1;
-    next
-}
-
-// The tasks of set m's order, read off the record: those of the set without its lowest row, then that row's.
-fn rebuild(tasks: [u16; MAX_TASKS], m: usize, sets: &[u8]) -> Order
-    requires { ⌜ (m < length (now sets)) × Chained (now sets) (size m) m ⌝ }
-    ensures { λ r. ⌜ Listed tasks (now (sets .entry)) m (r .tasks) (r .count) ⌝ }
-{
-    if m == 0 {
-        return nothing();
+    if 0 < n {
+        let i = sets[m] as usize;
+        let above = n - 1;
+        rebuild(numbers, above, m - power(i), sets, tasks);
+        let row = row_at(numbers, i);
+        tasks[above] = row.task as u16;
     }
-    let i = sets[m] as usize;
-    let above = rebuild(tasks, m - power(i), sets);
-    pushed(above, tasks[i])
 }
 
-// The task numbers of the first n rows.
-fn task_numbers(rows: [Row; MAX_TASKS], n: usize) -> [u16; MAX_TASKS]
-    requires { ⌜ Lent rows n ⌝ }
-    ensures { λ r. ⌜ take n r ≡ tasksOf (take n rows) ⌝ }
+// The order of the n rows of set m, read off the record.
+fn read_off(numbers: &[u64; NUMBERS], n: usize, m: usize, sets: &[u8]) -> Order
+    requires { ⌜ (n ≤ maxTasks) × (m < length (now sets)) × Chained (rowsIn (now numbers)) (now sets) n m ⌝ }
+    ensures { λ r. ⌜ Listed (rowsIn (now (numbers .entry))) (now (sets .entry)) n m (r .tasks) (r .count) ⌝ }
 {
     let mut tasks = [0u16; MAX_TASKS];
-    let mut i: usize = 0;
-    while i < n {
-        let row = rows[i];
-        tasks[i] = row.task as u16;
-        i += 1;
-    }
-    tasks
+    rebuild(numbers, n, m, sets, &mut tasks);
+    Order { tasks, count: n }
 }
 
 // An order that is stable, if there is one.
@@ -157,15 +156,14 @@ pub struct Answer {
     pub order: Order,
 }
 
-// The order of n rows by the rule.
-fn order_in(rows: [Row; MAX_TASKS], n: usize) -> Answer
-    requires { ⌜ Lent rows n ⌝ }
-    ensures { λ r. ⌜ Answered (take n rows) r ⌝ }
+// The order of n rows by the rule, with a record of sets that has none yet.
+fn order_with(numbers: &[u64; NUMBERS], n: usize, sets: &mut [u8]) -> Answer
+    requires { ⌜ Lent (rowsIn (now numbers)) n × Fresh n (now sets) ⌝ }
+    ensures { λ r. ⌜ Answered (take n (rowsIn (now (numbers .entry)))) r ⌝ }
 {
-    let mut sets = [UNKNOWN; SETS];
     let all = power(n) - 1;
-    if settled(rows, n, all, &mut sets) {
-        let order = rebuild(task_numbers(rows, n), all, &sets);
+    if settled(numbers, n, all, sets) {
+        let order = read_off(numbers, n, all, sets);
         return Answer { found: true, order };
     }
     Answer {
@@ -174,18 +172,17 @@ fn order_in(rows: [Row; MAX_TASKS], n: usize) -> Answer
     }
 }
 
-// The rows by value, each stored in its place.
-fn gathered(rows: &[Row]) -> [Row; MAX_TASKS]
-    requires { ⌜ length (now rows) ≤ maxTasks ⌝ }
-    ensures { λ r. ⌜ take (length (now (rows .entry))) r ≡ now (rows .entry) ⌝ }
+// The order of n rows by the rule. Few rows have few sets, and a short record is soon filled.
+fn order_in(numbers: &[u64; NUMBERS], n: usize) -> Answer
+    requires { ⌜ Lent (rowsIn (now numbers)) n ⌝ }
+    ensures { λ r. ⌜ Answered (take n (rowsIn (now (numbers .entry)))) r ⌝ }
 {
-    let mut held = [rows::no_row(); MAX_TASKS];
-    let mut i = 0;
-    while i < rows.len() {
-        held[i] = rows[i];
-        i += 1;
+    if n <= FEW_TASKS {
+        let mut few = [UNKNOWN; FEW_SETS];
+        return order_with(numbers, n, &mut few);
     }
-    held
+    let mut sets = [UNKNOWN; SETS];
+    order_with(numbers, n, &mut sets)
 }
 
 // The order of a table's rows by the rule.
@@ -194,10 +191,12 @@ pub fn order_of(rows: &[Row]) -> Answer
     ensures { λ r. ⌜ Answered (now (rows .entry)) r ⌝ }
 {
     let n = rows.len();
-    order_in(gathered(rows), n)
+    let mut numbers = [0u64; NUMBERS];
+    put_rows(rows, &mut numbers);
+    order_in(&numbers, n)
 }
 
-// The order of the first n rows of an array, which are lent as a slice.
+// The order of the first n rows of an array, which are lent as a table.
 pub fn order_of_first(rows: [Row; MAX_TASKS], n: usize) -> Answer
     requires { ⌜ Lent rows n ⌝ }
     ensures { λ r. ⌜ Answered (take n rows) r ⌝ }

@@ -13,6 +13,7 @@ use borrow.Fn.PlainCycle.{Measures, is, falls, and}
 use Rattle.orders.specs.Orders.{theOrder}
 use Rattle.orders.specs.Sets.{isSome, orderAt, goes, Known, Recorded}
 use Rattle.orders.specs.Stability.{stable}
+use Rattle.orders.specs.Numbers.{rowsIn}
 use Rattle.orders.proofs.Searched.{small, a-set, a-row}
 use Rattle.orders.proofs.Stable.{by-sets}
 use Rattle.orders.proofs.Sets.{bit-le}
@@ -30,34 +31,34 @@ use Rattle.orders.proofs.+lowest+settled.{statement}
 use Rattle.orders.proofs.+lowest+settled.Tie.{close}
 
 -- a call for a smaller set comes before every call for this one
-abbrev μ-lowest : Measures 1 lowest-kinds.ps ℕ
+abbrev μ-lowest : Measures 2 lowest-kinds.ps ℕ
 μ-lowest κs a = 2 * a .1 .1 .0
 
-abbrev μ-settled : Measures 1 settled-kinds.ps ℕ
+abbrev μ-settled : Measures 2 settled-kinds.ps ℕ
 μ-settled κs a = 2 * a .1 .1 .0 + 1
 
 abbrev lowest-Inv-loop : lowest-lts.InvT-loop
-lowest-Inv-loop rows n m sets₀ i₀ sets i =
+lowest-Inv-loop numbers n m sets₀ i₀ sets i =
     (i ≤ n)
-    × (orderAt stable (take n rows) m ≡ scan theOrder stable by-sets (take n rows) m i)
+    × (orderAt stable (take n (rowsIn numbers)) m ≡ scan theOrder stable by-sets (take n (rowsIn numbers)) m i)
     × (length sets ≡ length sets₀)
-    × Recorded stable (take n rows) sets
+    × Recorded stable (take n (rowsIn numbers)) sets
 
 abbrev lowest-μ-loop : lowest-lts.MeasureT-loop
-lowest-μ-loop rows n m sets₀ i₀ sets i = n - i
+lowest-μ-loop numbers n m sets₀ i₀ sets i = n - i
 
 module _ (t : ℕ) where
-  abbrev lowest-at : In 1 lowest-kinds.ps
-  lowest-at = and 1 lowest-kinds.ps (is 1 lowest-kinds.ps μ-lowest t) lowest.Pre
+  abbrev lowest-at : In 2 lowest-kinds.ps
+  lowest-at = and 2 lowest-kinds.ps (is 2 lowest-kinds.ps μ-lowest t) lowest.Pre
 
-  abbrev lowest-below : In 1 lowest-kinds.ps
-  lowest-below = and 1 lowest-kinds.ps (falls 1 lowest-kinds.ps _<_ μ-lowest t) lowest.Pre
+  abbrev lowest-below : In 2 lowest-kinds.ps
+  lowest-below = and 2 lowest-kinds.ps (falls 2 lowest-kinds.ps _<_ μ-lowest t) lowest.Pre
 
-  abbrev settled-at : In 1 settled-kinds.ps
-  settled-at = and 1 settled-kinds.ps (is 1 settled-kinds.ps μ-settled t) settled.Pre
+  abbrev settled-at : In 2 settled-kinds.ps
+  settled-at = and 2 settled-kinds.ps (is 2 settled-kinds.ps μ-settled t) settled.Pre
 
-  abbrev settled-below : In 1 settled-kinds.ps
-  settled-below = and 1 settled-kinds.ps (falls 1 settled-kinds.ps _<_ μ-settled t) settled.Pre
+  abbrev settled-below : In 2 settled-kinds.ps
+  settled-below = and 2 settled-kinds.ps (falls 2 settled-kinds.ps _<_ μ-settled t) settled.Pre
 
   abbrev lowest-calls : lowest-lts.Claims
   lowest-calls = (
@@ -79,7 +80,7 @@ module _ (t : ℕ) where
       let a = s .args in
       let p = s .pre .1 in (
         omega arith,
-        scan-start theOrder stable by-sets (take (a .n) (a .rows)) (a .m) (λ e. omega (arith, p .1))
+        scan-start theOrder stable by-sets (take (a .n) (rowsIn (a .numbers .now))) (a .m) (λ e. omega (arith, p .1))
             (a-set (p .0 .lent) (a .m) (p .0 .set)),
         refl,
         p .0 .recorded,
@@ -136,7 +137,7 @@ module _ (t : ℕ) where
       let s = turn .before .before .before in
       let a = s .args in
       let x = turn .before .loop in
-      let table = take (a .n) (a .rows) in
+      let table = take (a .n) (rowsIn (a .numbers .now)) in
       let u = c .before .before .before .settled .ensures in
       let may = c .before .before .before .before .before .before .before .may-go .ensures in
       let yes = c .before .before .before .before .before .before .if1 .taken in
@@ -166,7 +167,7 @@ module _ (t : ℕ) where
       let s = c .before .before .before .before .before .before in
       let a = s .args in
       let x = c .before .before .before .before .loop in
-      let table = take (a .n) (a .rows) in
+      let table = take (a .n) (rowsIn (a .numbers .now)) in
       let test = c .before .before .before .loop-test .taken in
       let may = c .before .may-go .ensures in
       let row = a-row (s .pre .1 .0 .lent) (x .i) test in
@@ -201,7 +202,7 @@ module _ (t : ℕ) where
   lowest-returns-2 c =
       let s = c .before .before .before in
       let a = s .args in
-      let table = take (a .n) (a .rows) in
+      let table = take (a .n) (rowsIn (a .numbers .now)) in
       let x = c .before .loop in
       let e : x .i ≡ length table = omega (arith, x .inv .0, c .loop-test .left, s .pre .1 .0 .lent .counted) in
       record {
@@ -219,7 +220,7 @@ module _ (t : ℕ) where
       let s = c .before .before in
       let p = s .pre .1 in
       rw (c .if1 .taken)
-      (settled-empty stable (take (s .args .n) (s .args .rows)) (small (p .lent)) (s .args .sets .now) (p .recorded))
+      (settled-empty stable (take (s .args .n) (rowsIn (s .args .numbers .now))) (small (p .lent)) (s .args .sets .now) (p .recorded))
 
   settled-slice-read-known : settled-lts.Need-slice-read-known settled-calls settled-at settled.Post
   settled-slice-read-known c =
@@ -250,7 +251,7 @@ module _ (t : ℕ) where
       let a = s .args in
       let p = s .pre .1 in
       let w = c .before .before .lowest in
-      settled-new stable (take (a .n) (a .rows)) (small (p .lent)) (w .last .1 .1 .1 .0) (w .ensures .recorded) (a .m)
+      settled-new stable (take (a .n) (rowsIn (a .numbers .now))) (small (p .lent)) (w .last .1 .1 .1 .0) (w .ensures .recorded) (a .m)
       (w .result) (a-set (p .lent) (a .m) (p .set)) (w .ensures .says) (w .ensures .rest)
 
   settled-returns-3 : settled-lts.Need-returns-3 settled-calls settled-at settled.Post
@@ -258,7 +259,7 @@ module _ (t : ℕ) where
       let s = c .before .before .before .before in
       let a = s .args in
       let p = s .pre .1 in
-      settled-old stable (take (a .n) (a .rows)) (small (p .lent)) (a .sets .now) (p .recorded) (a .m)
+      settled-old stable (take (a .n) (rowsIn (a .numbers .now))) (small (p .lent)) (a .sets .now) (p .recorded) (a .m)
       (a-set (p .lent) (a .m) (p .set)) (c .if2 .left)
 
 pub +lowest+settled-spec : {M : Type 1} → statement M

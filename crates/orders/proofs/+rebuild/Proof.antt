@@ -1,143 +1,157 @@
--- The order rebuilt: each set has one row more than the set without its lowest row, which is the measure.
-use mathlib.Core.Path.{sym, ap, subst}
-use Prim.Native.Nat.{ℕ, _-_, _^_, _<_}
+-- The order rebuilt: the tasks of the set without its lowest row, then that row's. The measure is the number of rows.
+use mathlib.Core.Path.{_≡_, sym, ap, subst, _∙_}
+use mathlib.Core.Bool.{true}
+use Prim.Native.Nat.{ℕ, _-_, _/_, _%_, _^_, _<_}
 use native.Mathlib.Omega.{arith}
-use lib.ListN.{getD}
+use lib.ListN.{getD, take}
+use borrow.Author.Needs.{needs}
 use borrow.Fn.Kinds.{In}
 use borrow.Fn.PlainCycle.{Measures, is, falls, and}
-use Rattle.rows.specs.Rows.{maxTasks}
-use Rattle.orders.specs.Sets.{size}
-use Rattle.orders.specs.Search.{Chained, Listed}
-use Rattle.orders.proofs.Sets.{bit-le, size-few}
-use Rattle.orders.proofs.Listed.{Step, step, listed-empty, listed-lowest}
+use Rattle.rows.specs.Rows.{maxTasks, inRange, rowAt}
+use Rattle.rows.specs.declared.Row.{Row}
+use Rattle.rows.proofs.Limits.{limits}
+use Rattle.orders.specs.Numbers.{rowIn, rowsIn}
+use Rattle.orders.specs.Search.{Chained, chainTasks}
+use Rattle.orders.proofs.Sets.{bit-le}
+use Rattle.orders.proofs.Numbered.{row-there}
+use Rattle.orders.proofs.Listed.{row-of, chain-lowest}
 use Rattle.orders.proofs.rebuild.Reads as rebuild
 use Rattle.orders.proofs.rebuild.Kinds as rebuild-kinds
 use Rattle.orders.proofs.+rebuild.Lts-rebuild as rebuild-lts
-use Rattle.orders.proofs.nothing.Reads as nothing-reads
 use Rattle.orders.proofs.power.Reads as power-reads
-use Rattle.orders.proofs.pushed.Reads as pushed-reads
+use Rattle.orders.proofs.numbers.row_at.Reads as row-at-reads
 use Rattle.orders.proofs.+rebuild.{statement}
 use Rattle.orders.proofs.+rebuild.Tie.{close}
 
--- the number of tasks in the set
-abbrev μ-rebuild : Measures 1 rebuild-kinds.ps ℕ
-μ-rebuild κs a = size (a .1 .0)
+-- the number of rows in the set
+abbrev μ-rebuild : Measures 3 rebuild-kinds.ps ℕ
+μ-rebuild κs a = a .1 .0
 
 module _ (t : ℕ) where
-  abbrev rebuild-at : In 1 rebuild-kinds.ps
-  rebuild-at = and 1 rebuild-kinds.ps (is 1 rebuild-kinds.ps μ-rebuild t) rebuild.Pre
+  abbrev rebuild-at : In 3 rebuild-kinds.ps
+  rebuild-at = and 3 rebuild-kinds.ps (is 3 rebuild-kinds.ps μ-rebuild t) rebuild.Pre
 
-  abbrev rebuild-below : In 1 rebuild-kinds.ps
-  rebuild-below = and 1 rebuild-kinds.ps (falls 1 rebuild-kinds.ps _<_ μ-rebuild t) rebuild.Pre
+  abbrev rebuild-below : In 3 rebuild-kinds.ps
+  rebuild-below = and 3 rebuild-kinds.ps (falls 3 rebuild-kinds.ps _<_ μ-rebuild t) rebuild.Pre
 
   abbrev calls : rebuild-lts.Claims
   calls = (
-    nothing-reads.Asked,
-    nothing-reads.Learnt,
     power-reads.Asked,
     power-reads.Learnt,
     rebuild-below,
     rebuild.Post,
-    pushed-reads.Asked,
-    pushed-reads.Learnt,
+    row-at-reads.Asked,
+    row-at-reads.Learnt,
   )
 
-  stepped : (c : rebuild-lts.Else1 calls rebuild-at rebuild.Post)
-      → Step (c .before .before .args .sets .now) (c .before .before .args .m)
-  stepped c =
-      let s = c .before .before in
-      step (s .args .sets .now) (s .args .m) (c .if1 .left) (s .pre .1 .1)
+  -- the lowest row of the set, and the rest
+  module _ (c : rebuild-lts.After-shared-slice-known2 calls rebuild-at rebuild.Post) where
+    abbrev start : rebuild-lts.Start calls rebuild-at rebuild.Post
+    start = c .before .before .before .before
 
-  nothing-requires : rebuild-lts.Need-nothing-requires calls rebuild-at rebuild.Post
-  nothing-requires c κs = tt
+    abbrev i : ℕ
+    i = getD (start .args .sets .now) (start .args .m) 0
 
-  returns : rebuild-lts.Need-returns calls rebuild-at rebuild.Post
-  returns c =
-      let a = c .before .before .before .args in
-      let o = c .nothing in
-      rw (c .before .if1 .taken)
-      (listed-empty (a .t1) (a .sets .now) (o .result .tasks) (o .result .count) (o .ensures .0) (o .ensures .1))
+    row :
+        let a = start .args in
+        let rows = rowsIn (a .numbers .now) in
+        (i < maxTasks)
+        × (inRange (rowAt rows i) ≡ true)
+        × (a .m / 2 ^ i % 2 ≡ 1)
+        × Chained rows (a .sets .now) (a .n - 1) (a .m - 2 ^ i)
+    row =
+        let a = start .args in
+        row-of (rowsIn (a .numbers .now)) (a .sets .now) (a .m) (a .n) (c .before .if1 .taken) (start .pre .1 .2)
+
+    ranged : inRange (rowIn (start .args .numbers .now) i) ≡ true
+    ranged = ap inRange (row-there (start .args .numbers .now) i (row .0)) ∙ row .1
 
   shared-slice-read-i : rebuild-lts.Need-shared-slice-read-i calls rebuild-at rebuild.Post
-  shared-slice-read-i c = c .before .before .before .pre .1 .0
+  shared-slice-read-i c = start c .pre .1 .1
 
   cast-i : rebuild-lts.Need-cast-i calls rebuild-at rebuild.Post
-  cast-i c = record { fits = omega (arith, stepped (c .before) .row) }
+  cast-i c = record { fits = omega (arith, row c .0) }
+
+  sub-above : rebuild-lts.Need-sub-above calls rebuild-at rebuild.Post
+  sub-above c = search needs
 
   power-requires : rebuild-lts.Need-power-requires calls rebuild-at rebuild.Post
-  power-requires c κs = omega (arith, stepped (c .before) .row)
+  power-requires c κs = omega (arith, row c .0)
 
   sub-rebuild : rebuild-lts.Need-sub-rebuild calls rebuild-at rebuild.Post
   sub-rebuild c =
-      let a = c .before .before .before .before .args in
-      let low = bit-le (a .m) (getD (a .sets .now) (a .m) 0) (stepped (c .before .before) .in-set) in
-      omega (arith, c .power .ensures)
+      let read = c .before in
+      omega (arith, c .power .ensures, bit-le (start read .args .m) (i read) (row read .2))
 
   rebuild-requires : rebuild-lts.Need-rebuild-requires calls rebuild-at rebuild.Post
   rebuild-requires c κs =
-      let s = c .before .before .before .before in
+      let read = c .before .before in
+      let s = start read in
       let a = s .args in
-      let p = s .pre in
-      let w = stepped (c .before .before) in
-      let e = c .power .ensures in
-      let fewer = ap (λ (k : ℕ). size (a .m - k)) e in (
-        omega (arith, fewer, w .one-more, p .0),
+      let p = s .pre in (
+        omega (arith, p .0, read .before .if1 .taken),
         (
           omega (arith, p .1 .0),
-          subst (λ (k : ℕ). Chained (a .sets .now) (size (a .m - k)) (a .m - k)) (sym e) (w .chained),
+          omega (arith, p .1 .1),
+          subst (λ (k : ℕ). Chained (rowsIn (a .numbers .now)) (a .sets .now) (a .n - 1) (a .m - k))
+              (sym (c .before .power .ensures)) (row read .3),
         ),
       )
 
-  -- the tasks of the rest
-  above :
-      (c : rebuild-lts.After-rebuild calls rebuild-at rebuild.Post) →
-      let a = c .before .before .before .before .before .args in
-      let rest = a .m - 2 ^ getD (a .sets .now) (a .m) 0 in
-      Listed (a .t1) (a .sets .now) rest (c .rebuild .result .tasks) (c .rebuild .result .count)
-  above c =
-      let a = c .before .before .before .before .before .args in
-      let o = c .rebuild in
-      subst (λ (k : ℕ). Listed (a .t1) (a .sets .now) (a .m - k) (o .result .tasks) (o .result .count))
-      (c .before .power .ensures) (o .ensures)
+  row-at-requires : rebuild-lts.Need-row-at-requires calls rebuild-at rebuild.Post
+  row-at-requires c κs =
+      let read = c .before .before .before .before .before in
+      (row read .0, ranged read)
 
-  -- the row is one of the array's, and the list has room for its task
-  room :
-      (c : rebuild-lts.After-rebuild calls rebuild-at rebuild.Post) →
-      let a = c .before .before .before .before .before .args in
-      (getD (a .sets .now) (a .m) 0 < maxTasks) × (c .rebuild .result .count < maxTasks)
-  room c =
-      let w = stepped (c .before .before .before) in
-      let few = size-few maxTasks (c .before .before .before .before .before .args .m) in
-      (w .row, omega (arith, above c .counted, w .one-more))
+  cast-tasks : rebuild-lts.Need-cast-tasks calls rebuild-at rebuild.Post
+  cast-tasks c =
+      let read = c .before .before .before .before .before .before .before in
+      let kept = limits (rowIn (start read .args .numbers .now) (i read)) (ranged read) in
+      let is = ap (λ (r : Row). r .task) (c .before .row-at .ensures) in
+      record { fits = omega (arith, kept .task .le-high, is) }
 
-  mul-pushed : rebuild-lts.Need-mul-pushed calls rebuild-at rebuild.Post
-  mul-pushed c = record { fits = omega (arith, room c) }
+  mul-tasks : rebuild-lts.Need-mul-tasks calls rebuild-at rebuild.Post
+  mul-tasks c = search needs
 
-  array-read-pushed : rebuild-lts.Need-array-read-pushed calls rebuild-at rebuild.Post
-  array-read-pushed c = omega (arith, room c)
+  slice-write-tasks : rebuild-lts.Need-slice-write-tasks calls rebuild-at rebuild.Post
+  slice-write-tasks c = search needs
 
-  pushed-requires : rebuild-lts.Need-pushed-requires calls rebuild-at rebuild.Post
-  pushed-requires c κs = (above c .long, room c .1)
+  same-length : rebuild-lts.Need-same-length calls rebuild-at rebuild.Post
+  same-length c = search needs
+
+  returns : rebuild-lts.Need-returns calls rebuild-at rebuild.Post
+  returns c =
+      let read = c .before .before .before .before .before .before .before in
+      let s = start read in
+      let a = s .args in
+      let rows = rowsIn (a .numbers .now) in
+      let o = c .before .before .before .before .rebuild in
+      let ts = o .last .1 .1 .1 .1 .0 in
+      let k = a .n - 1 in
+      let rest = subst (λ (p : ℕ). take k ts ≡ chainTasks rows (a .sets .now) k (a .m - p))
+      (c .before .before .before .before .before .before .power .ensures) (o .ensures) in
+      chain-lowest rows (a .sets .now) (a .m) (a .n) ts (c .before .row-at .result) (read .before .if1 .taken)
+      (omega (arith, s .pre .1 .0, o .kept .1 .1 .1 .1 .0))
+      (c .before .row-at .ensures ∙ row-there (a .numbers .now) (i read) (row read .0)) rest
 
   returns-2 : rebuild-lts.Need-returns-2 calls rebuild-at rebuild.Post
   returns-2 c =
-      let a = c .before .before .before .before .before .before .args in
-      let o = c .before .rebuild .result in
-      let r = c .pushed .result in
-      listed-lowest (a .sets .now) (a .m) (a .t1) (o .tasks) (o .count) (r .tasks) (r .count)
-      (stepped (c .before .before .before .before)) (above (c .before)) (c .pushed .ensures)
+      let e : c .before .before .before .args .n ≡ 0 = omega (arith, c .if1 .left) in
+      rw e
 
 pub +rebuild-spec : {M : Type 1} → statement M
 +rebuild-spec =
     close μ-rebuild λ t. rebuild-lts.spec (calls t) (rebuild-at t) rebuild.Post
-    (nothing-requires t)
-    (returns t)
     (shared-slice-read-i t)
     (cast-i t)
+    (sub-above t)
     (power-requires t)
     (sub-rebuild t)
     (rebuild-requires t)
-    (mul-pushed t)
-    (array-read-pushed t)
-    (pushed-requires t)
+    (row-at-requires t)
+    (cast-tasks t)
+    (mul-tasks t)
+    (slice-write-tasks t)
+    (same-length t)
+    (returns t)
     (returns-2 t)

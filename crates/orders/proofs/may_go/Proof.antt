@@ -10,6 +10,7 @@ use Rattle.basics.proofs.Tests.{never}
 use Rattle.rows.specs.declared.Row.{Row}
 use Rattle.orders.specs.Sets.{goes}
 use Rattle.orders.specs.Stability.{stable}
+use Rattle.orders.specs.Numbers.{rowsIn}
 use Rattle.orders.specs.Search.{MayGo}
 use Rattle.orders.proofs.Sets.{bit-le}
 use Rattle.orders.proofs.Record.{goes-out, goes-unfit, goes-none, known-none}
@@ -17,10 +18,6 @@ use Rattle.orders.proofs.Searched.{small, a-set}
 use borrow.Author.Needs.{needs}
 use Rattle.orders.proofs.may_go.Statement.{statement}
 use Rattle.orders.proofs.may_go.Tie as tie
-use Rattle.orders.proofs.may_go.Reads as reads
-use Rattle.orders.proofs.may_go.Lts as lts
-use Rattle.orders.proofs.power.Reads as power-reads
-use Rattle.orders.proofs.stable_under.Reads as stable-under-reads
 
 -- a row that does not go
 stays-out : (rows : List Row) (n m i : ℕ) → goes stable (take n rows) m i ≡ false → MayGo rows n m i false
@@ -37,7 +34,7 @@ returns : tie.Need-returns
 returns c =
     let a = c .before .before .args in
     let out : a .m / 2 ^ a .i % 2 ≡ 1 → ⊥ = λ e. omega (arith, c .if1 .taken) in
-    stays-out (a .rows) (a .n) (a .m) (a .i) (sym (goes-out stable (take (a .n) (a .rows)) (a .m) (a .i) out))
+    stays-out (rowsIn (a .numbers .now)) (a .n) (a .m) (a .i) (sym (goes-out stable (take (a .n) (rowsIn (a .numbers .now))) (a .m) (a .i) out))
 
 power-requires : tie.Need-power-requires
 power-requires c κs = search needs
@@ -57,11 +54,11 @@ returns-2 c =
     let s = c .before .before .before .before .before in
     let a = s .args in
     let p = s .pre .0 in
-    let table = take (a .n) (a .rows) in
+    let table = take (a .n) (rowsIn (a .numbers .now)) in
     let rest : a .m - 2 ^ a .i < 2 ^ a .n = omega (arith, p .set) in
     let bit = c .before .before .power .ensures in
     let byte = ap (λ (k : ℕ). getD (a .sets .now) (a .m - k) 0) (sym bit) ∙ c .if2 .taken in
-    stays-out (a .rows) (a .n) (a .m) (a .i)
+    stays-out (rowsIn (a .numbers .now)) (a .n) (a .m) (a .i)
     (sym (goes-none stable table (a .m) (a .i)
     (known-none stable table (small (p .lent)) (a .sets .now) (p .recorded) (a .m - 2 ^ a .i)
     (a-set (p .lent) (a .m - 2 ^ a .i) rest) byte)))
@@ -73,7 +70,7 @@ returns-3 : tie.Need-returns-3
 returns-3 c =
     let s = c .before .before .before .before .before .before in
     let a = s .args in
-    let table = take (a .n) (a .rows) in
+    let table = take (a .n) (rowsIn (a .numbers .now)) in
     let is = c .stable-under .ensures in
     record {
       in-set = λ h. is-in (a .m) (a .i) (c .before .before .before .before .if1 .left);

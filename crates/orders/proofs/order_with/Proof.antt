@@ -1,0 +1,153 @@
+-- The whole table is the set of all bits: the record, begun empty, settles it, and the order is rebuilt from it.
+use mathlib.Core.Path.{_≡_, refl, ap, sym, _∙_, subst}
+use mathlib.Core.Bool.{Bool, true, false}
+use mathlib.Core.List.{List, []}
+use mathlib.Core.Option.{Option, none, some}
+use Prim.Native.Nat.{ℕ, _-_, _^_, _≤_, _<_}
+use native.Mathlib.Omega.{arith}
+use lib.ListN.{length, take}
+use lib.Seq.{length-take-le}
+use lib.Pow.{pow-pos}
+use borrow.Author.Needs.{needs}
+use Rattle.rows.specs.declared.Row.{Row}
+use Rattle.rows.specs.declared.Order.{Order}
+use Rattle.orders.specs.Orders.{theOrder, orderOf}
+use Rattle.orders.specs.Sets.{isSome, orderAt, Fresh, Settled}
+use Rattle.orders.specs.Stability.{stable}
+use Rattle.orders.specs.Numbers.{rowsIn}
+use Rattle.orders.specs.Search.{tasksIn, Lent, Chained, chainTasks, Listed, Answered}
+use Rattle.orders.proofs.Searched.{small, a-set}
+use Rattle.orders.proofs.Record.{begun}
+use Rattle.orders.proofs.Listed.{chain}
+use Rattle.orders.proofs.Scan.{at-whole}
+use Rattle.orders.proofs.Stable.{chosen}
+use Rattle.orders.proofs.order_with.Statement.{statement}
+use Rattle.orders.proofs.order_with.Tie as tie
+
+no-tasks : (o : Option (List Row)) → false ≡ isSome o → [] ≡ tasksIn o
+no-tasks none e = refl
+no-tasks (some os) e = let z : _≡_ {A = ℕ} 0 1 = cc in absurd (omega arith)
+
+-- the whole set and its record
+module _ (rows : List Row) (n : ℕ) (lent : Lent rows n) (all : ℕ) (e : all ≡ 2 ^ n - 1) where
+  abbrev table : List Row
+  table = take n rows
+
+  -- what is said of the whole set is said of the table
+  whole : orderAt stable table all ≡ orderOf stable table
+  whole =
+      ap (orderAt stable table) (e ∙ ap (λ (k : ℕ). 2 ^ k - 1) (sym (lent .counted)))
+      ∙ at-whole theOrder stable table
+
+  in-table : all < 2 ^ n
+  in-table = omega (arith, pow-pos n)
+
+  module _ (sets : List ℕ) (found : Bool) (s : Settled stable table all sets found) where
+    in-record : all < length sets
+    in-record = omega (arith, s .recorded .room, a-set lent all in-table)
+
+    -- the tasks along the chain of the whole set, which has an order
+    chained :
+        found ≡ true → Chained rows sets n all × (chainTasks rows sets n all ≡ tasksIn (orderAt stable table all))
+    chained h = chain rows n lent sets (s .recorded) all e (s .there) (sym (s .found-is) ∙ h)
+
+    answered :
+        (o : Order) →
+        found ≡ true →
+        Listed rows sets n all (o .tasks) (o .count) →
+        Answered table (record { found = true; order = o })
+    answered o h l =
+        let tasks = ap (λ (k : ℕ). take k (o .tasks)) (l .counted)
+        ∙ l .front ∙ chained h .1 ∙ ap tasksIn whole in
+        let fits : o .count ≤ length (o .tasks) = omega (arith, l .counted, l .long, lent .held) in
+        record {
+          found-is = sym h ∙ s .found-is ∙ ap isSome whole;
+          tasks-are = tasks;
+          count-is = sym (length-take-le (o .count) (o .tasks) fits) ∙ ap length tasks;
+          chosen = chosen table (lent .table .distinct);
+        }
+
+    answered-none : (o : Order) → found ≡ false → o .count ≡ 0 → Answered table (record { found = false; order = o })
+    answered-none o h z =
+        let missing = sym h ∙ s .found-is ∙ ap isSome whole in
+        let tasks = no-tasks (orderOf stable table) missing in
+        record {
+          found-is = missing;
+          tasks-are = ap (λ (k : ℕ). take k (o .tasks)) z ∙ tasks;
+          count-is = z ∙ ap length tasks;
+          chosen = chosen table (lent .table .distinct);
+        }
+
+power-requires : tie.Need-power-requires
+power-requires c κs = search needs
+
+sub-all : tie.Need-sub-all
+sub-all c = omega (arith, c .power .ensures, pow-pos (c .before .before .args .n))
+
+-- the set of all bits
+all-is : (c : tie.After-power) → c .power .result - 1 ≡ 2 ^ c .before .before .args .n - 1
+all-is c = ap (λ (k : ℕ). k - 1) (c .power .ensures)
+
+settled-requires : tie.Need-settled-requires
+settled-requires c κs =
+    let s = c .before .before .before in
+    let a = s .args in
+    let l = s .pre .0 in
+    record {
+      lent = l;
+      set = in-table (rowsIn (a .numbers .now)) (a .n) l _ (all-is (c .before));
+      recorded = begun stable (take (a .n) (rowsIn (a .numbers .now))) (small l) (a .sets .now)
+          (subst (λ (k : ℕ). Fresh k (a .sets .now)) (sym (l .counted)) (s .pre .1));
+    }
+
+read-off-requires : tie.Need-read-off-requires
+read-off-requires c κs =
+    let d = c .before .before .before .before in
+    let s = d .before .before .before .before in
+    let a = s .args in
+    let l = s .pre .0 in
+    let e = all-is (d .before .before) in
+    let w = d .settled in (
+      l .held,
+      in-record (rowsIn (a .numbers .now)) (a .n) l _ e _ (w .result) (w .ensures),
+      chained (rowsIn (a .numbers .now)) (a .n) l _ e _ (w .result) (w .ensures) (c .before .if1 .taken) .0,
+    )
+
+same-length : tie.Need-same-length
+same-length c = search needs
+
+returns : tie.Need-returns
+returns c =
+    let d = c .before .before .before .before .before in
+    let s = d .before .before .before .before in
+    let a = s .args in
+    answered (rowsIn (a .numbers .now)) (a .n) (s .pre .0) _ (all-is (d .before .before)) _ (d .settled .result)
+    (d .settled .ensures) (c .read-off .result) (c .before .before .if1 .taken) (c .read-off .ensures)
+
+nothing-requires : tie.Need-nothing-requires
+nothing-requires c κs = search needs
+
+same-length-2 : tie.Need-same-length-2
+same-length-2 c = search needs
+
+returns-2 : tie.Need-returns-2
+returns-2 c =
+    let d = c .before .before .before .before in
+    let s = d .before .before .before .before in
+    let a = s .args in
+    answered-none (rowsIn (a .numbers .now)) (a .n) (s .pre .0) _ (all-is (d .before .before)) _ (d .settled .result)
+    (d .settled .ensures) (c .nothing .result) (c .before .if1 .left) (c .nothing .ensures .1)
+
+pub order-with-spec : {M : Type 1} → statement M
+order-with-spec =
+    tie.close
+    (tie.spec
+    power-requires
+    sub-all
+    settled-requires
+    read-off-requires
+    same-length
+    returns
+    nothing-requires
+    same-length-2
+    returns-2)
