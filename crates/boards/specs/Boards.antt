@@ -1,7 +1,7 @@
 -- A board that runs an order, tick by tick: preemptive, with fixed priorities. The order's rows stand highest rank
 -- first, and ranks are counted from 0 here. A run is given by each rank's first release (its offset) and by the ticks
 -- that its kth job needs; both are functions, so a run has no end.
-use mathlib.Core.Bool.{Bool, true, false, _&&_, _||_}
+use mathlib.Core.Bool.{Bool, false, _&&_, _||_}
 use mathlib.Core.List.{List, [], _∷_, _++_}
 use Prim.Native.Nat.{ℕ, zero, suc, _-_, _/_, _%_}
 use lib.Dec.{eqb, leb}

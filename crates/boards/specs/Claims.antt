@@ -1,14 +1,14 @@
 -- What is claimed of a run: every job finishes, once, within its task's latest response, and none that is released a
 -- period of its own after the first releases above finishes before its earliest. Row i of an order has rank i.
 use mathlib.Core.Path.{_≡_}
-use mathlib.Core.Bool.{Bool, true, false}
+use mathlib.Core.Bool.{true, false}
 use mathlib.Core.List.{List}
 use Prim.Native.Nat.{ℕ, _+_, _*_, _≤_, _<_}
 use lib.ListN.{length, take}
 use Rattle.rows.specs.Rows.{rowAt}
 use Rattle.rows.specs.declared.Row.{Row}
 use Rattle.responses.specs.Figures.{latest, earliest, isLate}
-use Rattle.boards.specs.Boards.{Board, afterTicks, isDone}
+use Rattle.boards.specs.Boards.{afterTicks, isDone}
 
 -- each job needs from its row's best to its worst
 abbrev pub LastsInRange : List Row → (ℕ → ℕ → ℕ) → Type 0

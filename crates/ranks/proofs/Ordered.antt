@@ -1,13 +1,12 @@
 -- What the calls plan: the rows of the order chosen, none of which is late, or of the order given.
-use mathlib.Core.Path.{_≡_, refl, sym, ap, ap₂, subst, _∙_}
-use mathlib.Core.Bool.{Bool, true, false, _&&_}
+use mathlib.Core.Path.{_≡_, refl, sym, ap, ap₂, _∙_}
+use mathlib.Core.Bool.{true, false, _&&_}
 use mathlib.Core.List.{List}
 use mathlib.Core.Logic.{inl, inr}
 use mathlib.Core.Option.{Option, none, some}
-use Prim.Native.Nat.{ℕ, zero, _≤_, _<_}
-use native.Mathlib.Omega.{arith}
+use Prim.Native.Nat.{ℕ}
 use lib.Dec.{eqb}
-use lib.ListN.{length, getD, take}
+use lib.ListN.{length, take}
 use borrow.Author.Tests.{eqb-true}
 use Rattle.basics.specs.Basics.{distinct}
 use Rattle.basics.proofs.Tests.{and-left, true-not-false}
@@ -27,10 +26,10 @@ use Rattle.orders.proofs.Scan.{some-of}
 use Rattle.orders.proofs.Tasks.{rows-for}
 use Rattle.boards.specs.Claims.{NoneLate}
 use Rattle.plans.specs.Entries.{firstLate}
-use Rattle.plans.specs.Outcomes.{Outcome, refuses, planOf, ifInTime}
+use Rattle.plans.specs.Outcomes.{refuses, planOf, ifInTime}
 use Rattle.plans.proofs.Entries.{first-late-some}
 use Rattle.plans.proofs.Outcomes.{timely-outcome}
-use Rattle.ranks.specs.Calls.{onTable, ifOrdered, planned, givenOrder, reviewed}
+use Rattle.ranks.specs.Calls.{ifOrdered, planned, givenOrder, reviewed}
 use Rattle.ranks.specs.Demands.{Accepts}
 use Rattle.ranks.proofs.Outcomes.{zero-or-more, on-accepted}
 use Rattle.ranks.proofs.Planned as Planned

@@ -1,15 +1,14 @@
 -- The planner's demands, for every text and every room. A text is refused for its reason; an accepted one has rows in
 -- range with distinct tasks, so the order chosen is as the rule says, is stable, and so is kept on every board.
 use mathlib.Core.Path.{_≡_, refl, sym, ap, subst, _∙_}
-use mathlib.Core.Bool.{Bool, true, false, _||_, not, false≢true}
+use mathlib.Core.Bool.{true, false, _||_, not}
 use mathlib.Core.List.{List, [], _∷_}
 use mathlib.Core.Logic.{inl, inr}
 use mathlib.Core.Option.{Option, none, some}
-use Prim.Native.Nat.{ℕ, zero, suc, _≤_, _<_}
+use Prim.Native.Nat.{ℕ, suc, _≤_, _<_}
 use native.Mathlib.Omega.{arith}
-use lib.Dec.{eqb}
 use lib.IntN.{pos}
-use lib.ListN.{length, getD, take}
+use lib.ListN.{length, take}
 use lib.Signed.{leZ}
 use borrow.Author.Tests.{not-true}
 use Rattle.basics.specs.Basics.{isIn}
@@ -17,21 +16,21 @@ use Rattle.basics.proofs.Tests.{and-left, and-right, true-not-false, le-or-lt}
 use Rattle.rows.specs.Rows.{inRange, allRows, rowAt}
 use Rattle.rows.specs.declared.Row.{Row}
 use Rattle.tables.specs.Tables.{Answer, readTable}
-use Rattle.tables.specs.Claims.{Accepted, Reason, Read}
+use Rattle.tables.specs.Claims.{Accepted}
 use Rattle.tables.proofs.Numbers.{unranked-listed}
 use Rattle.tables.proofs.Reasons.{read}
 use Rattle.responses.specs.Figures.{isLate, margin, isStable}
-use Rattle.orders.specs.Orders.{Possible, Chosen}
+use Rattle.orders.specs.Orders.{Chosen}
 use Rattle.orders.specs.Stability.{stable, chosenOrder}
 use Rattle.orders.proofs.Possible.{possible-length, possible-passes}
 use Rattle.orders.proofs.Stable.{stable-at, chosen}
 use Rattle.boards.specs.Claims.{NoneLate}
 use Rattle.plans.specs.Entries.{entries}
 use Rattle.plans.specs.Plans.{planText, planRoom}
-use Rattle.plans.specs.Outcomes.{Outcome, writes, refuses, fitted}
+use Rattle.plans.specs.Outcomes.{writes, refuses, fitted}
 use Rattle.plans.proofs.Outcomes.{fits, fits-not}
 use Rattle.plans.proofs.Lengths.{plan-fits}
-use Rattle.ranks.specs.Calls.{onTable, ifOrdered, planned}
+use Rattle.ranks.specs.Calls.{ifOrdered, planned}
 use Rattle.ranks.specs.Demands.{Promised, Accepts, EveryOrderFails, entryAt, PlanDemands}
 use Rattle.ranks.proofs.Outcomes.{same-refusal, same-text, not-both, zero-or-more, on-accepted, on-refused}
 use Rattle.ranks.proofs.Outcomes.{listed-more}

@@ -1,11 +1,11 @@
 -- An order of rows in range in which no task is late: its plan's entries are the figures of its rows under the rows
 -- above them, by the formulas, and every board keeps them.
-use mathlib.Core.Path.{_≡_, refl, sym, ap, subst, _∙_}
-use mathlib.Core.Bool.{Bool, true, false}
-use mathlib.Core.List.{List, [], _∷_}
-use Prim.Native.Nat.{ℕ, zero, suc, _+_, _≤_, _<_}
+use mathlib.Core.Path.{_≡_, ap}
+use mathlib.Core.Bool.{true}
+use mathlib.Core.List.{List, []}
+use Prim.Native.Nat.{ℕ, _<_}
 use native.Mathlib.Omega.{arith}
-use lib.ListN.{length, getD, take}
+use lib.ListN.{length, take}
 use Rattle.rows.specs.Rows.{inRange, timesInRange, allRows, rowAt}
 use Rattle.rows.specs.declared.Row.{Row}
 use Rattle.rows.proofs.Limits.{all-times, at-passes, front-passes}
@@ -13,7 +13,7 @@ use Rattle.responses.specs.Claims.{Figured}
 use Rattle.responses.proofs.Responses.{figured}
 use Rattle.boards.specs.Claims.{LastsInRange, Kept, latestAt, earliestAt, NoneLate}
 use Rattle.boards.proofs.Kept as Boards
-use Rattle.plans.specs.Entries.{entry, entries, noEntry}
+use Rattle.plans.specs.Entries.{entry, noEntry}
 use Rattle.plans.proofs.Entries.{entry-at}
 use Rattle.ranks.specs.Demands.{entryAt, Promised}
 

@@ -1,15 +1,14 @@
 -- What a reading by value says of its table: the first rows of its array are the table's rows, which are in range and
 -- distinct, so that they can be lent to the search; and a text's refusal is the call's.
-use mathlib.Core.Path.{_≡_, refl, sym, ap, ap₂, subst, _∙_}
-use mathlib.Core.Bool.{Bool, true, false}
-use mathlib.Core.List.{List, [], _∷_, _++_}
+use mathlib.Core.Path.{_≡_, sym, ap, subst, _∙_}
+use mathlib.Core.Bool.{Bool}
+use mathlib.Core.List.{List, []}
 use mathlib.Core.Logic.{inl, inr}
-use Prim.Native.Nat.{ℕ, zero, suc, _-_, _≤_, _<_}
+use Prim.Native.Nat.{ℕ, _-_, _≤_}
 use native.Mathlib.Omega.{arith}
 use lib.ListN.{length, take, replicate}
 use lib.Seq.{take-append-seam}
-use Rattle.rows.specs.Rows.{maxTasks, noRow, inRange, allRows}
-use Rattle.rows.specs.declared.Row.{Row}
+use Rattle.rows.specs.Rows.{maxTasks, noRow}
 use Rattle.tables.specs.declared.Reading.{Reading}
 use Rattle.tables.specs.Tables.{Answer, readTable}
 use Rattle.tables.specs.Readings.{padded, reading}

@@ -1,32 +1,31 @@
 -- The reviewer's demands, for every text and every room. The rank lines of an accepted text make a possible order, so
 -- its rows are in range; where none of them is late, the figures written are by the formulas and kept on every board.
 use mathlib.Core.Path.{_≡_, refl, sym, ap, subst, _∙_}
-use mathlib.Core.Bool.{Bool, true, false}
+use mathlib.Core.Bool.{true, false}
 use mathlib.Core.List.{List, [], _∷_}
 use mathlib.Core.Logic.{inl, inr}
-use Prim.Native.Nat.{ℕ, zero, suc, _≤_, _<_}
+use Prim.Native.Nat.{ℕ, suc, _≤_, _<_}
 use native.Mathlib.Omega.{arith}
-use lib.ListN.{length, getD, take}
+use lib.ListN.{length}
 use Rattle.basics.specs.Basics.{isIn}
 use Rattle.basics.proofs.Tests.{true-not-false, le-or-lt}
-use Rattle.rows.specs.Rows.{inRange, allRows, tasksOf, rowsFor, rowAt}
+use Rattle.rows.specs.Rows.{inRange, allRows, tasksOf}
 use Rattle.rows.specs.declared.Row.{Row}
 use Rattle.tables.specs.Tables.{Answer, readTable}
-use Rattle.tables.specs.Claims.{Accepted, Reason, Read}
+use Rattle.tables.specs.Claims.{Accepted}
 use Rattle.tables.proofs.Numbers.{number-listed}
 use Rattle.tables.proofs.Reasons.{read}
-use Rattle.responses.specs.Figures.{isLate}
 use Rattle.orders.specs.Orders.{Possible}
 use Rattle.orders.proofs.Possible.{possible-length, possible-passes}
 use Rattle.orders.proofs.Tasks.{possible-tasks}
 use Rattle.boards.specs.Claims.{NoneLate}
 use Rattle.plans.specs.Entries.{entries, firstLate}
 use Rattle.plans.specs.Plans.{planText, planRoom}
-use Rattle.plans.specs.Outcomes.{Outcome, writes, refuses, fitted}
+use Rattle.plans.specs.Outcomes.{writes, refuses, fitted}
 use Rattle.plans.proofs.Outcomes.{fits, fits-not, late-outcome, timely-outcome}
 use Rattle.plans.proofs.Entries.{FirstLate, first-late-none, first-late-some}
 use Rattle.plans.proofs.Lengths.{plan-fits}
-use Rattle.ranks.specs.Calls.{onTable, givenOrder, reviewed}
+use Rattle.ranks.specs.Calls.{givenOrder, reviewed}
 use Rattle.ranks.specs.Demands.{Promised, Accepts, ReviewDemands}
 use Rattle.ranks.proofs.Outcomes.{same-refusal, same-text, not-both, zero-or-more, on-accepted, on-refused}
 use Rattle.ranks.proofs.Outcomes.{listed-more}

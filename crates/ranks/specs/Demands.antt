@@ -4,7 +4,7 @@ use mathlib.Core.Bool.{Bool, true, false}
 use mathlib.Core.List.{List, [], _∷_}
 use mathlib.Core.Option.{some}
 use Prim.Native.Nat.{ℕ, suc, _≤_, _<_}
-use lib.IntN.{ℤ, pos}
+use lib.IntN.{pos}
 use lib.ListN.{length, getD, take}
 use lib.Signed.{leZ}
 use Rattle.basics.specs.Basics.{isIn}
@@ -21,7 +21,7 @@ use Rattle.plans.specs.declared.Entry.{Entry}
 use Rattle.plans.specs.declared.Plan.{Plan}
 use Rattle.plans.specs.Entries.{entry, entries, noEntry}
 use Rattle.plans.specs.Plans.{planText, planRoom}
-use Rattle.plans.specs.Outcomes.{Outcome, writes, refuses, Written}
+use Rattle.plans.specs.Outcomes.{writes, refuses, Written}
 use Rattle.ranks.specs.Calls.{planned, givenOrder, reviewed}
 
 -- rank i of a plan, counted from 0

@@ -1,9 +1,9 @@
 -- The responses of a task under rows above it. W is fixed within the period. At W the best jobs take at most what
 -- the worst take, so E exists and is at most W. Demand 2 follows.
-use mathlib.Core.Path.{_≡_, refl, ap, ap₂, sym, _∙_}
+use mathlib.Core.Path.{_≡_, ap, ap₂, sym, _∙_}
 use mathlib.Core.Bool.{Bool, true, false, _&&_, not}
 use mathlib.Core.List.{List, [], _∷_, map}
-use Prim.Native.Nat.{ℕ, zero, suc, _+_, _-_, _*_, _≤_, _<_}
+use Prim.Native.Nat.{ℕ, _+_, _-_, _≤_}
 use native.Mathlib.Nat.{mul-le-mul, add-le-add}
 use native.Mathlib.Omega.{arith}
 use borrow.Author.Tests.{eqb-false, eq-eqb, ne-eqb, leb-true, le-leb, not-true}
@@ -17,7 +17,7 @@ use Rattle.rows.specs.declared.Row.{Row}
 use Rattle.basics.specs.Basics.{pick}
 use Rattle.basics.proofs.Tests.{test-of, and-left, and-right, and-both}
 use Rattle.rows.proofs.Limits.{times, in-range-times, head-passes, tail-passes, all-times}
-use Rattle.responses.specs.Interference.{ceiling, interference}
+use Rattle.responses.specs.Interference.{ceiling}
 use Rattle.responses.specs.Figures.{worstLoad, bestLoad, worstIn, bestIn, latest, isLate, earliest, isStable}
 use Rattle.responses.specs.Figures.{marginAt, margin, lateFigures, figuresAt, figuresUnder, maxAbove, isPosed}
 use Rattle.responses.specs.Claims.{spent, Figured, Demand-2}

@@ -19,7 +19,7 @@ use Rattle.responses.specs.declared.Figures.{Figures}
 use Rattle.responses.specs.Fixed.{smallest, largest}
 use Rattle.responses.specs.Interference.{ceiling, Load, interference}
 use Rattle.responses.specs.Figures.{worstLoad, bestLoad, worstIn, bestIn, latest, earliest, marginAt}
-use Rattle.responses.specs.Figures.{isLate, isStable, lateFigures, noFigures}
+use Rattle.responses.specs.Figures.{lateFigures, noFigures}
 use Rattle.responses.specs.Figures.{figuresAt, figuresUnder, maxAbove, figuresOf}
 use Rattle.responses.specs.Claims.{SameFigures, BySet}
 use Rattle.responses.proofs.Fixed.{fixed-below, demand-mono, least-fixed, least-least}

@@ -1,5 +1,5 @@
 -- Ceilings, and interference: it grows with the window, and a task takes at most the window and one period of it.
-use mathlib.Core.Path.{_≡_, refl, ap, sym, _∙_}
+use mathlib.Core.Path.{_≡_, ap}
 use mathlib.Core.List.{List, [], _∷_}
 use Prim.Native.Nat.{ℕ, zero, suc, _+_, _-_, _*_, _/_, _≤_, _<_}
 use native.Mathlib.Nat.{le-trans, div-mul-le-self, le-div-iff-mul-le, mul-le-mul-left, mul-le-mul-right, add-le-add}

@@ -1,7 +1,7 @@
 -- What is claimed of the figures: they are those of the published formulas (demand 2),
 -- and the rows above count as a set.
 use mathlib.Core.Path.{_≡_}
-use mathlib.Core.Bool.{Bool, true, false}
+use mathlib.Core.Bool.{true, false}
 use mathlib.Core.List.{List, Perm}
 use Prim.Native.Nat.{ℕ, _+_, _*_, _≤_}
 use lib.IntN.{pos, _-ℤ_}

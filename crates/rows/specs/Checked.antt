@@ -1,5 +1,4 @@
 -- What the constructor of a row answers.
-use mathlib.Core.Bool.{true, false}
 use Rattle.basics.specs.Basics.{pick}
 use Rattle.rows.specs.declared.Row.{Row}
 use Rattle.rows.specs.declared.Checked.{Checked}

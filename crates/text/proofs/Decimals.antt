@@ -1,19 +1,18 @@
 -- A number in decimal is the number without its last digit, then that digit. So it reads back as its number, has no
 -- more digits than the number has places, and is the only text that is read as it.
 use mathlib.Core.Path.{_≡_, refl, sym, ap, ap₂, _∙_}
-use mathlib.Core.Bool.{Bool, true, false, _&&_, not, and-false}
+use mathlib.Core.Bool.{true, false, _&&_, not, and-false}
 use mathlib.Core.List.{List, [], _∷_, _++_, append-assoc, append-nil}
 use mathlib.Core.Logic.{inl, inr}
 use Prim.Native.Nat.{ℕ, zero, suc, _+_, _-_, _*_, _/_, _%_, _^_, _≤_, _<_}
 use native.Mathlib.Nat.{pow-succ', one-le-pow}
 use native.Mathlib.Omega.{arith}
-use lib.Dec.{eqb, ltb, leb}
+use lib.Dec.{eqb, ltb}
 use lib.ListN.{length, getD, length-append, List·getD-append}
-use borrow.Author.Tests.{lt-ltb, le-ltb, le-leb, lt-leb, eq-eqb, ne-eqb}
+use borrow.Author.Tests.{lt-ltb, le-ltb, le-leb, ne-eqb}
 use borrow.Author.Tests.{eqb-true, eqb-false, ltb-true, ltb-false, not-true}
 use Rattle.basics.specs.Basics.{pick, within}
-use Rattle.basics.proofs.Tests.{test-of, and-left, and-right, Within, within-true, true-within}
-use Rattle.text.specs.declared.Digits.{Digits}
+use Rattle.basics.proofs.Tests.{test-of, and-left, and-right, within-true, true-within}
 use Rattle.text.specs.declared.Digits.the-variants.{Value, Malformed}
 use Rattle.text.specs.Text.{digitZero, digitNine, digits, decimal}
 use Rattle.text.specs.Lines.{maxDigits, digitsFrom, wellFormed, numberOf}

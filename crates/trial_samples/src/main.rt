@@ -1,7 +1,6 @@
 // The brute force by itself: document 01's own figures, and what the generator makes.
 use trials::Row;
 use trials::Table;
-ghost use Prim.Native.Nat.{_≤_};
 
 // Document 01's example with betas of one's own.
 fn example(first: u32, second: u32, third: u32) -> Table {

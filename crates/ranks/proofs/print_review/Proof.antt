@@ -1,7 +1,6 @@
 -- `ranks::print_review` meets its contract: every answer of `review_order` is listed, so its
 -- text is the answer's, which stands in the buffer as `printed` leaves it.
 use mathlib.Core.Path.{_≡_, refl}
-use mathlib.Core.List.{List}
 use denote.Ref.{now}
 use borrow.Author.Needs.{needs}
 use lib.ListN.{length}

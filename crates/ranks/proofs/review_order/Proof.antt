@@ -1,7 +1,7 @@
 -- `ranks::review_order` meets its contract: the text's refusal is the call's; the rows of an accepted text's rank lines
 -- are planned, or the first late one of them is refused. The demands hold of every text.
-use mathlib.Core.Path.{_≡_, sym, ap, subst, _∙_}
-use mathlib.Core.Bool.{true, false}
+use mathlib.Core.Path.{_≡_, ap, subst, _∙_}
+use mathlib.Core.Bool.{true}
 use mathlib.Core.List.{List}
 use Prim.Native.Nat.{ℕ}
 use native.Mathlib.Omega.{arith}
@@ -9,7 +9,6 @@ use borrow.Author.Needs.{needs}
 use denote.Ref.{now}
 use lib.ListN.{length, take}
 use Rattle.rows.specs.Rows.{inRange, allRows}
-use Rattle.rows.specs.declared.Row.{Row}
 use Rattle.plans.specs.Outcomes.{Outcome, ifInTime, Written}
 use Rattle.plans.proofs.Outcomes.{refused}
 use Rattle.ranks.specs.Calls.{givenOrder}

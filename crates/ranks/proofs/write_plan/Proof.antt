@@ -1,7 +1,7 @@
 -- `ranks::write_plan` meets its contract: the text's refusal is the call's; the rows of an accepted table are lent to
 -- the search; where it finds no order every order fails, and else the rows of its order are planned, none of them late.
 -- The demands hold of every text.
-use mathlib.Core.Path.{_≡_, sym, ap, subst, _∙_}
+use mathlib.Core.Path.{_≡_, ap, subst, _∙_}
 use mathlib.Core.Bool.{true, false}
 use mathlib.Core.List.{List}
 use Prim.Native.Nat.{ℕ}
@@ -12,11 +12,8 @@ use denote.Ref.{now}
 use lib.ListN.{length, take}
 use Rattle.rows.specs.Rows.{inRange, allRows}
 use Rattle.rows.specs.declared.Row.{Row}
-use Rattle.tables.specs.declared.Reading.{Reading}
-use Rattle.tables.specs.Tables.{readTable}
 use Rattle.plans.specs.Outcomes.{Outcome, ifInTime, Written}
 use Rattle.plans.proofs.Outcomes.{refused}
-use Rattle.ranks.specs.Calls.{planned}
 use Rattle.ranks.specs.Demands.{Accepts}
 use Rattle.ranks.proofs.Planned.{plan-demands}
 use Rattle.ranks.proofs.Readings.{accepts, refusal-is, few, lent, board-fits}

@@ -1,20 +1,10 @@
-use mathlib.Core.Path.{_≡_, ap, sym, _∙_}
-use mathlib.Core.Bool.{Bool, true, false, _&&_}
+use mathlib.Core.Path.{sym, _∙_}
 use native.Mathlib.Omega.{arith}
 use borrow.Author.Needs.{needs}
-use lib.ListN.{length}
-use Rattle.rows.specs.Rows.{inRange}
-use Rattle.basics.specs.Basics.{pick}
 use Rattle.basics.proofs.Tests.{and-left, and-right}
-use Rattle.responses.specs.Figures.{maxAbove}
-use Rattle.responses.specs.Gathered.{figuresIn}
 use Rattle.responses.proofs.Gathered.{posed-answer, no-answer}
 use Rattle.responses.proofs.figures_in.Statement.{statement}
 use Rattle.responses.proofs.figures_in.Tie as tie
-use Rattle.responses.proofs.figures_in.Reads as reads
-use Rattle.responses.proofs.figures_in.Lts as lts
-use Rattle.responses.proofs.figures_under.Reads as figures-under-reads
-use Rattle.rows.proofs.Row.in_range.Reads as in-range-reads
 
 in-range-requires : tie.Need-in-range-requires
 in-range-requires c κs = search needs

@@ -1,24 +1,19 @@
 -- What each search answers is the response of the rows that the columns hold (`found`); the rest is reading.
 use mathlib.Core.Path.{_≡_, ap, sym, _∙_}
 use mathlib.Core.List.{List}
-use Prim.Native.Nat.{ℕ, _≤_}
+use Prim.Native.Nat.{_≤_}
 use native.Mathlib.Omega.{arith}
 use borrow.Author.Needs.{needs}
 use mir.Syntax.{w64}
 use mir.Facts.{toZ-ofZ}
 use Rattle.rows.specs.declared.Row.{Row}
 use Rattle.rows.proofs.Limits.{times, in-range-times}
-use Rattle.responses.specs.Figures.{latest, earliest, figuresAt}
+use Rattle.responses.specs.Figures.{earliest, figuresAt}
 use Rattle.responses.specs.Columns.{rowsAbove}
 use Rattle.responses.proofs.Responses.{late-answer, timely-answer}
 use Rattle.responses.proofs.Columns.{worst-columns, best-columns, latest-found, Found, found}
 use Rattle.responses.proofs.figures_under.Statement.{statement}
 use Rattle.responses.proofs.figures_under.Tie as tie
-use Rattle.responses.proofs.figures_under.Reads as reads
-use Rattle.responses.proofs.figures_under.Lts as lts
-use Rattle.responses.proofs.largest_fixed.Reads as largest-fixed-reads
-use Rattle.responses.proofs.least_fixed.Reads as least-fixed-reads
-use Rattle.responses.proofs.margin.Reads as margin-reads
 
 abbrev above : tie.Start → List Row
 above s = rowsAbove (s .args .n) (s .args .periods .now) (s .args .worsts .now) (s .args .bests .now)

@@ -13,7 +13,7 @@ use Rattle.rows.proofs.Walk.{owns, RefT, plain, shrSliceOf, ShrSlice, shr-slice
 use Rattle.rows.proofs.Walk.{sliceTy, sliceVal, nothing, owned, onEntry, Meets, tripleOf, Contract, Triple, cited}
 use Rattle.rows.proofs.Walk.{entered, Stays, Walks, ends-at, goes-dropped, says, stay-dropped, walk-meets, walkOf}
 use Rattle.rows.proofs.Walk.{walked, Atoms, fullShare, URA, lit<, ltb→lt, nltb→le, getD, length, drop-cons}
-use Rattle.rows.proofs.Walk.{drop-length, Nat·lt-wfRel, true, List, [], _∷_, _∙_, _≡_, ap, refl, sym, InvImage·wf}
+use Rattle.rows.proofs.Walk.{drop-length, Nat·lt-wfRel, List, [], _∷_, _∙_, _≡_, ap, refl, sym, InvImage·wf}
 use Rattle.rows.proofs.Walk.{WellFounded, Body, Ty, assign, block, call, cond, exit, imm, loop, named, return, seq}
 use Rattle.rows.proofs.Walk.{skip, switch, tyBool, tyInt, tyPtr, tyRef, w64, Val, WT, hasTy, vint, vptr, le-antisymm}
 use Rattle.rows.proofs.Walk.{lt-of-le-of-lt, add-one, add-one-dec, add-one-le, arith, Memory, Routine, Calls, Env}

@@ -1,19 +1,13 @@
-use mathlib.Core.Path.{_≡_, ap, sym, _∙_}
-use mathlib.Core.Bool.{Bool, true, false, _&&_}
+use mathlib.Core.Path.{sym}
+use mathlib.Core.Bool.{_&&_}
 use Prim.Native.Nat.{_<_}
 use native.Mathlib.Omega.{arith}
 use borrow.Author.Needs.{needs}
 use borrow.Author.Tests.{ltb-true}
 use lib.Dec.{ltb}
-use Rattle.basics.specs.Basics.{pick}
 use Rattle.basics.proofs.Tests.{and-right}
-use Rattle.responses.specs.Figures.{maxAbove}
-use Rattle.responses.specs.Gathered.{addRow}
 use Rattle.responses.proofs.Above.with.Statement.{statement}
 use Rattle.responses.proofs.Above.with.Tie as tie
-use Rattle.responses.proofs.Above.with.Reads as reads
-use Rattle.responses.proofs.Above.with.Lts as lts
-use Rattle.rows.proofs.Row.in_range.Reads as in-range-reads
 
 -- the test passed, so there is room
 room : (c : tie.Then1) → c .before .before .before .args .self .count < 11
