@@ -10,10 +10,10 @@ use native.Mathlib.Numerals.{add-one}
 use native.Mathlib.Omega.{arith}
 use borrow.Author.Tests.{eq-eqb, ne-eqb}
 use lib.Dec.{eqb}
-use lib.ListN.{length, getD, take, set}
-use lib.Seq.{getD-take, length-take-le, take-length}
+use lib.ListN.{length, take, set}
+use lib.Seq.{take-length}
 use Rattle.basics.proofs.Tests.{and-both}
-use Rattle.rows.specs.Rows.{maxTasks, inRange, allRows, noRow, rowAt}
+use Rattle.rows.specs.Rows.{maxTasks, inRange, allRows, rowAt}
 use Rattle.rows.specs.declared.Row.{Row}
 use Rattle.rows.proofs.Limits.{head-passes, tail-passes}
 use Rattle.responses.specs.declared.Figures.{Figures}
@@ -23,14 +23,6 @@ use Rattle.responses.proofs.Filled.{Filled, filled-none, filled-more, filled-ov
 use Rattle.responses.proofs.Responses.{stable-is}
 use Rattle.orders.specs.Sets.{keep, members}
 use Rattle.orders.proofs.Sets.{halved-after, before-next}
-
--- ---- the first n rows of an array
-module _ (rows : List Row) (n : ℕ) (long : length rows ≡ maxTasks) (few : n ≤ maxTasks) where
-  pub front-length : length (take n rows) ≡ n
-  front-length = length-take-le n rows (omega arith)
-
-  pub front-at : (i : ℕ) → i < n → getD rows i noRow ≡ rowAt (take n rows) i
-  front-at i h = sym (getD-take n rows i noRow h)
 
 -- ---- the members of a set
 pub members-pass : (f : Row → Bool) (m : ℕ) (rs : List Row) → allRows f rs ≡ true → allRows f (members m rs) ≡ true

@@ -14,16 +14,16 @@ use Rattle.rows.proofs.Walk.{sliceTy, sliceVal, nothing, owned, onEntry, Meets,
 use Rattle.rows.proofs.Walk.{entered, Stays, Walks, ends-at, goes-dropped, says, stay-dropped, walk-meets, walkOf}
 use Rattle.rows.proofs.Walk.{walked, Atoms, fullShare, URA, lit<, ltb→lt, nltb→le, getD, length, drop-cons}
 use Rattle.rows.proofs.Walk.{drop-length, Nat·lt-wfRel, List, [], _∷_, _∙_, _≡_, ap, refl, sym, InvImage·wf}
-use Rattle.rows.proofs.Walk.{WellFounded, Body, Ty, assign, block, call, cond, exit, imm, loop, named, return, seq}
-use Rattle.rows.proofs.Walk.{skip, switch, tyBool, tyInt, tyPtr, tyRef, w64, Val, WT, hasTy, vint, vptr, le-antisymm}
-use Rattle.rows.proofs.Walk.{lt-of-le-of-lt, add-one, add-one-dec, add-one-le, arith, Memory, Routine, Calls, Env}
+use Rattle.rows.proofs.Walk.{WellFounded, Ty, imm, named}
+use Rattle.rows.proofs.Walk.{tyBool, tyInt, tyPtr, tyRef, w64, Val, WT, hasTy, vint, vptr, le-antisymm}
+use Rattle.rows.proofs.Walk.{lt-of-le-of-lt, add-one, add-one-dec, add-one-le, Memory, Routine, Calls, Env}
 use Rattle.rows.proofs.Walk.{Heap, Loops, Out, Tables, Wp, WpFn, afterBlock, afterSeq, atReturn, afterTurn, WpFn-mono}
 use Rattle.rows.proofs.Walk.{fmOf, !, Given, Item, Sq, _$_, _∵_, _⊛_, anyQ, atRet, by, done, drop, fjoin, frame}
 use Rattle.rows.proofs.Walk.{fsplit, join, keep, move, qed, raw, rewrite, runs, split, suffices, use0, ‵, ⋆, look-in}
 use Rattle.rows.proofs.Walk.{sub, whole, again, alloc0, alloc1, and-then, assigns, assigns-last, bin, blocks}
 use Rattle.rows.proofs.Walk.{branches, enter, exec, first, fld, forget, free0, free1, from, hop, init, jumps, land}
 use Rattle.rows.proofs.Walk.{lit, load, look, look-raw, loops, no-more, of-opd, params1, pass0, pass1, returns, skips}
-use Rattle.rows.proofs.Walk.{stop, store, arr-parts}
+use Rattle.rows.proofs.Walk.{stop, store, arr-parts, after, offset-fits}
 use lib.Dec.{T as Holds}
 use lib.ListN.{drop as dropN}
 use types.Run.{Below}
@@ -57,23 +57,6 @@ blank = rowAbove 0 0 0
 
 abbrev stayed : Stays (gather.ended .signature .params) (gather.ended .kept)
 stayed = (stay-dropped (shrSliceOf (0 ∷ []) tt (plain (λ _. T.the-row))) yes, tt)
-
--- a record's place, in bytes, fits
-offset-fits : (i n : ℕ) → i < n → n * 32 < 2 ^ 63 → i * 32 < 2 ^ 64
-offset-fits i n l r = omega (arith, l, r)
-
--- what follows the first statement
-abbrev after : Body → Body
-after (seq a b) = b
-after skip = skip
-after (assign p rv) = skip
-after (block b) = skip
-after (loop b) = skip
-after (cond c a b) = skip
-after (switch c arms) = skip
-after (exit n) = skip
-after return = skip
-after (call f xs d) = skip
 
 abbrev word : Ty
 word = tyInt w64

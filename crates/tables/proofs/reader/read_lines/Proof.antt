@@ -4,20 +4,20 @@
 -- each call that it is passed to.
 --     St       the loop's state: the reader and its machine value, what was read so far, and where the reading stands
 --     turns    a turn from the state: it takes one line, or it leaves the loop and the rest of the body runs
-use Rattle.rows.proofs.Walk.{Atoms, Body, Bool, Calls, Contract, Env, Fml, Fun, Given, Heap, InvImage·wf, Is, Item}
+use Rattle.rows.proofs.Walk.{Atoms, Bool, Calls, Contract, Env, Fml, Fun, Given, Heap, InvImage·wf, Is, Item}
 use Rattle.rows.proofs.Walk.{Lft, List, Loops, Meets, Memory, Nat·lt-wfRel, Out, RefT, Routine, SProp, Share, ShrSlice}
 use Rattle.rows.proofs.Walk.{Sq, Stays, Tables, Triple, Ty, URA, Val, Vals, WT, Walks, WellFounded, Wp, WpFn}
 use Rattle.rows.proofs.Walk.{WpFn-mono, afterBlock, afterSeq, afterTurn, again, alloc0, alloc1, and-then, anyQ, ap}
-use Rattle.rows.proofs.Walk.{assign, assigns, atRet, atReturn, block, blocks, branches, by, call, cited, cond, done}
-use Rattle.rows.proofs.Walk.{drop, emp, ends-at, ent, enter, entered, erased, exec, exit, fat, fdies, first, fjoin}
+use Rattle.rows.proofs.Walk.{assigns, atRet, atReturn, blocks, branches, by, cited, done}
+use Rattle.rows.proofs.Walk.{drop, emp, ends-at, ent, enter, entered, erased, exec, fat, fdies, first, fjoin}
 use Rattle.rows.proofs.Walk.{fld, flft, fmOf, forget, frame, free0, free1, from, froom, fsplit, ftrue, fullShare}
 use Rattle.rows.proofs.Walk.{givenOf, goes-dropped, hasTy, imm, init, join, jumps, keep, land, land-last, length, load}
-use Rattle.rows.proofs.Walk.{look, look-in, loop, loops, move, named, no-more, nothing, of-opd, onEntry, owned, owns}
-use Rattle.rows.proofs.Walk.{params1, pass0, pass1, peeks, plain, qed, raw, refl, return, returns, rewrite, runs, says}
-use Rattle.rows.proofs.Walk.{seq, shows, shr-slice-lawful, shr-slice-tells, shrSliceOf, skip, skips, slice-vals}
-use Rattle.rows.proofs.Walk.{sliceTy, sliceVal, split, stay-dropped, stop, store, sub, subst, suffices, switch, sym}
+use Rattle.rows.proofs.Walk.{look, look-in, loops, move, named, no-more, nothing, of-opd, onEntry, owned, owns}
+use Rattle.rows.proofs.Walk.{params1, pass0, pass1, peeks, plain, qed, raw, refl, returns, rewrite, runs, says}
+use Rattle.rows.proofs.Walk.{shows, shr-slice-lawful, shr-slice-tells, shrSliceOf, skips, slice-vals}
+use Rattle.rows.proofs.Walk.{sliceTy, sliceVal, split, stay-dropped, stop, store, sub, subst, suffices, sym}
 use Rattle.rows.proofs.Walk.{tables, tablesOf, tripleOf, true, tyBool, tyInt, tyRef, use0, use1, use2, walk-meets}
-use Rattle.rows.proofs.Walk.{walkOf, walked, whole, yes, ℕ, !, [], _$_, _-_, _<_, _∙_, _∵_, _∷_, _≡_, _≤_, _⊛_, ‵, ⋆}
+use Rattle.rows.proofs.Walk.{after, walkOf, walked, whole, yes, ℕ, !, [], _$_, _-_, _<_, _∙_, _∵_, _∷_, _≡_, _≤_, _⊛_, ‵, ⋆}
 use contract.Lifetimes.{Lfts}
 use denote.Builtin.{u8}
 use denote.RattleType.{RattleType}
@@ -75,19 +75,6 @@ stayed = (
   stay-dropped (shrSliceOf (0 ∷ []) tt (plain (λ _. u8))) yes,
   (stay-dropped (plain (λ _. P.the-row)) yes, tt),
 )
-
--- what follows the first statement
-abbrev after : Body → Body
-after (seq a b) = b
-after skip = skip
-after (assign p rv) = skip
-after (block b) = skip
-after (loop b) = skip
-after (cond c a b) = skip
-after (switch c arms) = skip
-after (exit n) = skip
-after return = skip
-after (call f xs d) = skip
 
 -- ---- the loop's state
 not-ended : (b : Bool) → Holds (not b) → b ≡ false
