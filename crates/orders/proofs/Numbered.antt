@@ -1,6 +1,6 @@
 -- Rows as numbers, six for each: a row that is put is there, and the rows read off are those that were put.
 use mathlib.Core.Path.{_≡_, refl, sym, ap, _∙_}
-use mathlib.Core.List.{List}
+use mathlib.Core.List.{List, [], _∷_}
 use Prim.Native.Nat.{ℕ, zero, suc, _+_, _*_, _≤_, _<_}
 use native.Mathlib.Decide.{ℕ-discrete}
 use native.Mathlib.Omega.{arith}
@@ -51,125 +51,68 @@ put-next ns zs rows i each put k h = elim (ℕ-discrete k i) [
   | no ne ↦ put .others k ne ∙ each k (omega (arith, h, ne))
 ]
 
--- ---- a row put
-module _ (ns : List ℕ) (at : ℕ) (t p w b a e : ℕ) where
-  abbrev n1 : List ℕ
-  n1 = set ns at t
+-- ---- numbers written one after another, from place at + d on
+abbrev written : List ℕ → ℕ → ℕ → List ℕ → List ℕ
+written ns at d [] = ns
+written ns at d (v ∷ vs) = written (set ns (at + d) v) at (suc d) vs
 
-  abbrev n2 : List ℕ
-  n2 = set n1 (at + 1) p
+written-long : (ns : List ℕ) (at d : ℕ) (vs : List ℕ) → length (written ns at d vs) ≡ length ns
+written-long ns at d [] = refl
+written-long ns at d (v ∷ vs) = written-long (set ns (at + d) v) at (suc d) vs ∙ length-set ns (at + d) v
 
-  abbrev n3 : List ℕ
-  n3 = set n2 (at + 2) w
+-- what stood elsewhere stays
+written-others : (ns : List ℕ) (at d : ℕ) (vs : List ℕ) (j : ℕ)
+    → ((k : ℕ) → d ≤ k → k < d + length vs → j ≡ at + k → ⊥)
+    → getD (written ns at d vs) j 0 ≡ getD ns j 0
+written-others ns at d [] j out = refl
+written-others ns at d (v ∷ vs) j out =
+    written-others (set ns (at + d) v) at (suc d) vs j (λ k l m. out k (omega arith) (omega arith))
+    ∙ getD-set-other ns (at + d) j v 0 (out d (omega arith) (omega arith))
 
-  abbrev n4 : List ℕ
-  n4 = set n3 (at + 3) b
+written-there : (ns : List ℕ) (at d : ℕ) (vs : List ℕ) (k : ℕ) → at + (d + length vs) ≤ length ns → k < length vs
+    → getD (written ns at d vs) (at + (d + k)) 0 ≡ getD vs k 0
+written-there ns at d [] k fits l = absurd (omega arith)
+written-there ns at d (v ∷ vs) zero fits l =
+    let here : at + (d + 0) ≡ at + d = omega arith in
+    rw here (written-others (set ns (at + d) v) at (suc d) vs (at + d) (λ k m n q. omega (arith, q))
+    ∙ getD-set-same ns (at + d) v 0 (omega arith))
+written-there ns at d (v ∷ vs) (suc k) fits l =
+    let next : at + (d + suc k) ≡ at + (suc d + k) = omega arith in
+    rw next (written-there (set ns (at + d) v) at (suc d) vs k
+    (omega (arith, length-set ns (at + d) v)) (omega arith))
 
-  abbrev n5 : List ℕ
-  n5 = set n4 (at + 4) a
-
-  abbrev n6 : List ℕ
-  n6 = set n5 (at + 5) e
-
-  long1 : length n1 ≡ length ns
-  long1 = length-set ns at t
-
-  long2 : length n2 ≡ length ns
-  long2 = length-set n1 (at + 1) p ∙ long1
-
-  long3 : length n3 ≡ length ns
-  long3 = length-set n2 (at + 2) w ∙ long2
-
-  long4 : length n4 ≡ length ns
-  long4 = length-set n3 (at + 3) b ∙ long3
-
-  long5 : length n5 ≡ length ns
-  long5 = length-set n4 (at + 4) a ∙ long4
-
-  long6 : length n6 ≡ length ns
-  long6 = length-set n5 (at + 5) e ∙ long5
-
-  -- what stood elsewhere stays
-  kept : (j : ℕ) → ((d : ℕ) → d < 6 → j ≡ at + d → ⊥) → getD n6 j 0 ≡ getD ns j 0
-  kept j out =
-      getD-set-other n5 (at + 5) j e 0 (λ q. out 5 (omega arith) (omega (arith, q)))
-      ∙ getD-set-other n4 (at + 4) j a 0 (λ q. out 4 (omega arith) (omega (arith, q)))
-      ∙ getD-set-other n3 (at + 3) j b 0 (λ q. out 3 (omega arith) (omega (arith, q)))
-      ∙ getD-set-other n2 (at + 2) j w 0 (λ q. out 2 (omega arith) (omega (arith, q)))
-      ∙ getD-set-other n1 (at + 1) j p 0 (λ q. out 1 (omega arith) (omega (arith, q)))
-      ∙ getD-set-other ns at j t 0 (λ q. out 0 (omega arith) (omega (arith, q)))
-
-  module _ (fits : at + 5 < length ns) where
-    first : getD n6 at 0 ≡ t
-    first =
-        getD-set-other n5 (at + 5) at e 0 (λ q. omega (arith, q))
-        ∙ getD-set-other n4 (at + 4) at a 0 (λ q. omega (arith, q))
-        ∙ getD-set-other n3 (at + 3) at b 0 (λ q. omega (arith, q))
-        ∙ getD-set-other n2 (at + 2) at w 0 (λ q. omega (arith, q))
-        ∙ getD-set-other n1 (at + 1) at p 0 (λ q. omega (arith, q))
-        ∙ getD-set-same ns at t 0 (omega arith)
-
-    second : getD n6 (at + 1) 0 ≡ p
-    second =
-        getD-set-other n5 (at + 5) (at + 1) e 0 (λ q. omega (arith, q))
-        ∙ getD-set-other n4 (at + 4) (at + 1) a 0 (λ q. omega (arith, q))
-        ∙ getD-set-other n3 (at + 3) (at + 1) b 0 (λ q. omega (arith, q))
-        ∙ getD-set-other n2 (at + 2) (at + 1) w 0 (λ q. omega (arith, q))
-        ∙ getD-set-same n1 (at + 1) p 0 (omega (arith, long1))
-
-    third : getD n6 (at + 2) 0 ≡ w
-    third =
-        getD-set-other n5 (at + 5) (at + 2) e 0 (λ q. omega (arith, q))
-        ∙ getD-set-other n4 (at + 4) (at + 2) a 0 (λ q. omega (arith, q))
-        ∙ getD-set-other n3 (at + 3) (at + 2) b 0 (λ q. omega (arith, q))
-        ∙ getD-set-same n2 (at + 2) w 0 (omega (arith, long2))
-
-    fourth : getD n6 (at + 3) 0 ≡ b
-    fourth =
-        getD-set-other n5 (at + 5) (at + 3) e 0 (λ q. omega (arith, q))
-        ∙ getD-set-other n4 (at + 4) (at + 3) a 0 (λ q. omega (arith, q))
-        ∙ getD-set-same n3 (at + 3) b 0 (omega (arith, long3))
-
-    fifth : getD n6 (at + 4) 0 ≡ a
-    fifth =
-        getD-set-other n5 (at + 5) (at + 4) e 0 (λ q. omega (arith, q))
-        ∙ getD-set-same n4 (at + 4) a 0 (omega (arith, long4))
-
-    sixth : getD n6 (at + 5) 0 ≡ e
-    sixth =
-        getD-set-same n5 (at + 5) e 0 (omega (arith, long5))
+-- ---- a row put: its task, and the numbers after it
+abbrev after-task : Row → List ℕ
+after-task r = r .period ∷ r .worst ∷ r .best ∷ r .alpha ∷ r .beta ∷ []
 
 pub row-put : (ns : List ℕ) (i : ℕ) (r : Row) → 6 * i + 5 < length ns
-    → RowPut ns i r (n6 ns (6 * i) (r .task) (r .period) (r .worst) (r .best) (r .alpha) (r .beta))
+    → RowPut ns i r (written (set ns (6 * i) (r .task)) (6 * i) 1 (after-task r))
 row-put ns i r fits =
     let at = 6 * i in
-    let t = r .task in
-    let p = r .period in
-    let w = r .worst in
-    let b = r .best in
-    let a = r .alpha in
-    let e = r .beta in
+    let ms = set ns at (r .task) in
+    let vs = after-task r in
+    let long = length-set ns at (r .task) in
+    let there : (k : ℕ) → k < 5 → getD (written ms at 1 vs) (at + (1 + k)) 0 ≡ getD vs k 0 =
+    λ k l. written-there ms at 1 vs k (omega (arith, long)) l in
+    let others : (j : ℕ) → ((k : ℕ) → k < 6 → j ≡ at + k → ⊥) → getD (written ms at 1 vs) j 0 ≡ getD ns j 0 =
+    λ j out. written-others ms at 1 vs j (λ k l m. out k m)
+    ∙ getD-set-other ns at j (r .task) 0 (λ q. out 0 (omega arith) (omega (arith, q))) in
     record {
       there = rw (
-        first ns at t p w b a e fits,
-        second ns at t p w b a e fits,
-        third ns at t p w b a e fits,
-        fourth ns at t p w b a e fits,
-        fifth ns at t p w b a e fits,
-        sixth ns at t p w b a e fits,
+        written-others ms at 1 vs at (λ k l m q. omega (arith, q)) ∙ getD-set-same ns at (r .task) 0 (omega arith),
+        there 0 (omega arith),
+        there 1 (omega arith),
+        there 2 (omega arith),
+        there 3 (omega arith),
+        there 4 (omega arith),
       );
-      others = λ k ne.
-          let apart : (c : ℕ) → c < 6 → (d : ℕ) → d < 6 → 6 * k + c ≡ at + d → ⊥ =
-          λ c lc d ld q. ne (omega (arith, q)) in
-          let kept-at : (c : ℕ) → c < 6 → getD (n6 ns at t p w b a e) (6 * k + c) 0 ≡ getD ns (6 * k + c) 0 =
-          λ c lc. kept ns at t p w b a e (6 * k + c) (apart c lc) in
-          rw (
-            kept ns at t p w b a e (6 * k) (λ d ld q. ne (omega (arith, q))),
-            kept-at 1 (omega arith),
-            kept-at 2 (omega arith),
-            kept-at 3 (omega arith),
-            kept-at 4 (omega arith),
-            kept-at 5 (omega arith),
-          );
-      long = long6 ns at t p w b a e;
+      others = λ k ne. rw (
+        others (6 * k) (λ d l q. ne (omega (arith, q))),
+        others (6 * k + 1) (λ d l q. ne (omega (arith, q))),
+        others (6 * k + 2) (λ d l q. ne (omega (arith, q))),
+        others (6 * k + 3) (λ d l q. ne (omega (arith, q))),
+        others (6 * k + 4) (λ d l q. ne (omega (arith, q))),
+        others (6 * k + 5) (λ d l q. ne (omega (arith, q))),
+      );
+      long = written-long ms at 1 vs ∙ long;
     }

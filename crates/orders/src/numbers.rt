@@ -1,4 +1,4 @@
-// Rows as numbers, six for each: task, period, worst, best, alpha, beta. So a search can be lent the rows without a copy.
+// Rows as numbers, six for each: task, period, worst, best, alpha, beta. So a search is lent the rows without a copy.
 ghost use mathlib.Core.Path.{_≡_};
 ghost use mathlib.Core.Bool.{true};
 ghost use Prim.Native.Nat.{_*_, _≤_, _<_};

@@ -24,7 +24,8 @@ use Rattle.tables.specs.declared.progress.Part.the-variants as P
 use Rattle.tables.specs.declared.progress.Progress.{Progress}
 use Rattle.tables.specs.Tables.{fieldCount, fieldAt, Fields, fields, fieldsFrom, rowOf}
 use Rattle.tables.specs.Reasons.{at-field, Passes}
-use Rattle.tables.specs.Steps.{numbers, withNumber, atMost, rowLineAt, progress, started, taken, readFrom, readPart}
+use Rattle.tables.specs.Steps.{numbers, withNumber, atMost, rowLineAt, progress, started, taken, readFrom}
+use Rattle.tables.specs.Steps.{readPart}
 use Rattle.tables.specs.Sections.{rowRead}
 use Rattle.tables.proofs.Accepted.{Good, good-next, good-row}
 use Rattle.tables.proofs.Parts.{task-line, task-told}

@@ -217,10 +217,10 @@ module _ (t : ℕ) where
   -- ---- settled
   settled-returns : settled-lts.Need-returns settled-calls settled-at settled.Post
   settled-returns c =
-      let s = c .before .before in
-      let p = s .pre .1 in
+      let a = c .before .before .args in
+      let p = c .before .before .pre .1 in
       rw (c .if1 .taken)
-      (settled-empty stable (take (s .args .n) (rowsIn (s .args .numbers .now))) (small (p .lent)) (s .args .sets .now) (p .recorded))
+      (settled-empty stable (take (a .n) (rowsIn (a .numbers .now))) (small (p .lent)) (a .sets .now) (p .recorded))
 
   settled-slice-read-known : settled-lts.Need-slice-read-known settled-calls settled-at settled.Post
   settled-slice-read-known c =
@@ -251,8 +251,8 @@ module _ (t : ℕ) where
       let a = s .args in
       let p = s .pre .1 in
       let w = c .before .before .lowest in
-      settled-new stable (take (a .n) (rowsIn (a .numbers .now))) (small (p .lent)) (w .last .1 .1 .1 .0) (w .ensures .recorded) (a .m)
-      (w .result) (a-set (p .lent) (a .m) (p .set)) (w .ensures .says) (w .ensures .rest)
+      settled-new stable (take (a .n) (rowsIn (a .numbers .now))) (small (p .lent)) (w .last .1 .1 .1 .0)
+      (w .ensures .recorded) (a .m) (w .result) (a-set (p .lent) (a .m) (p .set)) (w .ensures .says) (w .ensures .rest)
 
   settled-returns-3 : settled-lts.Need-returns-3 settled-calls settled-at settled.Post
   settled-returns-3 c =

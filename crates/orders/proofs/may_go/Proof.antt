@@ -33,8 +33,9 @@ shr-if1 c = search needs
 returns : tie.Need-returns
 returns c =
     let a = c .before .before .args in
+    let rows = rowsIn (a .numbers .now) in
     let out : a .m / 2 ^ a .i % 2 ≡ 1 → ⊥ = λ e. omega (arith, c .if1 .taken) in
-    stays-out (rowsIn (a .numbers .now)) (a .n) (a .m) (a .i) (sym (goes-out stable (take (a .n) (rowsIn (a .numbers .now))) (a .m) (a .i) out))
+    stays-out rows (a .n) (a .m) (a .i) (sym (goes-out stable (take (a .n) rows) (a .m) (a .i) out))
 
 power-requires : tie.Need-power-requires
 power-requires c κs = search needs

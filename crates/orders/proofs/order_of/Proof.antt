@@ -1,6 +1,6 @@
 -- `order_of` meets its contract: a walk of its MIR, by hand. A local array of numbers is lent to `put_rows`, which puts
--- the rows among them, and then to `order_in`, which does the work on them; each time for a lifetime that the walk makes.
--- All that the proof knows of `put_rows` and of `order_in` is that each meets its contract. Nothing of the parameter is
+-- the rows among them, and then to `order_in`, which searches them; each time for a lifetime that the walk makes. All
+-- that the proof knows of `put_rows` and of `order_in` is that each meets its contract. Nothing of the parameter is
 -- owned at exit (`stay-dropped`).
 use Rattle.rows.proofs.Walk.{_≡_, refl, ap, sym, subst, List, [], _∷_, length, take, ℕ, _<_, _^_, _*_, _≤_, URA, named}
 use Rattle.rows.proofs.Walk.{Val, SProp, ent, GName, Lft, Share, Fml, flent, ftrue, flft, froom, Memory, Routine, Heap}

@@ -1,5 +1,5 @@
--- `plan_order` writes an order's plan or keeps every byte. Where no rank is late the whole plan stands in the call's own
--- buffer, which every plan of rows in range fits, and is copied where it fits the caller's; else it is refusal 9.
+-- `plan_order` writes an order's plan or keeps every byte. Where no rank is late, the whole plan stands in the call's
+-- own buffer, which every plan of rows in range fits, and is copied where it fits the caller's; else it is refusal 9.
 use mathlib.Core.Path.{_≡_, sym, ap, _∙_}
 use mathlib.Core.List.{List, []}
 use Prim.Native.Nat.{ℕ, _≤_}

@@ -15,9 +15,9 @@ use Rattle.rows.proofs.Walk.{givenOf, goes-dropped, hasTy, imm, init, join, jum
 use Rattle.rows.proofs.Walk.{look, look-in, loops, move, named, no-more, nothing, of-opd, onEntry, owned, owns}
 use Rattle.rows.proofs.Walk.{params1, pass0, pass1, peeks, plain, qed, raw, refl, returns, rewrite, runs, says}
 use Rattle.rows.proofs.Walk.{shows, shr-slice-lawful, shr-slice-tells, shrSliceOf, skips, slice-vals}
-use Rattle.rows.proofs.Walk.{sliceTy, sliceVal, split, stay-dropped, stop, store, sub, subst, suffices, sym}
+use Rattle.rows.proofs.Walk.{sliceTy, sliceVal, split, stay-dropped, stop, store, sub, subst, suffices, sym, after}
 use Rattle.rows.proofs.Walk.{tables, tablesOf, tripleOf, true, tyBool, tyInt, tyRef, use0, use1, use2, walk-meets}
-use Rattle.rows.proofs.Walk.{after, walkOf, walked, whole, yes, ℕ, !, [], _$_, _-_, _<_, _∙_, _∵_, _∷_, _≡_, _≤_, _⊛_, ‵, ⋆}
+use Rattle.rows.proofs.Walk.{walkOf, walked, whole, yes, ℕ, !, [], _$_, _-_, _<_, _∙_, _∵_, _∷_, _≡_, _≤_, _⊛_, ‵, ⋆}
 use contract.Lifetimes.{Lfts}
 use denote.Builtin.{u8}
 use denote.RattleType.{RattleType}
