@@ -8,3 +8,4 @@ pub mod Traces
 pub mod Ranks
 pub mod Windows
 pub mod Kept
+pub mod Runs

@@ -51,6 +51,12 @@ newJob need r offset t = record { release = t; needs = need ((t - offset) / r .p
 abbrev pub withRelease : (ℕ → ℕ) → Row → ℕ → ℕ → List Job → List Job
 withRelease need r offset t q = pick (releases r offset t) (q ++ (newJob need r offset t ∷ [])) q
 
+-- a queue with a job is a rank's
+pub queue-there : (qs : List (List Job)) (j : ℕ) (x : Job) (q : List Job) → queueAt qs j ≡ x ∷ q → j < length qs
+queue-there [] j x q e = absurd (let z : _≡_ {A = ℕ} 0 1 = cc in omega arith)
+queue-there (p ∷ qs) zero x q e = omega arith
+queue-there (p ∷ qs) (suc j) x q e = omega (arith, queue-there qs j x q e)
+
 -- ---- no jobs
 pub length-none : (order : List Row) → length (noJobs order) ≡ length order
 length-none [] = refl

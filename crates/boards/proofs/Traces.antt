@@ -22,7 +22,7 @@ use Rattle.boards.proofs.Service.{mark, service, service-step, served-b
 use Rattle.boards.proofs.Queues.{queueAt, HasJob, turn, worked, workedAt, finishing, newJob}
 use Rattle.boards.proofs.Queues.{length-none, none-at, length-released, released-at, turn-after, turn-at}
 use Rattle.boards.proofs.Queues.{work-is, length-worked, worked-same, worked-other}
-use Rattle.boards.proofs.Queues.{finishes-is, done-append, ends-tick, tick-ends}
+use Rattle.boards.proofs.Queues.{queue-there, finishes-is, done-append, ends-tick, tick-ends}
 use Rattle.boards.proofs.Backlog.{Oldest, Backlog, backlog-release, backlog-under, backlog-worked}
 
 module _ (order : List Row) (offset : ℕ → ℕ) where
@@ -157,6 +157,15 @@ module _ (order : List Row) (offset : ℕ → ℕ) where
       finished-by i r f (suc t) e = elim (finished-cases i r f t e) [
         | inl d ↦ omega (arith, finished-by i r f t d)
         | inr d ↦ le-of-eq (ends-tick (queuesIn t) (runsIn t) i r f t d .0 .finish-is)
+      ]
+
+      pub finished-rank : (i r f t : ℕ) → isDone i r f (finishedBefore t) ≡ true → i < length order
+      finished-rank i r f zero e = absurd (true-not-false false e refl)
+      finished-rank i r f (suc t) e = elim (finished-cases i r f t e) [
+        | inl d ↦ finished-rank i r f t d
+        | inr d ↦ (
+            let n = ends-tick (queuesIn t) (runsIn t) i r f t d .0 in
+            omega (arith, queue-there (queuesIn t) i (n .job) (n .others) (n .is), ranks-in t))
       ]
 
       -- the tick that completes the work of job k finishes it

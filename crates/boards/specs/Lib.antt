@@ -1,3 +1,4 @@
 -- A board tick by tick, and what is claimed of every run of it.
 pub mod Boards
 pub mod Claims
+pub mod Runs
