@@ -1,5 +1,6 @@
 -- The demands of every text, the starred cases, and what the calls plan.
 pub mod Outcomes
+pub mod Texts
 pub mod Promised
 pub mod Planned
 pub mod Reviewed

@@ -2,7 +2,6 @@
 use mathlib.Core.Path.{_≡_, refl, sym, ap, ap₂, _∙_}
 use mathlib.Core.Bool.{true, false, _&&_}
 use mathlib.Core.List.{List}
-use mathlib.Core.Logic.{inl, inr}
 use mathlib.Core.Option.{Option, none, some}
 use Prim.Native.Nat.{ℕ}
 use lib.Dec.{eqb}
@@ -25,28 +24,18 @@ use Rattle.orders.proofs.Possible.{possible-length}
 use Rattle.orders.proofs.Scan.{some-of}
 use Rattle.orders.proofs.Tasks.{rows-for}
 use Rattle.boards.specs.Claims.{NoneLate}
-use Rattle.plans.specs.Entries.{firstLate}
 use Rattle.plans.specs.Outcomes.{refuses, planOf, ifInTime}
-use Rattle.plans.proofs.Entries.{first-late-some}
 use Rattle.plans.proofs.Outcomes.{timely-outcome}
 use Rattle.ranks.specs.Calls.{ifOrdered, planned, givenOrder, reviewed}
-use Rattle.ranks.specs.Demands.{Accepts}
-use Rattle.ranks.proofs.Outcomes.{zero-or-more, on-accepted}
+use Rattle.ranks.proofs.Texts.{Accepts}
+use Rattle.ranks.proofs.Outcomes.{on-accepted}
 use Rattle.ranks.proofs.Planned as Planned
 use Rattle.ranks.proofs.Reviewed as Reviewed
 use Rattle.ranks.proofs.Readings.{padded-front, count-is, rows-front, board-is}
 
-none-late-first : (order : List Row) → NoneLate order → firstLate order ≡ 0
-none-late-first order h = elim (zero-or-more (firstLate order)) [
-  | inl e ↦ e
-  | inr e ↦ (
-      let l = first-late-some order (e .0) (e .1) in
-      absurd (true-not-false _ (l .late) (h (e .0) (l .there))))
-]
-
 in-time-plan : (room board : ℕ) (order : List Row) → NoneLate order
     → ifInTime room board order ≡ planOf room board order
-in-time-plan room board order h = timely-outcome room board order (none-late-first order h)
+in-time-plan room board order h = timely-outcome room board order (Reviewed.none-late-first order h)
 
 -- ---- the planner: what the search found
 module _ (text : List ℕ) (r : Reading) (is : r ≡ reading (readTable false text)) (ok : Accepts false text)

@@ -1,7 +1,7 @@
 -- The planner's demands, for every text and every room. A text is refused for its reason; an accepted one has rows in
 -- range with distinct tasks, so the order chosen is as the rule says, is stable, and so is kept on every board.
 use mathlib.Core.Path.{_≡_, refl, sym, ap, subst, _∙_}
-use mathlib.Core.Bool.{true, false, _||_, not}
+use mathlib.Core.Bool.{true, false, not}
 use mathlib.Core.List.{List, [], _∷_}
 use mathlib.Core.Logic.{inl, inr}
 use mathlib.Core.Option.{Option, none, some}
@@ -22,18 +22,21 @@ use Rattle.tables.proofs.Reasons.{read}
 use Rattle.responses.specs.Figures.{isLate, margin, isStable}
 use Rattle.orders.specs.Orders.{Chosen}
 use Rattle.orders.specs.Stability.{stable, chosenOrder}
+use Rattle.orders.proofs.Choice.{answer-of}
 use Rattle.orders.proofs.Possible.{possible-length, possible-passes}
 use Rattle.orders.proofs.Stable.{stable-at, chosen}
 use Rattle.boards.specs.Claims.{NoneLate}
 use Rattle.plans.specs.Entries.{entries}
 use Rattle.plans.specs.Plans.{planText, planRoom}
-use Rattle.plans.specs.Outcomes.{writes, refuses, fitted}
+use Rattle.plans.specs.Outcomes.{Outcome, writes, refuses, fitted}
 use Rattle.plans.proofs.Outcomes.{fits, fits-not}
 use Rattle.plans.proofs.Lengths.{plan-fits}
 use Rattle.ranks.specs.Calls.{ifOrdered, planned}
-use Rattle.ranks.specs.Demands.{Promised, Accepts, EveryOrderFails, entryAt, PlanDemands}
-use Rattle.ranks.proofs.Outcomes.{same-refusal, same-text, not-both, zero-or-more, on-accepted, on-refused}
-use Rattle.ranks.proofs.Outcomes.{listed-more}
+use Rattle.ranks.specs.Demands.{Promised, Tells, entryAt, plannerRefusals}
+use Rattle.ranks.specs.Demands.{EveryOrderFails, ByRule, TablePlan, PlanDemands}
+use Rattle.ranks.proofs.Outcomes.{same-refusal, not-both, zero-or-more, on-accepted, on-refused}
+use Rattle.ranks.proofs.Outcomes.{nine-is, written-is, listed-more}
+use Rattle.ranks.proofs.Texts.{Accepts, failing, telling, tells-only, refused-exactly}
 use Rattle.ranks.proofs.Promised.{promised}
 
 module _ (text : List ℕ) where
@@ -107,82 +110,122 @@ module _ (text : List ℕ) where
       | inr e ↦ refused (e .0) (e .1) (on-refused answer _ (e .0) (e .1))
     ]
 
-    -- a text's refusal has a number from 1 to 5, so it is no other
+    -- a text's refusal has a number from 1 to 5
     text-listed : (n : ℕ) → answer .refused ≡ suc n → isIn (suc n) (1 ∷ 2 ∷ 3 ∷ 4 ∷ 5 ∷ []) ≡ true
     text-listed n e =
         let r = read false text .reason n e in
         subst (λ k. isIn k (1 ∷ 2 ∷ 3 ∷ 4 ∷ 5 ∷ []) ≡ true) e (unranked-listed (r .before) (r .condition))
 
-    not-other : (n m : ℕ) → answer .refused ≡ suc n → suc n ≡ m → isIn m (1 ∷ 2 ∷ 3 ∷ 4 ∷ 5 ∷ []) ≡ false → ⊥
-    not-other n m e s h =
-        true-not-false (isIn m (1 ∷ 2 ∷ 3 ∷ 4 ∷ 5 ∷ []))
-        (subst (λ k. isIn k (1 ∷ 2 ∷ 3 ∷ 4 ∷ 5 ∷ []) ≡ true) s (text-listed n e)) h
-
-    -- ---- the demands, case by case
-    listed : Cases → (n p : ℕ) → planned text room ≡ refuses n p → isIn n (1 ∷ 2 ∷ 3 ∷ 4 ∷ 5 ∷ 8 ∷ 9 ∷ []) ≡ true
+    listed : Cases → (n p : ℕ) → planned text room ≡ refuses n p → isIn n plannerRefusals ≡ true
     listed (refused m r is) n p e =
-        subst (λ k. isIn k (1 ∷ 2 ∷ 3 ∷ 4 ∷ 5 ∷ 8 ∷ 9 ∷ []) ≡ true) (same-refusal (sym is ∙ e) .0)
+        subst (λ k. isIn k plannerRefusals ≡ true) (same-refusal (sym is ∙ e) .0)
         (listed-more (suc m) (1 ∷ 2 ∷ 3 ∷ 4 ∷ 5 ∷ []) (8 ∷ 9 ∷ []) (text-listed m r))
-    listed (unordered a o is) n p e =
-        subst (λ k. isIn k (1 ∷ 2 ∷ 3 ∷ 4 ∷ 5 ∷ 8 ∷ 9 ∷ []) ≡ true) (same-refusal (sym is ∙ e) .0) refl
-    listed (short a order o h is) n p e =
-        subst (λ k. isIn k (1 ∷ 2 ∷ 3 ∷ 4 ∷ 5 ∷ 8 ∷ 9 ∷ []) ≡ true) (same-refusal (sym is ∙ e) .0) refl
+    listed (unordered a o is) n p e = subst (λ k. isIn k plannerRefusals ≡ true) (same-refusal (sym is ∙ e) .0) refl
+    listed (short a order o h is) n p e = subst (λ k. isIn k plannerRefusals ≡ true) (same-refusal (sym is ∙ e) .0) refl
     listed (written a order o h is) n p e = absurd (not-both (sym is ∙ e))
 
-    record Short (p : ℕ) : Type 0 where
-      accepts : Accepts false text
-      order : List Row
-      order-is : chosenOrder (answer .rows) ≡ some order
-      place-is : p ≡ 0
-      no-room : room < length (planFor order)
+    -- ---- an accepted table's outcome, by the order chosen
+    abbrev onRows : Outcome
+    onRows = ifOrdered room (answer .board) (chosenOrder (answer .rows))
 
-    nine-only : Cases → (p : ℕ) → planned text room ≡ refuses 9 p → Short p
-    nine-only (refused m r is) p e = absurd (not-other m 9 r (same-refusal (sym is ∙ e) .0) refl)
-    nine-only (unordered a o is) p e = absurd (let z : _≡_ {A = ℕ} 8 9 = same-refusal (sym is ∙ e) .0 in omega arith)
-    nine-only (short a order o h is) p e = record {
-      accepts = a;
-      order = order;
-      order-is = o;
-      place-is = sym (same-refusal (sym is ∙ e) .1);
-      no-room = h;
-    }
-    nine-only (written a order o h is) p e = absurd (not-both (sym is ∙ e))
-
-    eight-only : Cases → (p : ℕ) → planned text room ≡ refuses 8 p → (p ≡ 0) × EveryOrderFails (answer .rows)
-    eight-only (refused m r is) p e = absurd (not-other m 8 r (same-refusal (sym is ∙ e) .0) refl)
-    eight-only (unordered a o is) p e = (sym (same-refusal (sym is ∙ e) .1), choice a .none-passes o)
-    eight-only (short a order o h is) p e =
-        absurd (let z : _≡_ {A = ℕ} 9 8 = same-refusal (sym is ∙ e) .0 in omega arith)
-    eight-only (written a order o h is) p e = absurd (not-both (sym is ∙ e))
-
-    eight-if : Accepts false text → EveryOrderFails (answer .rows) → planned text room ≡ refuses 8 0
+    unordered-is : chosenOrder (answer .rows) ≡ none → onRows ≡ refuses 8 0
     unfolding ifOrdered
-    eight-if a h =
-        on-accepted answer (ifOrdered room (answer .board) (chosenOrder (answer .rows))) a
-        ∙ ap (ifOrdered room (answer .board)) (choice a .none-only h)
+    unordered-is o = ap (ifOrdered room (answer .board)) o
 
-    writes-only :
-        Cases → (t : List ℕ) → planned text room ≡ writes t
-        → (order : List Row) × (chosenOrder (answer .rows) ≡ some order) × (t ≡ planFor order) × (length t ≤ room)
-    writes-only (refused m r is) t e = absurd (not-both (sym e ∙ is))
-    writes-only (unordered a o is) t e = absurd (not-both (sym e ∙ is))
-    writes-only (short a order o h is) t e = absurd (not-both (sym e ∙ is))
-    writes-only (written a order o h is) t e =
-        let same = same-text (sym e ∙ is) in
-        (order, o, same, omega (arith, h, ap length same))
+    ordered-is : (order : List Row) → chosenOrder (answer .rows) ≡ some order → onRows ≡ fitted room (planFor order)
+    unfolding ifOrdered
+    ordered-is order o = ap (ifOrdered room (answer .board)) o
 
-    pub plan-demands : PlanDemands text room
+    high : (n k : ℕ) → onRows ≡ refuses n k → 7 ≤ n
+    high n k e = elim (answer-of (chosenOrder (answer .rows))) [
+      | inr o ↦ omega (arith, same-refusal (sym (unordered-is o) ∙ e) .0)
+      | inl o ↦ elim (le-or-lt (length (planFor (o .0))) room) [
+        | inl h ↦ absurd (not-both (sym (ordered-is (o .0) (o .1) ∙ fits room (planFor (o .0)) h) ∙ e))
+        | inr h ↦ omega (arith, same-refusal (sym (ordered-is (o .0) (o .1) ∙ fits-not room (planFor (o .0)) h) ∙ e) .0)
+      ]
+    ]
+
+    module _ (ok : Accepts false text) where
+      on-rows : planned text room ≡ onRows
+      on-rows = on-accepted answer onRows ok
+
+      -- the order by the rule is the one chosen
+      by-rule : (order : List Row) → ByRule (answer .rows) order → chosenOrder (answer .rows) ≡ some order
+      by-rule order r = elim (answer-of (chosenOrder (answer .rows))) [
+        | inr o ↦ absurd (true-not-false _ (r .is-stable) (choice ok .none-passes o order (r .possible)))
+        | inl o ↦ (
+            let os = o .0 in
+            let possible = choice ok .is-possible os (o .1) in
+            let before = choice ok .by-rule os order (o .1) (r .possible) (r .is-stable) in
+            let after = r .not-after os possible (choice ok .is-passing os (o .1)) in
+            o .1 ∙ ap some (choice ok .one-only os order possible (r .possible) before after))
+      ]
+
+      pub rule-of : (order : List Row) → chosenOrder (answer .rows) ≡ some order → ByRule (answer .rows) order
+      rule-of order o = record {
+        possible = choice ok .is-possible order o;
+        is-stable = choice ok .is-passing order o;
+        not-after = λ os possible passing. choice ok .by-rule order os o possible passing;
+      }
+
+      eight-only : planned text room ≡ refuses 8 0 → EveryOrderFails (answer .rows)
+      eight-only e = elim (answer-of (chosenOrder (answer .rows))) [
+        | inr o ↦ choice ok .none-passes o
+        | inl o ↦ elim (le-or-lt (length (planFor (o .0))) room) [
+          | inl h ↦ absurd (not-both
+              (sym (on-rows ∙ (ordered-is (o .0) (o .1) ∙ fits room (planFor (o .0)) h)) ∙ e))
+          | inr h ↦ absurd (
+              let nine = on-rows ∙ (ordered-is (o .0) (o .1) ∙ fits-not room (planFor (o .0)) h) in
+              let z : _≡_ {A = ℕ} 9 8 = same-refusal (sym nine ∙ e) .0 in omega arith)
+        ]
+      ]
+
+      table-plan : TablePlan room (answer .board) (answer .rows) (planned text room)
+      table-plan = record {
+        eight = (eight-only, λ h. on-rows ∙ unordered-is (choice ok .none-only h));
+        ordered = λ order r.
+            let o = by-rule order r in
+            let is = on-rows ∙ ordered-is order o in
+            record {
+              nine = nine-is room (planFor order) (planned text room) is;
+              written = written-is room (planFor order) (planned text room) is;
+              promised = order-promised ok order o;
+            };
+        margins = λ order r. order-margins ok order (by-rule order r);
+        chosen = choice ok;
+      }
+
+    has-room : Cases → planRoom ≤ room → (p : ℕ) → planned text room ≡ refuses 9 p → ⊥
+    has-room (refused m r is) h p e =
+        true-not-false (isIn 9 (1 ∷ 2 ∷ 3 ∷ 4 ∷ 5 ∷ []))
+        (subst (λ k. isIn k (1 ∷ 2 ∷ 3 ∷ 4 ∷ 5 ∷ []) ≡ true) (same-refusal (sym is ∙ e) .0) (text-listed m r)) refl
+    has-room (unordered a o is) h p e = let z : _≡_ {A = ℕ} 8 9 = same-refusal (sym is ∙ e) .0 in omega arith
+    has-room (short a order o l is) h p e = omega (arith, order-fits a order o)
+    has-room (written a order o l is) h p e = not-both (sym is ∙ e)
+
+    pub plan-demands : PlanDemands text room (planned text room)
     plan-demands = record {
       read = read false text;
       listed = listed cases;
-      nine-only = λ p e. let s = nine-only cases p e in (s .order, s .order-is, s .place-is, s .no-room);
-      eight-only = eight-only cases;
-      eight-if = eight-if;
-      chosen = choice;
-      writes-only = writes-only cases;
-      promised = order-promised;
-      margins = order-margins;
-      has-room = λ h p e.
-          let s = nine-only cases p e in
-          omega (arith, s .no-room, order-fits (s .accepts) (s .order) (s .order-is));
+      refused = refused-exactly false text onRows high;
+      accepted = λ b rows t.
+          let is = tells-only false text b rows [] t in
+          subst (λ (a : Answer). TablePlan room (a .board) (a .rows) (planned text room)) is
+          (table-plan (ap (λ (a : Answer). a .refused) is));
+      has-room = has-room cases;
     }
+
+    -- ---- the demands decide: the outcome that meets them is the call's
+    module _ (w : Outcome) (d : PlanDemands text room w) where
+      told : Accepts false text → TablePlan room (answer .board) (answer .rows) w
+      told a = d .accepted (answer .board) (answer .rows)
+          (subst (Tells false text (answer .board) (answer .rows)) (sound a .no-ranks refl) (telling false text a))
+
+      only : Cases → w ≡ planned text room
+      only (refused n r is) = d .refused (suc n) (answer .line) .1 (failing false text n r) .0 ∙ sym is
+      only (unordered a o is) = told a .eight .1 (choice a .none-passes o) ∙ sym is
+      only (short a order o h is) = told a .ordered order (rule-of a order o) .nine .1 h ∙ sym is
+      only (written a order o h is) = told a .ordered order (rule-of a order o) .written .1 h ∙ sym is
+
+      pub decided : w ≡ planned text room
+      decided = only cases

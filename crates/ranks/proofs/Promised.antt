@@ -13,8 +13,9 @@ use Rattle.responses.specs.Claims.{Figured}
 use Rattle.responses.proofs.Responses.{figured}
 use Rattle.boards.specs.Claims.{LastsInRange, Kept, latestAt, earliestAt, NoneLate}
 use Rattle.boards.proofs.Kept as Boards
+use Rattle.boards.proofs.Runs.{board-runs}
 use Rattle.plans.specs.Entries.{entry, noEntry}
-use Rattle.plans.proofs.Entries.{entry-at}
+use Rattle.plans.proofs.Entries.{entries-length, entry-at}
 use Rattle.ranks.specs.Demands.{entryAt, Promised}
 
 module _ (order : List Row) (ok : allRows inRange order ≡ true) (in-time : NoneLate order) where
@@ -46,4 +47,10 @@ module _ (order : List Row) (ok : allRows inRange order ≡ true) (in-time : Non
       }
 
   pub promised : Promised order
-  promised = record { entry-is = entry-is; by-formulas = by-formulas; kept = kept }
+  promised = record {
+    as-many = entries-length [] order;
+    entry-is = entry-is;
+    by-formulas = by-formulas;
+    by-rules = λ offset need lasts. board-runs order offset need times-ok lasts;
+    kept = kept;
+  }

@@ -3,7 +3,6 @@
 use mathlib.Core.Path.{_≡_, sym, ap, subst, _∙_}
 use mathlib.Core.Bool.{Bool}
 use mathlib.Core.List.{List, []}
-use mathlib.Core.Logic.{inl, inr}
 use Prim.Native.Nat.{ℕ, _-_, _≤_}
 use native.Mathlib.Omega.{arith}
 use lib.ListN.{length, take, replicate}
@@ -17,20 +16,12 @@ use Rattle.tables.proofs.Reasons.{read}
 use Rattle.orders.specs.Search.{Table, Lent}
 use Rattle.plans.specs.Outcomes.{Outcome, refuses}
 use Rattle.ranks.specs.Calls.{onTable}
-use Rattle.ranks.specs.Demands.{Accepts}
-use Rattle.ranks.proofs.Outcomes.{zero-or-more, on-refused}
+use Rattle.ranks.proofs.Texts.{Accepts}
+use Rattle.ranks.proofs.Outcomes.{on-turned-down}
 
 -- the front of an array that is filled up
 pub padded-front : {A : Type 0} (d : A) (xs : List A) → take (length xs) (padded d xs) ≡ xs
 padded-front d xs = take-append-seam xs (replicate (maxTasks - length xs) d)
-
--- a text's refusal is the call's
-pub refused-call : (a : Answer) (next : Outcome) → (a .refused ≡ 0 → ⊥)
-    → onTable a next ≡ refuses (a .refused) (a .line)
-refused-call a next h = elim (zero-or-more (a .refused)) [
-  | inl e ↦ absurd (h e)
-  | inr e ↦ on-refused a next (e .0) (e .1) ∙ ap (λ (n : ℕ). refuses n (a .line)) (sym (e .1))
-]
 
 module _ (ranked : Bool) (text : List ℕ) (r : Reading) (is : r ≡ reading (readTable ranked text)) where
   abbrev answer : Answer
@@ -44,7 +35,7 @@ module _ (ranked : Bool) (text : List ℕ) (r : Reading) (is : r ≡ reading (re
 
   pub refusal-is : (next : Outcome) → (r .refused ≡ 0 → ⊥) → onTable answer next ≡ refuses (r .refused) (r .line)
   refusal-is next h =
-      refused-call answer next (λ e. h (refused-is ∙ e))
+      on-turned-down answer next (λ e. h (refused-is ∙ e))
       ∙ ap (λ (x : Reading). refuses (x .refused) (x .line)) (sym is)
 
   pub count-is : r .table .count ≡ length (answer .rows)

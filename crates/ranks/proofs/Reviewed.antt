@@ -1,35 +1,45 @@
 -- The reviewer's demands, for every text and every room. The rank lines of an accepted text make a possible order, so
 -- its rows are in range; where none of them is late, the figures written are by the formulas and kept on every board.
 use mathlib.Core.Path.{_≡_, refl, sym, ap, subst, _∙_}
-use mathlib.Core.Bool.{true, false}
+use mathlib.Core.Bool.{true}
 use mathlib.Core.List.{List, [], _∷_}
 use mathlib.Core.Logic.{inl, inr}
 use Prim.Native.Nat.{ℕ, suc, _≤_, _<_}
 use native.Mathlib.Omega.{arith}
-use lib.ListN.{length}
+use lib.ListN.{length, take}
 use Rattle.basics.specs.Basics.{isIn}
 use Rattle.basics.proofs.Tests.{true-not-false, le-or-lt}
-use Rattle.rows.specs.Rows.{inRange, allRows, tasksOf}
+use Rattle.rows.specs.Rows.{inRange, allRows, tasksOf, rowsFor, rowAt}
 use Rattle.rows.specs.declared.Row.{Row}
 use Rattle.tables.specs.Tables.{Answer, readTable}
 use Rattle.tables.specs.Claims.{Accepted}
 use Rattle.tables.proofs.Numbers.{number-listed}
 use Rattle.tables.proofs.Reasons.{read}
+use Rattle.responses.specs.Figures.{isLate}
 use Rattle.orders.specs.Orders.{Possible}
 use Rattle.orders.proofs.Possible.{possible-length, possible-passes}
-use Rattle.orders.proofs.Tasks.{possible-tasks}
+use Rattle.orders.proofs.Tasks.{possible-tasks, rows-for}
 use Rattle.boards.specs.Claims.{NoneLate}
 use Rattle.plans.specs.Entries.{entries, firstLate}
 use Rattle.plans.specs.Plans.{planText, planRoom}
-use Rattle.plans.specs.Outcomes.{writes, refuses, fitted}
+use Rattle.plans.specs.Outcomes.{Outcome, writes, refuses, fitted, ifInTime}
 use Rattle.plans.proofs.Outcomes.{fits, fits-not, late-outcome, timely-outcome}
-use Rattle.plans.proofs.Entries.{FirstLate, first-late-none, first-late-some}
+use Rattle.plans.proofs.Entries.{first-late-none, first-late-some}
 use Rattle.plans.proofs.Lengths.{plan-fits}
 use Rattle.ranks.specs.Calls.{givenOrder, reviewed}
-use Rattle.ranks.specs.Demands.{Promised, Accepts, ReviewDemands}
-use Rattle.ranks.proofs.Outcomes.{same-refusal, same-text, not-both, zero-or-more, on-accepted, on-refused}
-use Rattle.ranks.proofs.Outcomes.{listed-more}
+use Rattle.ranks.specs.Demands.{Promised, reviewerRefusals, Given, FirstLate, OrderReview, ReviewDemands}
+use Rattle.ranks.proofs.Outcomes.{same-refusal, not-both, zero-or-more, on-accepted, on-refused}
+use Rattle.ranks.proofs.Outcomes.{nine-is, written-is, listed-more}
+use Rattle.ranks.proofs.Texts.{Accepts, failing, telling, tells-only, refused-exactly}
 use Rattle.ranks.proofs.Promised.{promised}
+
+pub none-late-first : (order : List Row) → NoneLate order → firstLate order ≡ 0
+none-late-first order h = elim (zero-or-more (firstLate order)) [
+  | inl e ↦ e
+  | inr e ↦ (
+      let l = first-late-some order (e .0) (e .1) in
+      absurd (true-not-false _ (l .late) (h (e .0) (l .there))))
+]
 
 module _ (text : List ℕ) where
   abbrev answer : Answer
@@ -64,9 +74,32 @@ module _ (text : List ℕ) where
     abbrev plan : List ℕ
     plan = planText (answer .board) (entries order)
 
+    -- the first late rank is the one that is noted
+    first-of : (k : ℕ) → firstLate order ≡ suc k → FirstLate order k
+    first-of k e =
+        let l = first-late-some order k e in
+        record { there = l .there; late = l .late; above-in-time = l .above-in-time }
+
+    first-is : (k : ℕ) → FirstLate order k → firstLate order ≡ suc k
+    first-is k l = elim (zero-or-more (firstLate order)) [
+      | inl z ↦ absurd (true-not-false _ (l .late) (first-late-none order z k (l .there)))
+      | inr e ↦ (
+          let n = first-of (e .0) (e .1) in
+          let low = not-lower (e .0) k (n .late) l in
+          let high = not-lower k (e .0) (l .late) n in
+          omega (arith, e .1))
+    ]
+      where
+        -- a late rank is not above the first
+        not-lower : (i j : ℕ) → isLate (rowAt order i) (take i order) ≡ true → FirstLate order j → j ≤ i
+        not-lower i j late f = elim (le-or-lt j i) [
+          | inl h ↦ h
+          | inr h ↦ absurd (true-not-false _ late (f .above-in-time i h))
+        ]
+
     data Cases : Type 0 where
       refused : (n : ℕ) → answer .refused ≡ suc n → reviewed text room ≡ refuses (suc n) (answer .line) → Cases
-      late : (k : ℕ) → FirstLate [] order k → reviewed text room ≡ refuses 7 (suc k) → Cases
+      late : Accepts true text → (k : ℕ) → FirstLate order k → reviewed text room ≡ refuses 7 (suc k) → Cases
       short : Accepts true text → NoneLate order → room < length plan → reviewed text room ≡ refuses 9 0 → Cases
       written : Accepts true text → NoneLate order → length plan ≤ room → reviewed text room ≡ writes plan → Cases
 
@@ -83,7 +116,7 @@ module _ (text : List ℕ) where
               ]
           | inr l ↦
               let is = late-outcome room (answer .board) order (suc (l .0)) (l .1) (λ e. omega (arith, e)) in
-              late (l .0) (first-late-some order (l .0) (l .1)) (on-accepted answer _ a ∙ is)
+              late a (l .0) (first-of (l .0) (l .1)) (on-accepted answer _ a ∙ is)
         ]
 
     cases : Cases
@@ -92,70 +125,120 @@ module _ (text : List ℕ) where
       | inr e ↦ refused (e .0) (e .1) (on-refused answer _ (e .0) (e .1))
     ]
 
-    -- a text's refusal has a number from 1 to 6, so it is no other
+    -- a text's refusal has a number from 1 to 6
     text-listed : (n : ℕ) → answer .refused ≡ suc n → isIn (suc n) (1 ∷ 2 ∷ 3 ∷ 4 ∷ 5 ∷ 6 ∷ []) ≡ true
     text-listed n e =
         subst (λ k. isIn k (1 ∷ 2 ∷ 3 ∷ 4 ∷ 5 ∷ 6 ∷ []) ≡ true) e
         (number-listed (read true text .reason n e .condition))
 
-    not-other : (n m : ℕ) → answer .refused ≡ suc n → suc n ≡ m → isIn m (1 ∷ 2 ∷ 3 ∷ 4 ∷ 5 ∷ 6 ∷ []) ≡ false → ⊥
-    not-other n m e s h =
-        true-not-false (isIn m (1 ∷ 2 ∷ 3 ∷ 4 ∷ 5 ∷ 6 ∷ []))
-        (subst (λ k. isIn k (1 ∷ 2 ∷ 3 ∷ 4 ∷ 5 ∷ 6 ∷ []) ≡ true) s (text-listed n e)) h
-
-    -- ---- the demands, case by case
-    listed : Cases → (n p : ℕ) → reviewed text room ≡ refuses n p
-        → isIn n (1 ∷ 2 ∷ 3 ∷ 4 ∷ 5 ∷ 6 ∷ 7 ∷ 9 ∷ []) ≡ true
+    listed : Cases → (n p : ℕ) → reviewed text room ≡ refuses n p → isIn n reviewerRefusals ≡ true
     listed (refused m r is) n p e =
-        subst (λ k. isIn k (1 ∷ 2 ∷ 3 ∷ 4 ∷ 5 ∷ 6 ∷ 7 ∷ 9 ∷ []) ≡ true) (same-refusal (sym is ∙ e) .0)
+        subst (λ k. isIn k reviewerRefusals ≡ true) (same-refusal (sym is ∙ e) .0)
         (listed-more (suc m) (1 ∷ 2 ∷ 3 ∷ 4 ∷ 5 ∷ 6 ∷ []) (7 ∷ 9 ∷ []) (text-listed m r))
-    listed (late k l is) n p e =
-        subst (λ k. isIn k (1 ∷ 2 ∷ 3 ∷ 4 ∷ 5 ∷ 6 ∷ 7 ∷ 9 ∷ []) ≡ true) (same-refusal (sym is ∙ e) .0) refl
-    listed (short a t h is) n p e =
-        subst (λ k. isIn k (1 ∷ 2 ∷ 3 ∷ 4 ∷ 5 ∷ 6 ∷ 7 ∷ 9 ∷ []) ≡ true) (same-refusal (sym is ∙ e) .0) refl
+    listed (late a k l is) n p e = subst (λ k. isIn k reviewerRefusals ≡ true) (same-refusal (sym is ∙ e) .0) refl
+    listed (short a t h is) n p e = subst (λ k. isIn k reviewerRefusals ≡ true) (same-refusal (sym is ∙ e) .0) refl
     listed (written a t h is) n p e = absurd (not-both (sym is ∙ e))
 
-    seven-only : Cases → (k : ℕ) → reviewed text room ≡ refuses 7 (suc k) → FirstLate [] order k
-    seven-only (refused m r is) k e = absurd (not-other m 7 r (same-refusal (sym is ∙ e) .0) refl)
-    seven-only (late j l is) k e =
-        let same : j ≡ k = omega (arith, same-refusal (sym is ∙ e) .1) in
-        subst (FirstLate [] order) same l
-    seven-only (short a t h is) k e =
-        absurd (let z : _≡_ {A = ℕ} 9 7 = same-refusal (sym is ∙ e) .0 in omega arith)
-    seven-only (written a t h is) k e = absurd (not-both (sym is ∙ e))
+    -- ---- an accepted text's outcome, by the first late rank
+    abbrev onOrder : Outcome
+    onOrder = ifInTime room (answer .board) order
 
-    record Short (p : ℕ) : Type 0 where
-      accepts : Accepts true text
-      pub in-time : NoneLate order
-      place-is : p ≡ 0
-      no-room : room < length plan
+    high : (n k : ℕ) → onOrder ≡ refuses n k → 7 ≤ n
+    high n k e = elim (zero-or-more (firstLate order)) [
+      | inl z ↦ (
+          let is = timely-outcome room (answer .board) order z in
+          elim (le-or-lt (length plan) room) [
+            | inl h ↦ absurd (not-both (sym (is ∙ fits room plan h) ∙ e))
+            | inr h ↦ omega (arith, same-refusal (sym (is ∙ fits-not room plan h) ∙ e) .0)
+          ])
+      | inr l ↦ (
+          let is = late-outcome room (answer .board) order (suc (l .0)) (l .1) (λ e. omega (arith, e)) in
+          omega (arith, same-refusal (sym is ∙ e) .0))
+    ]
 
-    nine-only : Cases → (p : ℕ) → reviewed text room ≡ refuses 9 p → Short p
-    nine-only (refused m r is) p e = absurd (not-other m 9 r (same-refusal (sym is ∙ e) .0) refl)
-    nine-only (late k l is) p e = absurd (let z : _≡_ {A = ℕ} 7 9 = same-refusal (sym is ∙ e) .0 in omega arith)
-    nine-only (short a t h is) p e =
-        record { accepts = a; in-time = t; place-is = sym (same-refusal (sym is ∙ e) .1); no-room = h }
-    nine-only (written a t h is) p e = absurd (not-both (sym is ∙ e))
+    module _ (ok : Accepts true text) where
+      on-order : reviewed text room ≡ onOrder
+      on-order = on-accepted answer onOrder ok
 
-    writes-only :
-        Cases → (t : List ℕ) → reviewed text room ≡ writes t → (t ≡ plan) × (length t ≤ room) × Promised order
-    writes-only (refused m r is) t e = absurd (not-both (sym e ∙ is))
-    writes-only (late k l is) t e = absurd (not-both (sym e ∙ is))
-    writes-only (short a n h is) t e = absurd (not-both (sym e ∙ is))
-    writes-only (written a n h is) t e =
-        let same = same-text (sym e ∙ is) in
-        (same, omega (arith, h, ap length same), order-promised a n)
+      timely : firstLate order ≡ 0 → reviewed text room ≡ fitted room plan
+      timely z = on-order ∙ timely-outcome room (answer .board) order z
 
-    pub review-demands : ReviewDemands text room
+      seven-only : (k : ℕ) → reviewed text room ≡ refuses 7 (suc k) → FirstLate order k
+      seven-only k e = elim (zero-or-more (firstLate order)) [
+        | inl z ↦ absurd (elim (le-or-lt (length plan) room) [
+          | inl h ↦ not-both (sym (timely z ∙ fits room plan h) ∙ e)
+          | inr h ↦ (
+              let z : _≡_ {A = ℕ} 9 7 = same-refusal (sym (timely z ∙ fits-not room plan h) ∙ e) .0 in omega arith)
+        ])
+        | inr l ↦ (
+            let is = late-outcome room (answer .board) order (suc (l .0)) (l .1) (λ e. omega (arith, e)) in
+            let same : l .0 ≡ k = omega (arith, same-refusal (sym (on-order ∙ is) ∙ e) .1) in
+            subst (FirstLate order) same (first-of (l .0) (l .1)))
+      ]
+
+      order-review : OrderReview room (answer .board) order (reviewed text room)
+      order-review = record {
+        seven = λ k. (
+          seven-only k,
+          λ l.
+              let at = first-is k l in
+              on-order ∙ late-outcome room (answer .board) order (suc k) at (λ e. omega (arith, e)),
+        );
+        in-time = λ t.
+            let is = timely (none-late-first order t) in
+            record {
+              nine = nine-is room plan (reviewed text room) is;
+              written = written-is room plan (reviewed text room) is;
+              promised = order-promised ok t;
+            };
+      }
+
+      -- no other order is given
+      given-only : (os : List Row) → Given (answer .rows) (answer .order) os → order ≡ os
+      given-only os g =
+          ap (λ (ts : List ℕ). rowsFor ts (answer .rows)) (sym (g .tasks-are))
+          ∙ rows-for (sound ok .rows-distinct) (g .possible)
+
+      is-given : Given (answer .rows) (answer .order) order
+      is-given = record { possible = is-possible ok .0; tasks-are = is-possible ok .1 }
+
+    has-room : Cases → planRoom ≤ room → (p : ℕ) → reviewed text room ≡ refuses 9 p → ⊥
+    has-room (refused m r is) h p e =
+        true-not-false (isIn 9 (1 ∷ 2 ∷ 3 ∷ 4 ∷ 5 ∷ 6 ∷ []))
+        (subst (λ k. isIn k (1 ∷ 2 ∷ 3 ∷ 4 ∷ 5 ∷ 6 ∷ []) ≡ true) (same-refusal (sym is ∙ e) .0) (text-listed m r)) refl
+    has-room (late a k l is) h p e = let z : _≡_ {A = ℕ} 7 9 = same-refusal (sym is ∙ e) .0 in omega arith
+    has-room (short a t l is) h p e = omega (arith, order-fits a t)
+    has-room (written a t l is) h p e = not-both (sym is ∙ e)
+
+    pub review-demands : ReviewDemands text room (reviewed text room)
     review-demands = record {
       read = read true text;
       listed = listed cases;
-      possible = λ a. is-possible a .0;
-      tasks-are = λ a. is-possible a .1;
-      seven-only = λ k e. let l = seven-only cases k e in (l .there, l .late, l .above-in-time);
-      nine-only = λ p e. let s = nine-only cases p e in (s .place-is, s .no-room);
-      writes-only = writes-only cases;
-      has-room = λ h p e.
-          let s = nine-only cases p e in
-          omega (arith, s .no-room, order-fits (s .accepts) (s .in-time));
+      refused = refused-exactly true text onOrder high;
+      given = λ b rows tasks t.
+          let is = tells-only true text b rows tasks t in
+          subst (λ (a : Answer). Given (a .rows) (a .order) (rowsFor (a .order) (a .rows))) is
+          (is-given (ap (λ (a : Answer). a .refused) is));
+      accepted = λ b rows tasks t.
+          let is = tells-only true text b rows tasks t in
+          let ok = ap (λ (a : Answer). a .refused) is in
+          subst (λ (a : Answer). (os : List Row) → Given (a .rows) (a .order) os
+          → OrderReview room (a .board) os (reviewed text room)) is
+          (λ os g. subst (λ (o : List Row). OrderReview room (answer .board) o (reviewed text room)) (given-only ok os g)
+          (order-review ok));
+      has-room = has-room cases;
     }
+
+    -- ---- the demands decide: the outcome that meets them is the call's
+    module _ (w : Outcome) (d : ReviewDemands text room w) where
+      told : Accepts true text → OrderReview room (answer .board) order w
+      told a = d .accepted (answer .board) (answer .rows) (answer .order) (telling true text a) order (is-given a)
+
+      only : Cases → w ≡ reviewed text room
+      only (refused n r is) = d .refused (suc n) (answer .line) .1 (failing true text n r) .0 ∙ sym is
+      only (late a k l is) = told a .seven k .1 l ∙ sym is
+      only (short a t h is) = told a .in-time t .nine .1 h ∙ sym is
+      only (written a t h is) = told a .in-time t .written .1 h ∙ sym is
+
+      pub decided : w ≡ reviewed text room
+      decided = only cases

@@ -12,8 +12,8 @@ use Rattle.rows.specs.Rows.{inRange, allRows}
 use Rattle.plans.specs.Outcomes.{Outcome, ifInTime, Written}
 use Rattle.plans.proofs.Outcomes.{refused}
 use Rattle.ranks.specs.Calls.{givenOrder}
-use Rattle.ranks.specs.Demands.{Accepts}
-use Rattle.ranks.proofs.Reviewed.{review-demands}
+use Rattle.ranks.proofs.Texts.{Accepts}
+use Rattle.ranks.proofs.Reviewed.{review-demands, decided}
 use Rattle.ranks.proofs.Readings.{accepts, refusal-is, few, board-fits}
 use Rattle.ranks.proofs.Ordered.{given-rows, given-ranged, given-plan}
 use Rattle.ranks.proofs.review_order.Statement.{statement}
@@ -53,6 +53,7 @@ returns c =
       answer = refused (refusal-is true (text-of t) (r .result) (r .ensures .result) _ (c .before .if1 .taken))
           (c .refused .ensures);
       demands = review-demands (text-of t) (length (now (s .args .out)));
+      no-other = decided (text-of t) (length (now (s .args .out)));
     }
 
 rows-for-requires : tie.Need-rows-for-requires
@@ -94,6 +95,7 @@ returns-2 c =
     record {
       answer = subst (λ (x : Outcome). Written x (now (s .args .out)) (p .last .0) (p .result)) is (p .ensures);
       demands = review-demands (text-of (e .before)) room;
+      no-other = decided (text-of (e .before)) room;
     }
 
 pub review-order-spec : {M : Type 1} → statement M

@@ -14,8 +14,8 @@ use Rattle.rows.specs.Rows.{inRange, allRows}
 use Rattle.rows.specs.declared.Row.{Row}
 use Rattle.plans.specs.Outcomes.{Outcome, ifInTime, Written}
 use Rattle.plans.proofs.Outcomes.{refused}
-use Rattle.ranks.specs.Demands.{Accepts}
-use Rattle.ranks.proofs.Planned.{plan-demands}
+use Rattle.ranks.proofs.Texts.{Accepts}
+use Rattle.ranks.proofs.Planned.{plan-demands, decided}
 use Rattle.ranks.proofs.Readings.{accepts, refusal-is, few, lent, board-fits}
 use Rattle.ranks.proofs.Ordered.{unordered-plan, order, order-rows, order-ranged, ordered-plan}
 use Rattle.ranks.proofs.write_plan.Statement.{statement}
@@ -68,6 +68,7 @@ returns c =
       answer = refused (refusal-is false (text-of t) (r .result) (r .ensures .result) _ (c .before .if1 .taken))
           (c .refused .ensures);
       demands = plan-demands (text-of t) (length (now (s .args .out)));
+      no-other = decided (text-of t) (length (now (s .args .out)));
     }
 
 order-of-first-requires : tie.Need-order-of-first-requires
@@ -90,6 +91,7 @@ returns-2 c =
       answer = refused (unordered-plan (text-of (e .before)) (r .result) (r .ensures .result) (ok e) (o .result)
           (o .ensures) room (not-true _ (c .before .if2 .taken))) (c .refused2 .ensures);
       demands = plan-demands (text-of (e .before)) room;
+      no-other = decided (text-of (e .before)) room;
     }
 
 rows-for-requires : tie.Need-rows-for-requires
@@ -137,6 +139,7 @@ returns-3 c =
     record {
       answer = subst (λ (x : Outcome). Written x (now (s .args .out)) (p .last .0) (p .result)) is (p .ensures);
       demands = plan-demands text room;
+      no-other = decided text room;
     }
 
 pub write-plan-spec : {M : Type 1} → statement M
