@@ -6,7 +6,7 @@ use Prim.Native.Nat.{ℕ, suc}
 use lib.Dec.{eqb}
 use lib.ListN.{length, getD}
 use Rattle.rows.specs.declared.Row.{Row}
-use Rattle.rows.specs.Rows.{noRow, tasksOf, positionOf, rowFor}
+use Rattle.rows.specs.Rows.{noRow, tasksOf, positionOf, rowFor, rowsFor}
 
 pub tasks-length : (rs : List Row) → length (tasksOf rs) ≡ length rs
 tasks-length [] = refl
@@ -25,3 +25,7 @@ first-or false r rs i x e = e
 pub row-at : (t : ℕ) (rs : List Row) → getD rs (positionOf t (tasksOf rs)) noRow ≡ rowFor t rs
 row-at t [] = refl
 row-at t (r ∷ rs) = first-or (eqb t (r .task)) r rs _ _ (row-at t rs)
+
+pub for-length : (ts : List ℕ) (rs : List Row) → length (rowsFor ts rs) ≡ length ts
+for-length [] rs = refl
+for-length (t ∷ ts) rs = ap suc (for-length ts rs)

@@ -2,9 +2,8 @@
 use Rattle.basics.specs.Basics.{pick}
 use Rattle.rows.specs.declared.Row.{Row}
 use Rattle.rows.specs.declared.Checked.{Checked}
-use Rattle.rows.specs.declared.Checked.the-variants.{InRange, Outside}
-use Rattle.rows.specs.Rows.{inRange}
+use Rattle.rows.specs.Rows.{inRange, noRow}
 
--- the row, if it is in range
+-- whether the row is in range, and the row if it is
 abbrev pub checked : Row → Checked
-checked r = pick (inRange r) (InRange r) Outside
+checked r = record { in_range = inRange r; row = pick (inRange r) r noRow }

@@ -3,6 +3,7 @@ ghost use Prim.Native.Nat.{_≤_};
 ghost use lib.ListN.{take};
 ghost use Rattle.rows.specs.Rows.{maxTasks, inRange, row, noRow, positionOf, rowsFor};
 ghost use Rattle.rows.specs.Checked.{checked};
+ghost use Rattle.rows.specs.Arrays.{padded, ranked};
 use basics::within;
 
 // The most rows of a table.
@@ -24,10 +25,10 @@ pub struct Order {
     pub count: usize,
 }
 
-// What the constructor answers.
-pub enum Checked {
-    InRange(Row),
-    Outside,
+// What the constructor answers: whether the numbers keep the limits, and the row that they make, or else no row.
+pub struct Checked {
+    pub in_range: bool,
+    pub row: Row,
 }
 
 impl Row {
@@ -66,16 +67,23 @@ impl Row {
         ensures { λ r. ⌜ r ≡ checked (row task period worst best alpha beta) ⌝ }
     {
         if !Row::keeps(task, period, worst, best, alpha, beta) {
-            return Checked::Outside;
+            return Checked {
+                in_range: false,
+                row: no_row(),
+            };
         }
-        Checked::InRange(Row {
+        let row = Row {
             task: task as u32,
             period: period as u32,
             worst: worst as u32,
             best: best as u32,
             alpha: alpha as u32,
             beta,
-        })
+        };
+        Checked {
+            in_range: true,
+            row,
+        }
     }
 
     // Whether the row keeps its limits.
@@ -122,16 +130,13 @@ fn position_of(task: u32, numbers: [u32; MAX_TASKS], n: usize) -> usize
     n
 }
 
-// The rows of the first tasks, as many as count says, among the first n rows.
-pub fn rows_for(
-    tasks: [u16; MAX_TASKS],
-    count: usize,
-    rows: [Row; MAX_TASKS],
-    n: usize,
-) -> [Row; MAX_TASKS]
-    requires { ⌜ (count ≤ maxTasks) × (n ≤ maxTasks) ⌝ }
-    ensures { λ r. ⌜ take count r ≡ rowsFor (take count tasks) (take n rows) ⌝ }
+// The rows of an order's tasks among the first n rows, and no rows past them.
+pub fn rows_for(order: Order, rows: [Row; MAX_TASKS], n: usize) -> [Row; MAX_TASKS]
+    requires { ⌜ (order .count ≤ maxTasks) × (n ≤ maxTasks) ⌝ }
+    ensures { λ r. ⌜ r ≡ padded noRow (rowsFor (ranked order) (take n rows)) ⌝ }
 {
+    let tasks = order.tasks;
+    let count = order.count;
     // The task numbers apart, so that seeking a task takes no copy of the rows.
     let mut numbers = [0u32; MAX_TASKS];
     let mut i = 0;

@@ -17,7 +17,6 @@ use Rattle.text.specs.declared.Line.the-variants as L
 use Rattle.rows.specs.Rows.{minTask, maxTask, row, inRange, hasTask}
 use Rattle.rows.specs.Checked.{checked}
 use Rattle.rows.specs.declared.Checked.{Checked}
-use Rattle.rows.specs.declared.Checked.the-variants as C
 use Rattle.rows.specs.declared.Row.{Row}
 use Rattle.tables.specs.declared.progress.Numbers.{Numbers}
 use Rattle.tables.specs.declared.progress.Part.the-variants as P
@@ -225,12 +224,7 @@ module _ (rs : List Row) (text : List ℕ) (at k : ℕ) where
 abbrev rowHeld : ℕ → Numbers → Row
 rowHeld t n = row t (n .first) (n .second) (n .third) (n .fourth) (n .fifth)
 
-record Made (c : Checked) (x : Fields) (p : Progress) : Type 0 where
-  made : Row
-  checked-is : c ≡ C.InRange made
-  read-is : record { refused = 0; line = p .line; offset = p .offset; row = made } ≡ rowRead x
-
-made-in-range : (r : Row) → inRange r ≡ true → checked r ≡ C.InRange r
+made-in-range : (r : Row) → inRange r ≡ true → checked r .row ≡ r
 made-in-range r h = rw h
 
 module _ {t k : ℕ} {x : Fields} {p : Progress} (read : RestRead t k x p) where
@@ -242,23 +236,14 @@ module _ {t k : ℕ} {x : Fields} {p : Progress} (read : RestRead t k x p) where
       ]
 
   module _ (z : p .refused ≡ 0) (c : Checked) (is : c ≡ checked (rowHeld t (p .numbers))) where
-    is-made : Made c x p
-    is-made =
+    pub rest-row : record { refused = 0; line = p .line; offset = p .offset; row = c .row } ≡ rowRead x
+    rest-row =
         elim read [
           | stops n r e ↦ not-both r z
-          | whole vs r l ns e i ↦ record {
-            made = rowOf (t ∷ vs);
-            checked-is = is ∙ ap (λ n. checked (rowHeld t n)) ns ∙ made-in-range (rowOf (t ∷ vs)) i;
-            read-is = sym (ap rowRead e);
-          }
+          | whole vs r l ns e i ↦ (
+              let made = ap (λ (k : Checked). k .row) is
+              ∙ ap (λ n. checked (rowHeld t n) .row) ns
+              ∙ made-in-range (rowOf (t ∷ vs)) i in
+              ap (λ q. record { refused = 0; line = p .line; offset = p .offset; row = q }) made
+              ∙ sym (ap rowRead e))
         ]
-
-    pub rest-made : c ≡ C.Outside → ⊥
-    rest-made o = let e = is-made .checked-is in let y : _≡_ {A = ℕ} 0 1 = cc in omega arith
-
-    pub rest-row : (r : Row) → c ≡ C.InRange r
-        → record { refused = 0; line = p .line; offset = p .offset; row = r } ≡ rowRead x
-    rest-row r g =
-        let e = is-made .checked-is in
-        let same : r ≡ is-made .made = cc in
-        ap (λ q. record { refused = 0; line = p .line; offset = p .offset; row = q }) same ∙ is-made .read-is

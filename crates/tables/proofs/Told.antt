@@ -1,23 +1,20 @@
 -- What a line answers: a number that stands in its range and passes the tests of its stage, or a refusal. A reading
 -- goes on at a number and nowhere else, so the laws of a reading are by these two cases.
 use mathlib.Core.Path.{_≡_, refl, sym, ap, _∙_, subst}
-use mathlib.Core.Bool.{true, _&&_}
+use mathlib.Core.Bool.{true}
 use mathlib.Core.List.{List, [], _∷_}
 use mathlib.Core.Logic.{inl, inr}
-use Prim.Native.Nat.{ℕ, suc, _+_}
+use Prim.Native.Nat.{ℕ, suc}
 use native.Mathlib.Omega.{arith}
-use lib.Dec.{ltb}
-use lib.ListN.{length, drop}
 use denote.Enum.Declared.{tagOf}
 use types.Run.{OneOf, hit, miss}
 use Rattle.basics.specs.Basics.{within}
 use Rattle.basics.proofs.Tests.{test-of}
-use Rattle.text.specs.Lines.{lineOf, begins, numberOf, ranged, lineAt, refusal, onNumber}
-use Rattle.text.specs.declared.Digits.{Digits}
-use Rattle.text.specs.declared.Digits.the-variants as D
+use Rattle.text.specs.Lines.{lineAt, refusal, onNumber}
 use Rattle.text.specs.declared.Line.{Line}
 use Rattle.text.specs.declared.Line.the-variants as L
 use Rattle.text.proofs.Line as S
+use Rattle.text.proofs.Lines.{line-answers}
 use Rattle.tables.specs.Reasons.{Stage, keyOf, lowOf, highOf, exceeds, repeats, impossible, Passes}
 use Rattle.tables.proofs.Stages.{tested}
 
@@ -78,19 +75,12 @@ pub data Told (P : ℕ → Type 0) (l : Line) : Type 0 where
 abbrev pub InRange : ℕ → ℕ → ℕ → Type 0
 InRange low high v = within low high v ≡ true
 
-ranged-told : (d : Digits) (low high k next : ℕ) → Told (InRange low high) (ranged d low high k next)
-ranged-told D.Malformed low high k next = refused 1 refl
-ranged-told (D.Value v) low high k next =
-    elim (test-of (within low high v)) [ inl e ↦ rw e (number v next refl e) | inr e ↦ rw e (refused 2 refl) ]
-
 pub line-told : (key : List ℕ) (low high : ℕ) (text : List ℕ) (at k : ℕ)
     → Told (InRange low high) (lineAt key low high text at k)
-unfolding lineAt
 line-told key low high text at k =
-    let l = lineOf (drop at text) in
-    elim (test-of (ltb (length l) (length (drop at text)) && begins key l)) [
-      | inl e ↦ rw e (ranged-told (numberOf (drop (length key) l)) low high k (at + suc (length l)))
-      | inr e ↦ rw e (refused 0 refl)
+    elim (line-answers key low high text at k) [
+      | inl a ↦ number (a .0) (a .1) (a .2) (a .3)
+      | inr r ↦ refused (r .0) (r .1)
     ]
 
 -- ---- the line of a stage, with the tests beside the range

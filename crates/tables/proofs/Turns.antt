@@ -18,7 +18,9 @@ use Rattle.text.specs.declared.Line.the-variants as L
 use Rattle.rows.specs.Rows.{maxTask, maxTasks, row, noRow, tasksOf}
 use Rattle.rows.specs.declared.Row.{Row}
 use Rattle.rows.proofs.Limits.{limits}
+use Rattle.rows.specs.Arrays.{padded}
 use Rattle.rows.proofs.Tasks.{tasks-length, tasks-last}
+use Rattle.rows.proofs.Arrays.{padded-front, padded-next}
 use Rattle.tables.specs.declared.Reading.{Reading}
 use Rattle.tables.specs.declared.sections.RowRead.{RowRead}
 use Rattle.tables.specs.declared.sections.RowsRead.{RowsRead}
@@ -26,25 +28,12 @@ use Rattle.tables.specs.declared.sections.RankRead.{RankRead}
 use Rattle.tables.specs.declared.sections.RanksRead.{RanksRead}
 use Rattle.tables.specs.Tables.{fieldCount, rankAt, Answer, turnedDown, accepted, Fields, fieldsFrom, rowOf}
 use Rattle.tables.specs.Tables.{rowsFrom, ranksFrom}
-use Rattle.tables.specs.Readings.{padded, reading}
+use Rattle.tables.specs.Readings.{reading}
 use Rattle.tables.specs.Sections.{rowRead, stoppedRank, rankRead, WithTasks, RowsAre, rows-refused, rows-read}
 use Rattle.tables.specs.Sections.{RanksAre, ranks-refused, ranks-read}
 use Rattle.tables.proofs.Parts.{rank-read}
 use Rattle.tables.proofs.RowLines.{row-is, row-whole}
 use Rattle.tables.proofs.Told.{not-both, refused-ends, number, refused}
-
--- ---- lists in arrays: one more after those at the front
-padded-next : {A : Type 0} (d x : A) (xs : List A) → length xs < maxTasks
-    → set (padded d xs) (length xs) x ≡ padded d (xs ++ (x ∷ []))
-padded-next d x xs h =
-    let left = maxTasks - length (xs ++ (x ∷ [])) in
-    let more : maxTasks - length xs ≡ suc left = omega (arith, length-append xs (x ∷ [])) in
-    ap (λ n. set (xs ++ replicate n d) (length xs) x) more
-    ∙ set-append-seam xs d (replicate left d) x
-    ∙ sym (append-snoc xs x (replicate left d))
-
-padded-front : {A : Type 0} (d : A) (xs : List A) → take (length xs) (padded d xs) ≡ xs
-padded-front d xs = take-append-seam xs _
 
 -- the tasks of some rows at the front of an array
 pub tasks-front : (numbers : List ℕ) (rs : List Row) (n : ℕ) → numbers ≡ padded 0 (tasksOf rs) → length rs ≡ n

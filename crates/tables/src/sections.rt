@@ -11,7 +11,6 @@ ghost use Rattle.tables.specs.Sections.{stoppedRow, rowRead, stoppedRank
 use super::progress::Part;
 use super::progress::Progress;
 use super::reader::read_lines;
-use rows::Checked;
 use rows::MAX_TASKS;
 use rows::Row;
 use rows::no_row;
@@ -89,11 +88,9 @@ fn read_row(
         return RowRead::stopped(rest.refused, rest.line);
     }
     let v = rest.numbers;
+    // Each line was held to its range, so that the row is in range.
     let checked = Row::new(task, v.first, v.second, v.third, v.fourth, v.fifth);
-    // Each line was held to its range, so that the row always is in range.
-    let Checked::InRange(row) = checked else {
-        return RowRead::stopped(0, 0);
-    };
+    let row = checked.row;
     RowRead {
         refused: 0,
         line: rest.line,

@@ -4,7 +4,7 @@
 use mathlib.Core.Path.{_≡_, refl, sym, ap, ap₂, _∙_}
 use mathlib.Core.Bool.{Bool, true, false, _&&_}
 use mathlib.Core.List.{List, [], _∷_, _++_, append-assoc, append-nil}
-use mathlib.Core.Logic.{inl, inr}
+use mathlib.Core.Logic.{_⊎_, inl, inr}
 use Prim.Native.Nat.{ℕ, suc, _+_, _/_, _%_, _^_, _≤_, _<_}
 use native.Mathlib.Omega.{arith}
 use lib.Dec.{eqb, ltb}
@@ -16,9 +16,10 @@ use Rattle.basics.proofs.Tests.{test-of, true-not-false, false-of, and-left, an
 use Rattle.basics.proofs.Tests.{never, eqb-swap, in-append}
 use Rattle.text.specs.declared.Digits.{Digits}
 use Rattle.text.specs.declared.Digits.the-variants.{Value, Malformed}
+use Rattle.text.specs.declared.Line.{Line}
 use Rattle.text.specs.declared.Line.the-variants as L
 use Rattle.text.specs.Text.{lineFeed, digitZero, decimal, keyLine}
-use Rattle.text.specs.Lines.{maxDigits, lineOf, begins, numberOf, ranged, lineAt}
+use Rattle.text.specs.Lines.{maxDigits, lineOf, begins, numberOf, ranged, lineAt, refusal}
 use Rattle.text.proofs.Decimals.{last, decimal-one, decimal-more, by-digits, decimal-number, number-decimal}
 
 -- ---- line feeds
@@ -230,3 +231,24 @@ module _ (key : List ℕ) (no-feed : isIn lineFeed key ≡ false) where
             let long = key-line-length key value ∙ ap suc (length-append key value) in
             line-holds value after (sym r ∙ whole) (ap (isIn lineFeed) l ∙ line-no-feed tail)
             ∙ ap₂ (λ x m. ranged x low high k (at + m)) n long
+
+-- ---- a line's answer is a number in its range, with the offset after it, or a refusal
+abbrev pub Answers : ℕ → ℕ → Line → Type 0
+Answers low high l =
+    ((v : ℕ) × (next : ℕ) × (l ≡ L.Number v next) × (within low high v ≡ true))
+    ⊎ ((n : ℕ) × (refusal l ≡ suc n))
+
+ranged-answers : (d : Digits) (low high k next : ℕ) → Answers low high (ranged d low high k next)
+ranged-answers Malformed low high k next = inr (1, refl)
+ranged-answers (Value v) low high k next =
+    elim (test-of (within low high v)) [ inl e ↦ rw e (inl (v, next, refl, e)) | inr e ↦ rw e (inr (2, refl)) ]
+
+pub line-answers : (key : List ℕ) (low high : ℕ) (text : List ℕ) (at k : ℕ)
+    → Answers low high (lineAt key low high text at k)
+unfolding lineAt
+line-answers key low high text at k =
+    let l = lineOf (drop at text) in
+    elim (test-of (ltb (length l) (length (drop at text)) && begins key l)) [
+      | inl e ↦ rw e (ranged-answers (numberOf (drop (length key) l)) low high k (at + suc (length l)))
+      | inr e ↦ rw e (inr (0, refl))
+    ]

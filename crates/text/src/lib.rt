@@ -31,8 +31,8 @@ pub enum Line {
     Impossible(u32),
 }
 
-// What stands after a key.
-pub enum Digits {
+// What stands after a key: a number, or what is refusal 2.
+enum Digits {
     Value(u64),
     Malformed,
 }

@@ -1,17 +1,20 @@
 -- `rows::rows_for` meets its contract. Invariant of the first loop: the numbers so far are the tasks of the rows so
--- far; of the second: the rows found so far are those of the tasks so far, and none stands after them.
-use mathlib.Core.Path.{_≡_, refl, sym, ap, _∙_, subst}
+-- far; of the second: the array has the rows of the tasks so far, and no rows after them.
+use mathlib.Core.Path.{_≡_, refl, sym, ap, ap₂, _∙_, subst}
 use mathlib.Core.List.{List, [], _∷_, _++_}
 use mathlib.Core.Logic.{⊎-elim}
 use Prim.Native.Nat.{ℕ, zero, suc, _-_, _≤_, _<_}
 use native.Mathlib.Omega.{arith}
 use native.Mathlib.Numerals.{add-one}
 use borrow.Author.Needs.{needs}
-use lib.ListN.{length, getD, take, set, replicate, length-set, length-take, List·getD-eq-default}
-use lib.Seq.{take-suc, take-suc-set, getD-take, getD-set-other, set-getD}
+use lib.ListN.{length, getD, take, set, replicate, length-set, length-take, length-map}
+use lib.ListN.{List·getD-eq-default}
+use lib.Seq.{take-suc, take-suc-set, getD-take, length-take-le}
 use Rattle.rows.specs.declared.Row.{Row}
 use Rattle.rows.specs.Rows.{maxTasks, noRow, tasksOf, positionOf, rowFor, rowsFor}
-use Rattle.rows.proofs.Tasks.{tasks-last, row-at}
+use Rattle.rows.specs.Arrays.{padded}
+use Rattle.rows.proofs.Tasks.{tasks-last, row-at, for-length}
+use Rattle.rows.proofs.Arrays.{padded-next, padded-nothing}
 use Rattle.rows.proofs.rows_for.Statement.{statement}
 use Rattle.rows.proofs.rows_for.Tie as tie
 
@@ -27,22 +30,11 @@ numbered-more rows numbers i h l e =
 
 -- ---- the rows found for the first k tasks
 record Found (ts : List ℕ) (rs : List Row) (found : List Row) (k : ℕ) : Type 0 where
-  long : length found ≡ maxTasks
-  front : take k found ≡ rowsFor (take k ts) rs
-  none-after : (j : ℕ) → k ≤ j → getD found j noRow ≡ noRow
+  held : found ≡ padded noRow (rowsFor (take k ts) rs)
 
 -- none yet
-blank : (n j : ℕ) → getD (replicate n noRow) j noRow ≡ noRow
-blank zero j = refl
-blank (suc n) zero = refl
-blank (suc n) (suc j) = blank n j
-
 found-none-yet : (ts : List ℕ) (rs : List Row) (r : Row) → r ≡ noRow → Found ts rs (replicate maxTasks r) 0
-found-none-yet ts rs r e = record {
-  long = refl;
-  front = refl;
-  none-after = λ j h. ap (λ x. getD (replicate maxTasks x) j noRow) e ∙ blank maxTasks j;
-}
+found-none-yet ts rs r e = record { held = ap (replicate maxTasks) e }
 
 -- one task more
 for-more : (ts : List ℕ) (t : ℕ) (rs : List Row) → rowsFor (ts ++ (t ∷ [])) rs ≡ rowsFor ts rs ++ (rowFor t rs ∷ [])
@@ -54,21 +46,24 @@ module _ (ts : List ℕ) (rs found : List Row) (k : ℕ) (so : Found ts rs found
   abbrev r : Row
   r = rowFor (getD ts k 0) rs
 
+  abbrev before : List Row
+  before = rowsFor (take k ts) rs
+
+  many : length before ≡ k
+  many = for-length (take k ts) rs ∙ length-take-le k ts (omega arith)
+
+  next : padded noRow (before ++ (r ∷ [])) ≡ padded noRow (rowsFor (take (suc k) ts) rs)
+  next = sym (ap (λ l. padded noRow (rowsFor l rs)) (take-suc ts k 0 more)
+      ∙ ap (padded noRow) (for-more (take k ts) (getD ts k 0) rs))
+
   found-more : Found ts rs (set found k r) (suc k)
   found-more = record {
-    long = length-set found k r ∙ so .long;
-    front =
-        take-suc-set found k r (omega (arith, so .long))
-        ∙ ap (λ l. l ++ (r ∷ [])) (so .front)
-        ∙ sym (ap (λ l. rowsFor l rs) (take-suc ts k 0 more) ∙ for-more (take k ts) (getD ts k 0) rs);
-    none-after = λ j h.
-        getD-set-other found k j r noRow (λ e. omega arith) ∙ so .none-after j (omega arith);
+    held = ap₂ (λ l i. set l i r) (so .held) (sym many) ∙ padded-next noRow r before (omega (arith, many)) ∙ next;
   }
 
   -- a task that has no row leaves its place as it is
-  found-none : noRow ≡ r → found ≡ set found k r
-  found-none e =
-      sym (set-getD found k noRow) ∙ ap (set found k) (so .none-after k (omega arith) ∙ e)
+  found-none : noRow ≡ r → Found ts rs found (suc k)
+  found-none e = record { held = so .held ∙ padded-nothing noRow r before (omega (arith, many)) e ∙ next }
 
 -- ---- the row at the position of a task among the first n, or none past them
 module _ (t : ℕ) (numbers : List ℕ) (rows : List Row) (n at : ℕ) (is : at ≡ positionOf t (take n numbers))
@@ -84,21 +79,24 @@ module _ (t : ℕ) (numbers : List ℕ) (rows : List Row) (n at : ℕ) (is : at 
       sym (List·getD-eq-default (take n rows) noRow {n = at} (omega (arith, length-take n rows))) ∙ at-row
 
 abbrev Inv-loop : tie.InvT-loop
-Inv-loop count n tasks rows numbers₀ i₀ numbers i =
+Inv-loop n rows tasks count numbers₀ i₀ numbers i =
     (i ≤ n) × (length numbers ≡ maxTasks) × (take i numbers ≡ tasksOf (take i rows))
 
 abbrev μ-loop : tie.MeasureT-loop
-μ-loop count n tasks rows numbers₀ i₀ numbers i = n - i
+μ-loop n rows tasks count numbers₀ i₀ numbers i = n - i
 
 abbrev Inv-loop2 : tie.InvT-loop2
-Inv-loop2 count n tasks rows numbers i found₀ k₀ found k =
+Inv-loop2 n rows tasks count numbers i found₀ k₀ found k =
     (k ≤ count) × (take n numbers ≡ tasksOf (take n rows)) × Found tasks (take n rows) found k
 
 abbrev μ-loop2 : tie.MeasureT-loop2
-μ-loop2 count n tasks rows numbers i found₀ k₀ found k = count - k
+μ-loop2 n rows tasks count numbers i found₀ k₀ found k = count - k
 
-rows-long : (c : tie.Start Inv-loop μ-loop Inv-loop2 μ-loop2) → length (c .args .t3) ≡ 12
-rows-long c = c .good .1 .1 .0 .1 .0 .1
+rows-long : (c : tie.Start Inv-loop μ-loop Inv-loop2 μ-loop2) → length (c .args .t2) ≡ 12
+rows-long c = c .good .1 .0 .1 .0 .1
+
+tasks-long : (c : tie.Start Inv-loop μ-loop Inv-loop2 μ-loop2) → length (c .args .order .tasks) ≡ 12
+tasks-long c = sym (length-map (c .args .order .tasks) (λ v. v)) ∙ c .good .0 .1 .1 .0 .1 .0 .1
 
 loop-holds : tie.Need-loop-holds Inv-loop μ-loop Inv-loop2 μ-loop2
 loop-holds c = (omega arith, refl, refl)
@@ -123,9 +121,9 @@ loop-less c = search needs
 
 loop-again : tie.Need-loop-again Inv-loop μ-loop Inv-loop2 μ-loop2
 loop-again c =
-    let s = c .before .before .before in
+    let s = c .before .before .before .before in
     let x = c .before .before .loop in
-    let rows = s .args .t3 in
+    let rows = s .args .t2 in
     let long = rows-long s in
     rw (add-one (x .i)) (
       omega arith,
@@ -139,11 +137,11 @@ no-row-requires c κs = search needs
 loop2-holds : tie.Need-loop2-holds Inv-loop μ-loop Inv-loop2 μ-loop2
 loop2-holds c =
     let x = c .before .before .loop in
-    let a = c .before .before .before .args in
+    let a = c .before .before .before .before .args in
     let all : x .i ≡ a .n = omega arith in (
       omega arith,
       rw all at (x .inv .2),
-      found-none-yet (a .t1) (take (a .n) (a .t3)) (c .no-row .result) (c .no-row .ensures),
+      found-none-yet (a .order .tasks) (take (a .n) (a .t2)) (c .no-row .result) (c .no-row .ensures),
     )
 
 mul-position-of : tie.Need-mul-position-of Inv-loop μ-loop Inv-loop2 μ-loop2
@@ -180,30 +178,32 @@ loop2-again : tie.Need-loop2-again Inv-loop μ-loop Inv-loop2 μ-loop2
 loop2-again c =
     let p = c .before in
     let x = p .before .before .loop2 in
-    let a = p .before .before .before .before .before .before .args in
+    let s = p .before .before .before .before .before .before .before in
+    let a = s .args in
+    let few : x .k < maxTasks = omega arith in
+    let there-is : x .k < length (a .order .tasks) = omega (arith, tasks-long s, few) in
     let numbers = p .before .before .before .before .before .loop .numbers in
     let at = p .position-of .result in
-    let rs = take (a .n) (a .t3) in
-    let task = getD (a .t1) (x .k) 0 in
-    let here = set (x .found) (x .k) in
-    let there = row-there task numbers (a .t3) (a .n) at (p .position-of .ensures) (x .inv .1) in
-    let none = row-none task numbers (a .t3) (a .n) at (p .position-of .ensures) (x .inv .1) in
-    let unchanged = found-none (a .t1) rs (x .found) (x .k) (x .inv .2) (omega arith) (omega arith) in
-    let put : c .if1 .found ≡ here (rowFor task rs) =
-    ⊎-elim (λ w. w .2 ∙ ap here (there (w .0 .taken))) (λ w. w .1 ∙ unchanged (none (w .0 .left))) (c .if1 .came) in
-    let more = found-more (a .t1) rs (x .found) (x .k) (x .inv .2) (omega arith) (omega arith) in
-    rw (add-one (x .k)) (
-      omega arith,
-      x .inv .1,
-      subst (λ l. Found (a .t1) rs l (suc (x .k))) (sym put) more,
-    )
+    let tasks = a .order .tasks in
+    let rs = take (a .n) (a .t2) in
+    let task = getD tasks (x .k) 0 in
+    let there = row-there task numbers (a .t2) (a .n) at (p .position-of .ensures) (x .inv .1) in
+    let none = row-none task numbers (a .t2) (a .n) at (p .position-of .ensures) (x .inv .1) in
+    let more = found-more tasks rs (x .found) (x .k) (x .inv .2) few there-is in
+    let same = found-none tasks rs (x .found) (x .k) (x .inv .2) few there-is in
+    let so : Found tasks rs (c .if1 .found) (suc (x .k)) =
+    ⊎-elim
+    (λ w. subst (λ l. Found tasks rs l (suc (x .k))) (sym (w .2 ∙ ap (set (x .found) (x .k)) (there (w .0 .taken)))) more)
+    (λ w. subst (λ l. Found tasks rs l (suc (x .k))) (sym (w .1)) (same (none (w .0 .left))))
+    (c .if1 .came) in
+    rw (add-one (x .k)) (omega arith, x .inv .1, so)
 
 returns : tie.Need-returns Inv-loop μ-loop Inv-loop2 μ-loop2
 returns c =
-    let a = c .before .before .before .before .before .args in
+    let a = c .before .before .before .before .before .before .args in
     let x = c .before .loop2 in
-    let all : x .k ≡ a .count = omega arith in
-    rw (← all) (x .inv .2 .front)
+    let all : x .k ≡ a .order .count = omega arith in
+    rw (← all) (x .inv .2 .held)
 
 pub rows-for-spec : {M : Type 1} → statement M
 rows-for-spec =

@@ -16,14 +16,13 @@ known : (c : tie.Else1)
     → let n = c .before .before .args in Limits (row (n .task) (n .period) (n .worst) (n .best) (n .alpha) (n .beta))
 known c = limits _ (sym (c .before .keeps .ensures) ∙ not-false _ (c .if1 .left))
 
+no-row-requires : tie.Need-no-row-requires
+no-row-requires c κs = search needs
+
 returns : tie.Need-returns
-returns c = simp (sym (c .before .keeps .ensures) ∙ not-true _ (c .if1 .taken))
-
-cast-t9 : tie.Need-cast-t9
-cast-t9 c = omega (arith, known c)
-
-cast-t10 : tie.Need-cast-t10
-cast-t10 c = omega (arith, known c)
+returns c =
+    let k = c .before .before in
+    simp (c .no-row .ensures, sym (k .keeps .ensures) ∙ not-true _ (c .before .if1 .taken))
 
 cast-t11 : tie.Need-cast-t11
 cast-t11 c = omega (arith, known c)
@@ -34,10 +33,16 @@ cast-t12 c = omega (arith, known c)
 cast-t13 : tie.Need-cast-t13
 cast-t13 c = omega (arith, known c)
 
+cast-t14 : tie.Need-cast-t14
+cast-t14 c = omega (arith, known c)
+
+cast-t15 : tie.Need-cast-t15
+cast-t15 c = omega (arith, known c)
+
 returns-2 : tie.Need-returns-2
 returns-2 c = simp (sym (c .before .keeps .ensures) ∙ not-false _ (c .if1 .left))
 
 pub new-spec : {M : Type 1} → statement M
 new-spec =
     tie.close
-    (tie.spec keeps-requires returns cast-t9 cast-t10 cast-t11 cast-t12 cast-t13 returns-2)
+    (tie.spec keeps-requires no-row-requires returns cast-t11 cast-t12 cast-t13 cast-t14 cast-t15 returns-2)

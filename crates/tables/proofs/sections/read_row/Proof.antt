@@ -14,7 +14,7 @@ use Rattle.tables.specs.Tables.{Fields}
 use Rattle.tables.specs.Sections.{stoppedRow, rowRead}
 use Rattle.tables.proofs.Parts.{TaskRead, task-read, task-refused, task-line, task-told}
 use Rattle.tables.proofs.RowLines.{row-is, row-unnamed, row-again, row-rest}
-use Rattle.tables.proofs.RowLines.{RestRead, rest-stopped, rest-row, rest-made}
+use Rattle.tables.proofs.RowLines.{RestRead, rest-stopped, rest-row}
 use Rattle.tables.proofs.sections.read_row.Statement.{statement}
 use Rattle.tables.proofs.sections.read_row.Tie as tie
 
@@ -122,28 +122,11 @@ returns-3 c rs b =
 new-requires : tie.Need-new-requires
 new-requires c κs = search needs
 
-enum-known-checked : tie.Need-enum-known-checked
-enum-known-checked c = search needs
-
-enum-told : tie.Need-enum-told
-enum-told c = search needs
-
-stopped-requires-4 : tie.Need-stopped-requires-4
-stopped-requires-4 c κs = search needs
-
 returns-4 : tie.Need-returns-4
 returns-4 c rs b =
-    let n = c .before .before .before in
+    let n = c .before in
     let r = n .before .before .before .before in
-    let none = rest-made (rest-read r rs b) (n .before .before .if3 .left) (n .new .result) (n .new .ensures) in
-    absurd (none (c .before .enum-told .given .1))
-
-returns-5 : tie.Need-returns-5
-returns-5 c rs b =
-    let n = c .before .before .before in
-    let r = n .before .before .before .before in
-    let d = c .before .checked .given in
-    rest-row (rest-read r rs b) (n .before .before .if3 .left) (n .new .result) (n .new .ensures) (d .0 .0) (d .1)
+    rest-row (rest-read r rs b) (n .before .before .if3 .left) (n .new .result) (n .new .ensures)
 
 pub read-row-spec : {M : Type 1} → statement M
 read-row-spec =
@@ -161,8 +144,4 @@ read-row-spec =
     stopped-requires-3
     returns-3
     new-requires
-    enum-known-checked
-    enum-told
-    stopped-requires-4
-    returns-4
-    returns-5)
+    returns-4)
