@@ -1,18 +1,20 @@
 -- The order read off the record. The record is closed, so a set that it has, with an order, has a chain: its lowest
 -- row, that of the rest, and so on. The tasks along the chain are the order's.
-use mathlib.Core.Path.{_≡_, ap, ap₂, sym, _∙_}
+use mathlib.Core.Path.{_≡_, refl, ap, ap₂, sym, _∙_}
 use mathlib.Core.Bool.{true}
 use mathlib.Core.List.{List, [], _∷_, _++_}
 use Prim.Native.Nat.{ℕ, zero, suc, _-_, _/_, _%_, _^_, _≤_, _<_}
 use native.Mathlib.Decide.{ℕ-discrete}
 use native.Mathlib.Omega.{arith}
-use lib.ListN.{length, getD, set, take}
-use lib.Seq.{getD-take, take-suc-set}
+use lib.ListN.{length, getD, set, take, drop, replicate, length-append}
+use lib.Seq.{getD-take, drop-cons, append-snoc, set-append-seam}
 use lib.Pow.{pow-pos}
 use Rattle.rows.specs.declared.Row.{Row}
 use Rattle.rows.specs.Rows.{maxTasks, inRange, noRow, rowAt}
+use Rattle.rows.specs.Arrays.{ranking}
 use Rattle.rows.proofs.Limits.{at-passes}
 use Rattle.rows.proofs.Tasks.{tasks-last}
+use Rattle.rows.proofs.Arrays.{blank-left}
 use Rattle.orders.specs.Orders.{theOrder}
 use Rattle.orders.specs.Sets.{members, isSome, orderAt, Known, Recorded}
 use Rattle.orders.specs.Stability.{stable}
@@ -38,20 +40,43 @@ module _ (rows : List Row) (sets : List ℕ) where
   row-of m zero l c = absurd (omega arith)
   row-of m (suc k) l c = let e : suc k - 1 ≡ k = omega arith in rw e c
 
-  -- the lowest row's task goes below those of the rest
+  pub chain-length : (k m : ℕ) → length (chainTasks rows sets k m) ≡ k
+  chain-length zero m = refl
+  chain-length (suc k) m =
+      let i = getD sets m 0 in
+      let above = chainTasks rows sets k (m - 2 ^ i) in
+      omega (arith, length-append above (rowAt rows i .task ∷ []), chain-length k (m - 2 ^ i))
+
+  -- the lowest row's task goes below those of the rest, in an array's next place
   pub chain-lowest :
-      (m k : ℕ) (tasks : List ℕ) (r : Row) →
+      (m k : ℕ) (tasks filled : List ℕ) (r : Row) →
       0 < k →
       k ≤ length tasks →
       let i = getD sets m 0 in
       r ≡ rowAt rows i →
-      take (k - 1) tasks ≡ chainTasks rows sets (k - 1) (m - 2 ^ i) →
-      take k (set tasks (k - 1) (r .task)) ≡ chainTasks rows sets k m
-  chain-lowest m zero tasks r l few is h = absurd (omega arith)
-  chain-lowest m (suc k) tasks r l few is h =
+      filled ≡ chainTasks rows sets (k - 1) (m - 2 ^ i) ++ drop (k - 1) tasks →
+      set filled (k - 1) (r .task) ≡ chainTasks rows sets k m ++ drop k tasks
+  chain-lowest m zero tasks filled r l few is h = absurd (omega arith)
+  chain-lowest m (suc k) tasks filled r l few is h =
       let e : suc k - 1 ≡ k = omega arith in
-      let task = rowAt rows (getD sets m 0) .task in
-      rw (is, e) (take-suc-set tasks k task few ∙ ap (λ (ts : List ℕ). ts ++ (task ∷ [])) (rw e at h))
+      let i = getD sets m 0 in
+      let task = rowAt rows i .task in
+      let above = chainTasks rows sets k (m - 2 ^ i) in
+      let here = (rw e at h) ∙ ap (λ (l : List ℕ). above ++ l) (drop-cons tasks k 0 few) in
+      rw (is, e) (
+      ap₂ (λ (l : List ℕ) (j : ℕ). set l j task) here (sym (chain-length k (m - 2 ^ i)))
+      ∙ set-append-seam above (getD tasks k 0) (drop (suc k) tasks) task
+      ∙ sym (append-snoc above task (drop (suc k) tasks)))
+
+-- in an array that had nothing in it, they are an order
+pub chain-order : (tasks filled : List ℕ) (n : ℕ) → n ≤ maxTasks → length tasks ≡ n
+    → filled ≡ tasks ++ drop n (replicate maxTasks 0)
+    → record { tasks = filled; count = n } ≡ ranking tasks
+chain-order tasks filled n few many e =
+    ap₂ (λ (l : List ℕ) (k : ℕ). record { tasks = l; count = k })
+    (e ∙ ap (λ (l : List ℕ). tasks ++ l) (blank-left 0 n maxTasks)
+    ∙ ap (λ (k : ℕ). tasks ++ replicate (maxTasks - k) 0) (sym many))
+    (sym many)
 
 -- ---- the chain of a set that has an order, and is in the record
 module _ (rows : List Row) (n : ℕ) (lent : Lent rows n) (sets : List ℕ)

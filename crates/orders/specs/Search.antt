@@ -6,6 +6,7 @@ use mathlib.Core.Option.{Option, none, some}
 use Prim.Native.Nat.{ℕ, zero, suc, _-_, _/_, _%_, _^_, _≤_, _<_}
 use lib.ListN.{length, getD, take}
 use Rattle.rows.specs.Rows.{maxTasks, inRange, allRows, rowAt, tasksOf, distinctRows}
+use Rattle.rows.specs.Arrays.{ranking}
 use Rattle.rows.specs.declared.Row.{Row}
 use Rattle.orders.specs.Orders.{Chosen}
 use Rattle.orders.specs.Sets.{isSome, fits, goes, LowestIs, Says, Known, Recorded}
@@ -62,15 +63,11 @@ chainTasks rows sets (suc k) m =
     let i = getD sets m 0 in
     chainTasks rows sets k (m - 2 ^ i) ++ (rowAt rows i .task ∷ [])
 
--- the front of the list is the tasks of the n rows of set m, in the order that the record has
-pub record Listed (rows : List Row) (sets : List ℕ) (n m : ℕ) (listed : List ℕ) (count : ℕ) : Type 0 where
-  pub long : length listed ≡ maxTasks
-  pub counted : count ≡ n
-  pub front : take n listed ≡ chainTasks rows sets n m
+-- an order, or none, as a search answers it
+abbrev pub answerOf : Option (List Row) → Answer
+answerOf o = record { found = isSome o; order = ranking (tasksIn o) }
 
 -- the answer is the order chosen, which is as `Chosen` says
 pub record Answered (table : List Row) (r : Answer) : Type 0 where
-  pub found-is : r .found ≡ isSome (chosenOrder table)
-  pub tasks-are : take (r .order .count) (r .order .tasks) ≡ tasksIn (chosenOrder table)
-  pub count-is : r .order .count ≡ length (tasksIn (chosenOrder table))
+  pub answer : r ≡ answerOf (chosenOrder table)
   pub chosen : Chosen stable table

@@ -4,14 +4,16 @@
 mod numbers;
 
 ghost use mathlib.Core.Path.{_≡_};
+ghost use mathlib.Core.List.{[], _++_};
 ghost use Prim.Native.Nat.{_/_, _%_, _^_, _≤_, _<_};
-ghost use lib.ListN.{length, take};
+ghost use lib.ListN.{length, take, drop};
 ghost use Rattle.rows.specs.Rows.{maxTasks};
+ghost use Rattle.rows.specs.Arrays.{ranking};
 ghost use Rattle.orders.specs.Sets.{fits, Fresh, Settled};
 ghost use Rattle.orders.specs.Stability.{stable};
 ghost use Rattle.orders.specs.Numbers.{rowsIn};
 ghost use Rattle.orders.specs.Search.{Lent, Searching, MayGo, Told};
-ghost use Rattle.orders.specs.Search.{Chained, chainTasks, Listed, Table, Answered};
+ghost use Rattle.orders.specs.Search.{Chained, chainTasks, Table, Answered};
 use numbers::NUMBERS;
 use numbers::put_rows;
 use numbers::row_at;
@@ -117,7 +119,7 @@ fn settled(numbers: &[u64; NUMBERS], n: usize, m: usize, sets: &mut [u8]) -> boo
 
 // No tasks.
 fn nothing() -> Order
-    ensures { λ r. ⌜ (length (r .tasks) ≡ maxTasks) × (r .count ≡ 0) ⌝ }
+    ensures { λ r. ⌜ r ≡ ranking [] ⌝ }
 {
     Order {
         tasks: [0u16; MAX_TASKS],
@@ -129,7 +131,8 @@ fn nothing() -> Order
 // then that row's.
 fn rebuild(numbers: &[u64; NUMBERS], n: usize, m: usize, sets: &[u8], tasks: &mut [u16])
     requires { ⌜ (n ≤ length (now tasks)) × (m < length (now sets)) × Chained (rowsIn (now numbers)) (now sets) n m ⌝ }
-    ensures { λ _. ⌜ take n (now (tasks .exit)) ≡ chainTasks (rowsIn (now (numbers .entry))) (now (sets .entry)) n m ⌝ }
+    ensures { λ _. ⌜ now (tasks .exit)
+        ≡ chainTasks (rowsIn (now (numbers .entry))) (now (sets .entry)) n m ++ drop n (now (tasks .entry)) ⌝ }
 {
     if 0 < n {
         let i = sets[m] as usize;
@@ -143,7 +146,7 @@ fn rebuild(numbers: &[u64; NUMBERS], n: usize, m: usize, sets: &[u8], tasks: &mu
 // The order of the n rows of set m, read off the record.
 fn read_off(numbers: &[u64; NUMBERS], n: usize, m: usize, sets: &[u8]) -> Order
     requires { ⌜ (n ≤ maxTasks) × (m < length (now sets)) × Chained (rowsIn (now numbers)) (now sets) n m ⌝ }
-    ensures { λ r. ⌜ Listed (rowsIn (now (numbers .entry))) (now (sets .entry)) n m (r .tasks) (r .count) ⌝ }
+    ensures { λ r. ⌜ r ≡ ranking (chainTasks (rowsIn (now (numbers .entry))) (now (sets .entry)) n m) ⌝ }
 {
     let mut tasks = [0u16; MAX_TASKS];
     rebuild(numbers, n, m, sets, &mut tasks);

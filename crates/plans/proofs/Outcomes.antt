@@ -1,10 +1,11 @@
 -- A text that fits its buffer is written, and any other is refusal 9. What a program prints goes by the number that the
 -- call returned, since every refusal has one.
-use mathlib.Core.Path.{_≡_, refl, sym, ap, _∙_}
-use mathlib.Core.List.{List}
+use mathlib.Core.Path.{_≡_, refl, sym, ap, ap₂, subst, _∙_}
+use mathlib.Core.List.{List, [], _∷_, _++_}
 use Prim.Native.Nat.{ℕ, zero, suc, _≤_, _<_}
 use native.Mathlib.Omega.{arith}
-use lib.ListN.{length}
+use lib.ListN.{length, take, drop}
+use lib.Seq.{take-append-seam, drop-append-seam}
 use borrow.Author.Tests.{le-leb, lt-leb}
 use Rattle.text.specs.Puts.{Wrote}
 use Rattle.text.proofs.Puts.{wrote-counts}
@@ -13,7 +14,7 @@ use Rattle.plans.specs.declared.Plan.{Plan}
 use Rattle.plans.specs.Entries.{firstLate}
 use Rattle.plans.specs.Plans.{refusalText}
 use Rattle.plans.specs.Outcomes.{Outcome, writes, refuses, fitted, planOf, ifInTime, result, Written, printed}
-use Rattle.plans.specs.Prints.{Numbered}
+use Rattle.plans.specs.Prints.{toPrint}
 
 pub fits : (room : ℕ) (t : List ℕ) → length t ≤ room → fitted room t ≡ writes t
 unfolding fitted
@@ -44,19 +45,46 @@ refused e is = rw e record { returns = is; holds = refl }
 written-text : {t o o′ : List ℕ} {r : Plan} → Written (writes t) o o′ r → Wrote t o o′ (r .long)
 written-text w = record { long-is = ap (λ p. p .long) (w .returns); holds = w .holds }
 
-pub printed-plan : (w : Outcome) {o o′ : List ℕ} {r : Plan} → Numbered w → Written w o o′ r → r .number ≡ 0
-    → Wrote (printed w) o o′ (r .long)
-printed-plan (writes t) n w e = written-text w
-printed-plan (refuses m p) n w e =
-    let zero-is : m ≡ 0 = sym (ap (λ q. q .number) (w .returns)) ∙ e in
-    absurd (n p (ap (λ k. refuses k p) zero-is))
+-- of any answer and buffer: the lines of a refusal, or as much of the buffer as the answer says
+pub print-refused : (r : Plan) (o : List ℕ) → (r .number ≡ 0 → ⊥) → toPrint r o ≡ refusalText (r .number) (r .place)
+print-refused r o h = by-number (r .number) h
+  where
+    by-number : (n : ℕ) → (n ≡ 0 → ⊥)
+        → elim n [ zero ↦ take (r .long) o | suc m ↦ refusalText (suc m) (r .place) ] ≡ refusalText n (r .place)
+    by-number zero h = absurd (h refl)
+    by-number (suc m) h = refl
 
-pub printed-refusal : (w : Outcome) {o o′ : List ℕ} {r : Plan} → Written w o o′ r → (r .number ≡ 0 → ⊥)
-    → (printed w ≡ refusalText (r .number) (r .place)) × (o′ ≡ o)
-printed-refusal (writes t) w e = absurd (e (ap (λ q. q .number) (w .returns)))
-printed-refusal (refuses m p) w e = (sym (ap (λ q. refusalText (q .number) (q .place)) (w .returns)), w .holds)
+front-over : (n : ℕ) (o : List ℕ) → o ≡ take n o ++ drop (length (take n o)) o
+front-over zero o = refl
+front-over (suc n) [] = refl
+front-over (suc n) (b ∷ o) = ap (λ l. b ∷ l) (front-over n o)
 
--- a text that was written stands within the buffer
-pub long-fits : {w : Outcome} {o o′ : List ℕ} {r : Plan} → Written w o o′ r → r .long ≤ length o′
-long-fits {w = writes t} p = wrote-counts (written-text p) .0
-long-fits {w = refuses m k} p = omega (arith, ap (λ q. q .long) (p .returns))
+pub print-front : (r : Plan) (o : List ℕ) (long : ℕ) → r .number ≡ 0 → long ≡ length (take (r .long) o)
+    → Wrote (toPrint r o) o o long
+print-front r o long e h =
+    let is : take (r .long) o ≡ toPrint r o = sym (rw e) in
+    subst (λ t. Wrote t o o long) is (record { long-is = h; holds = front-over (r .long) o })
+
+-- a refusal's number is never 0
+abbrev pub Numbered : Outcome → Type 0
+Numbered w = (place : ℕ) → w ≡ refuses 0 place → ⊥
+
+-- the text to print is the outcome's
+to-print : (w : Outcome) {o o′ : List ℕ} {r : Plan} → Numbered w → Written w o o′ r → toPrint r o′ ≡ printed w
+to-print (writes t) {o = o} n w =
+    ap₂ toPrint (w .returns) (w .holds) ∙ take-append-seam t (drop (length t) o)
+to-print (refuses zero p) n w = absurd (n p refl)
+to-print (refuses (suc m) p) {o′ = o′} n w = ap (λ q. toPrint q o′) (w .returns)
+
+-- put over a buffer in which it, or nothing, was put, it is put over the buffer that was lent
+over-again : (w : Outcome) {o o′ : List ℕ} {r : Plan} → Written w o o′ r
+    → printed w ++ drop (length (printed w)) o′ ≡ printed w ++ drop (length (printed w)) o
+over-again (writes t) {o = o} w =
+    ap (λ l. t ++ l) (ap (drop (length t)) (w .holds) ∙ drop-append-seam t (drop (length t) o))
+over-again (refuses m p) w = ap (λ l. refusalText m p ++ drop (length (refusalText m p)) l) (w .holds)
+
+pub prints : (w : Outcome) {o o′ o″ : List ℕ} {r : Plan} {long : ℕ} → Numbered w → Written w o o′ r
+    → Wrote (toPrint r o′) o′ o″ long → Wrote (printed w) o o″ long
+prints w {o′ = o′} {o″ = o″} {long = long} n p q =
+    let s = subst (λ t. Wrote t o′ o″ long) (to-print w n p) q in
+    record { long-is = s .long-is; holds = s .holds ∙ over-again w p }

@@ -6,12 +6,12 @@ mod by_rank;
 ghost use mathlib.Core.Path.{_≡_};
 ghost use mathlib.Core.Bool.{true};
 ghost use Prim.Native.Nat.{_+_, _≤_};
-ghost use lib.ListN.{length, take};
+ghost use lib.ListN.{length, take, replicate};
 ghost use Rattle.text.specs.Puts.{Put, Wrote};
 ghost use Rattle.rows.specs.Rows.{maxTasks, inRange, allRows};
 ghost use Rattle.plans.specs.Plans.{rankText, headText, refusalText, planRoom};
 ghost use Rattle.plans.specs.Outcomes.{refuses, ifInTime, result, Written};
-ghost use Rattle.plans.specs.Prints.{Prints};
+ghost use Rattle.plans.specs.Prints.{toPrint};
 use rows::MAX_TASKS;
 use rows::Row;
 use text::put_bytes;
@@ -22,7 +22,7 @@ use text::put_signed_line;
 pub const ROOM: usize = 1024;
 
 pub fn buffer() -> [u8; ROOM]
-    ensures { λ r. ⌜ length r ≡ planRoom ⌝ }
+    ensures { λ r. ⌜ r ≡ replicate planRoom 0 ⌝ }
 {
     [0; ROOM]
 }
@@ -56,14 +56,20 @@ impl Plan {
 
     // What a program prints: the plan that stands in the buffer, or the refusal's lines.
     pub fn printed(self, out: &mut [u8; ROOM]) -> usize
-        requires { ⌜ self .long ≤ length (now out) ⌝ }
-        ensures { λ r. ⌜ Prints self (now (out .entry)) (now (out .exit)) r ⌝ }
+        ensures { λ r. ⌜ Wrote (toPrint self (now (out .entry))) (now (out .entry)) (now (out .exit)) r ⌝ }
     {
-        if self.number == 0 {
-            return self.long as usize;
+        if self.number != 0 {
+            return put_refusal(out, self.number, self.place);
         }
-        put_refusal(out, self.number, self.place)
+        held(out, self.long as usize)
     }
+}
+
+// A length, or all of a buffer that is shorter.
+fn held(out: &[u8], long: usize) -> usize
+    ensures { λ r. ⌜ r ≡ length (take long (now (out .entry))) ⌝ }
+{
+    if out.len() < long { out.len() } else { long }
 }
 
 fn put_rank(out: &mut [u8], at: usize, rank: u64, e: Entry) -> usize

@@ -3,23 +3,28 @@ use mathlib.Core.Path.{_≡_, refl, sym, ap, ap₂, _∙_}
 use mathlib.Core.Bool.{true, false, _&&_}
 use mathlib.Core.List.{List}
 use mathlib.Core.Option.{Option, none, some}
-use Prim.Native.Nat.{ℕ}
+use Prim.Native.Nat.{ℕ, _≤_}
+use native.Mathlib.Omega.{arith}
 use lib.Dec.{eqb}
 use lib.ListN.{length, take}
 use borrow.Author.Tests.{eqb-true}
 use Rattle.basics.specs.Basics.{distinct}
 use Rattle.basics.proofs.Tests.{and-left, true-not-false}
-use Rattle.rows.specs.Rows.{inRange, allRows, allTasks, tasksOf, rowsFor}
+use Rattle.rows.specs.Rows.{maxTasks, noRow, inRange, allRows, allTasks, tasksOf, rowsFor}
+use Rattle.rows.specs.Arrays.{padded, ranking, ranked}
 use Rattle.rows.specs.declared.Row.{Row}
-use Rattle.rows.proofs.Tasks.{tasks-length}
+use Rattle.rows.specs.declared.Order.{Order}
+use Rattle.rows.proofs.Tasks.{tasks-length, for-length}
+use Rattle.rows.proofs.Arrays.{padded-front, ranked-are}
 use Rattle.tables.specs.declared.Reading.{Reading}
 use Rattle.tables.specs.Tables.{Answer, readTable}
-use Rattle.tables.specs.Readings.{padded, reading}
+use Rattle.tables.specs.Readings.{reading}
 use Rattle.tables.proofs.Reasons.{read}
 use Rattle.orders.specs.declared.Answer as Found
 use Rattle.orders.specs.Sets.{isSome}
 use Rattle.orders.specs.Stability.{chosenOrder}
-use Rattle.orders.specs.Search.{tasksIn, Answered}
+use Rattle.orders.specs.Orders.{Possible}
+use Rattle.orders.specs.Search.{tasksIn, answerOf, Answered}
 use Rattle.orders.proofs.Possible.{possible-length}
 use Rattle.orders.proofs.Scan.{some-of}
 use Rattle.orders.proofs.Tasks.{rows-for}
@@ -31,11 +36,15 @@ use Rattle.ranks.proofs.Texts.{Accepts}
 use Rattle.ranks.proofs.Outcomes.{on-accepted}
 use Rattle.ranks.proofs.Planned as Planned
 use Rattle.ranks.proofs.Reviewed as Reviewed
-use Rattle.ranks.proofs.Readings.{padded-front, count-is, rows-front, board-is}
+use Rattle.ranks.proofs.Readings.{count-is, rows-front, few, board-is}
 
 in-time-plan : (room board : ℕ) (order : List Row) → NoneLate order
     → ifInTime room board order ≡ planOf room board order
 in-time-plan room board order h = timely-outcome room board order (Reviewed.none-late-first order h)
+
+-- rows at the front of an array
+front-of : (zs order : List Row) (n : ℕ) → zs ≡ padded noRow order → length order ≡ n → take n zs ≡ order
+front-of zs order n e many = ap₂ take (sym many) e ∙ padded-front noRow order
 
 -- ---- the planner: what the search found
 module _ (text : List ℕ) (r : Reading) (is : r ≡ reading (readTable false text)) (ok : Accepts false text)
@@ -49,8 +58,11 @@ module _ (text : List ℕ) (r : Reading) (is : r ≡ reading (readTable false te
   front : take n (r .table .rows) ≡ answer .rows
   front = rows-front false text r is
 
+  found-as : a ≡ answerOf (chosenOrder (answer .rows))
+  found-as = found .answer ∙ ap (λ (l : List Row). answerOf (chosenOrder l)) front
+
   pub found-is : a .found ≡ isSome (chosenOrder (answer .rows))
-  found-is = found .found-is ∙ ap (λ (l : List Row). isSome (chosenOrder l)) front
+  found-is = ap (λ (x : Found.Answer). x .found) found-as
 
   no-order : (o : Option (List Row)) → false ≡ isSome o → o ≡ none
   no-order none e = refl
@@ -69,26 +81,35 @@ module _ (text : List ℕ) (r : Reading) (is : r ≡ reading (readTable false te
     abbrev pub order : List Row
     order = some-order .0
 
-    tasks-are : take (a .order .count) (a .order .tasks) ≡ tasksOf order
-    tasks-are = found .tasks-are ∙ ap (λ (l : List Row). tasksIn (chosenOrder l)) front ∙ ap tasksIn (some-order .1)
+    order-is : a .order ≡ ranking (tasksOf order)
+    order-is =
+        ap (λ (x : Found.Answer). x .order) found-as
+        ∙ ap (λ (o : Option (List Row)). ranking (tasksIn o)) (some-order .1)
 
-    as-many : a .order .count ≡ n
-    as-many =
-        found .count-is
-        ∙ ap (λ (l : List Row). length (tasksIn (chosenOrder l))) front
-        ∙ ap (λ (o : Option (List Row)). length (tasksIn o)) (some-order .1)
-        ∙ tasks-length order
-        ∙ possible-length (Planned.choice text ok .is-possible order (some-order .1))
-        ∙ sym (count-is false text r is)
+    possible : Possible order (answer .rows)
+    possible = Planned.choice text ok .is-possible order (some-order .1)
+
+    as-many : length order ≡ n
+    as-many = possible-length possible ∙ sym (count-is false text r is)
+
+    pub order-few : a .order .count ≤ maxTasks
+    order-few =
+        omega (
+          arith,
+          ap (λ (o : Order). o .count) order-is,
+          tasks-length order,
+          as-many,
+          few false text r is ok,
+        )
 
     -- the rows of its tasks are the order's
-    pub order-rows : (zs : List Row) → take n zs ≡ rowsFor (take n (a .order .tasks)) (take n (r .table .rows))
+    pub order-rows : (zs : List Row)
+        → zs ≡ padded noRow (rowsFor (ranked (a .order)) (take n (r .table .rows)))
         → take n zs ≡ order
     order-rows zs e =
-        let tasks : take n (a .order .tasks) ≡ tasksOf order =
-        ap (λ (k : ℕ). take k (a .order .tasks)) (sym as-many) ∙ tasks-are in
-        e ∙ ap₂ rowsFor tasks front
-        ∙ rows-for (Planned.sound text ok .rows-distinct) (Planned.choice text ok .is-possible order (some-order .1))
+        let tasks = ap ranked order-is ∙ ranked-are (tasksOf order) in
+        let rows = ap₂ rowsFor tasks front ∙ rows-for (Planned.sound text ok .rows-distinct) possible in
+        front-of zs order n (e ∙ ap (padded noRow) rows) as-many
 
     pub order-ranged : allRows inRange order ≡ true
     order-ranged = Planned.order-in-range text ok order (some-order .1)
@@ -114,16 +135,27 @@ module _ (text : List ℕ) (r : Reading) (is : r ≡ reading (readTable true tex
       let q = and-left (same && distinct (given .order)) (allTasks (given .order) (given .rows)) p in
       eqb-true (length (given .order)) (length (given .rows)) (and-left same (distinct (given .order)) q)
 
+  order-given : r .order ≡ ranking (given .order)
+  order-given = ap (λ (x : Reading). x .order) is
+
+  pub given-few : r .order .count ≤ maxTasks
+  given-few =
+      omega (
+        arith,
+        ap (λ (o : Order). o .count) order-given,
+        ranks-many,
+        count-is true text r is,
+        few true text r is ok,
+      )
+
   pub given-rows : (zs : List Row)
-      → take (r .table .count) zs
-      ≡ rowsFor (take (r .table .count) (r .order .tasks)) (take (r .table .count) (r .table .rows))
+      → zs ≡ padded noRow (rowsFor (ranked (r .order)) (take (r .table .count) (r .table .rows)))
       → take (r .table .count) zs ≡ givenOrder text
   given-rows zs e =
-      let tasks : take (r .table .count) (r .order .tasks) ≡ given .order =
-      ap (λ (x : Reading). take (x .table .count) (x .order .tasks)) is
-      ∙ ap (λ (k : ℕ). take k (padded 0 (given .order))) (sym ranks-many)
-      ∙ padded-front 0 (given .order) in
-      e ∙ ap₂ rowsFor tasks (rows-front true text r is)
+      let tasks = ap ranked order-given ∙ ranked-are (given .order) in
+      let rows = ap₂ rowsFor tasks (rows-front true text r is) in
+      let many = for-length (given .order) (given .rows) ∙ ranks-many ∙ sym (count-is true text r is) in
+      front-of zs (givenOrder text) (r .table .count) (e ∙ ap (padded noRow) rows) many
 
   pub given-ranged : allRows inRange (givenOrder text) ≡ true
   given-ranged = Reviewed.order-in-range text ok

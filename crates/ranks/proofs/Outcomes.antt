@@ -11,8 +11,7 @@ use Rattle.basics.specs.Basics.{isIn}
 use Rattle.basics.proofs.Tests.{in-append, true-not-false, le-or-lt}
 use Rattle.tables.specs.Tables.{Answer}
 use Rattle.plans.specs.Outcomes.{Outcome, writes, refuses, fitted}
-use Rattle.plans.specs.Prints.{Numbered}
-use Rattle.plans.proofs.Outcomes.{fits, fits-not}
+use Rattle.plans.proofs.Outcomes.{fits, fits-not, Numbered}
 use Rattle.ranks.specs.Calls.{onTable}
 
 -- ---- outcomes differ by what they hold

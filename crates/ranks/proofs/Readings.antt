@@ -3,14 +3,14 @@
 use mathlib.Core.Path.{_≡_, sym, ap, subst, _∙_}
 use mathlib.Core.Bool.{Bool}
 use mathlib.Core.List.{List, []}
-use Prim.Native.Nat.{ℕ, _-_, _≤_}
+use Prim.Native.Nat.{ℕ, _≤_}
 use native.Mathlib.Omega.{arith}
-use lib.ListN.{length, take, replicate}
-use lib.Seq.{take-append-seam}
+use lib.ListN.{length, take}
 use Rattle.rows.specs.Rows.{maxTasks, noRow}
+use Rattle.rows.proofs.Arrays.{padded-front}
 use Rattle.tables.specs.declared.Reading.{Reading}
 use Rattle.tables.specs.Tables.{Answer, readTable}
-use Rattle.tables.specs.Readings.{padded, reading}
+use Rattle.tables.specs.Readings.{reading}
 use Rattle.tables.specs.Claims.{Accepted}
 use Rattle.tables.proofs.Reasons.{read}
 use Rattle.orders.specs.Search.{Table, Lent}
@@ -18,10 +18,6 @@ use Rattle.plans.specs.Outcomes.{Outcome, refuses}
 use Rattle.ranks.specs.Calls.{onTable}
 use Rattle.ranks.proofs.Texts.{Accepts}
 use Rattle.ranks.proofs.Outcomes.{on-turned-down}
-
--- the front of an array that is filled up
-pub padded-front : {A : Type 0} (d : A) (xs : List A) → take (length xs) (padded d xs) ≡ xs
-padded-front d xs = take-append-seam xs (replicate (maxTasks - length xs) d)
 
 module _ (ranked : Bool) (text : List ℕ) (r : Reading) (is : r ≡ reading (readTable ranked text)) where
   abbrev answer : Answer

@@ -27,8 +27,8 @@ pub fn write_plan(text: &[u8], out: &mut [u8]) -> Plan
     if !answer.found {
         return Plan::refused(8, 0);
     }
-    let tasks = answer.order.tasks;
-    let ordered = rows_for(tasks, n, rows, n);
+    let order = answer.order;
+    let ordered = rows_for(order, rows, n);
     let board = reading.table.board as u16;
     plan_order(out, board, ordered, n)
 }
@@ -44,8 +44,8 @@ pub fn review_order(text: &[u8], out: &mut [u8]) -> Plan
     }
     let rows = reading.table.rows;
     let n = reading.table.count;
-    let tasks = reading.order.tasks;
-    let given = rows_for(tasks, n, rows, n);
+    let order = reading.order;
+    let given = rows_for(order, rows, n);
     let board = reading.table.board as u16;
     plan_order(out, board, given, n)
 }

@@ -1,9 +1,10 @@
 -- The order rebuilt: the tasks of the set without its lowest row, then that row's. The measure is the number of rows.
 use mathlib.Core.Path.{_≡_, sym, ap, subst, _∙_}
 use mathlib.Core.Bool.{true}
+use mathlib.Core.List.{_++_}
 use Prim.Native.Nat.{ℕ, _-_, _/_, _%_, _^_, _<_}
 use native.Mathlib.Omega.{arith}
-use lib.ListN.{getD, take}
+use lib.ListN.{getD, drop}
 use borrow.Author.Needs.{needs}
 use borrow.Fn.Kinds.{In}
 use borrow.Fn.PlainCycle.{Measures, is, falls, and}
@@ -128,10 +129,10 @@ module _ (t : ℕ) where
       let o = c .before .before .before .before .rebuild in
       let ts = o .last .1 .1 .1 .1 .0 in
       let k = a .n - 1 in
-      let rest = subst (λ (p : ℕ). take k ts ≡ chainTasks rows (a .sets .now) k (a .m - p))
+      let rest = subst (λ (p : ℕ). ts ≡ chainTasks rows (a .sets .now) k (a .m - p) ++ drop k (a .tasks .now))
       (c .before .before .before .before .before .before .power .ensures) (o .ensures) in
-      chain-lowest rows (a .sets .now) (a .m) (a .n) ts (c .before .row-at .result) (read .before .if1 .taken)
-      (omega (arith, s .pre .1 .0, o .kept .1 .1 .1 .1 .0))
+      chain-lowest rows (a .sets .now) (a .m) (a .n) (a .tasks .now) ts (c .before .row-at .result)
+      (read .before .if1 .taken) (s .pre .1 .0)
       (c .before .row-at .ensures ∙ row-there (a .numbers .now) (i read) (row read .0)) rest
 
   returns-2 : rebuild-lts.Need-returns-2 calls rebuild-at rebuild.Post

@@ -1,21 +1,22 @@
 -- The whole table is the set of all bits: the record, begun empty, settles it, and the order is rebuilt from it.
-use mathlib.Core.Path.{_≡_, refl, ap, sym, _∙_, subst}
+use mathlib.Core.Path.{_≡_, refl, ap, ap₂, sym, _∙_, subst}
 use mathlib.Core.Bool.{Bool, true, false}
 use mathlib.Core.List.{List, []}
 use mathlib.Core.Option.{Option, none, some}
 use Prim.Native.Nat.{ℕ, _-_, _^_, _≤_, _<_}
 use native.Mathlib.Omega.{arith}
 use lib.ListN.{length, take}
-use lib.Seq.{length-take-le}
 use lib.Pow.{pow-pos}
 use borrow.Author.Needs.{needs}
 use Rattle.rows.specs.declared.Row.{Row}
 use Rattle.rows.specs.declared.Order.{Order}
+use Rattle.rows.specs.Arrays.{ranking}
+use Rattle.orders.specs.declared.Answer.{Answer}
 use Rattle.orders.specs.Orders.{theOrder, orderOf}
 use Rattle.orders.specs.Sets.{isSome, orderAt, Fresh, Settled}
 use Rattle.orders.specs.Stability.{stable}
 use Rattle.orders.specs.Numbers.{rowsIn}
-use Rattle.orders.specs.Search.{tasksIn, Lent, Chained, chainTasks, Listed, Answered}
+use Rattle.orders.specs.Search.{tasksIn, Lent, Chained, chainTasks, Answered}
 use Rattle.orders.proofs.Searched.{small, a-set}
 use Rattle.orders.proofs.Record.{begun}
 use Rattle.orders.proofs.Listed.{chain}
@@ -27,6 +28,9 @@ use Rattle.orders.proofs.order_with.Tie as tie
 no-tasks : (o : Option (List Row)) → false ≡ isSome o → [] ≡ tasksIn o
 no-tasks none e = refl
 no-tasks (some os) e = let z : _≡_ {A = ℕ} 0 1 = cc in absurd (omega arith)
+
+abbrev asFound : Bool → Order → Answer
+asFound found order = record { found = found; order = order }
 
 -- the whole set and its record
 module _ (rows : List Row) (n : ℕ) (lent : Lent rows n) (all : ℕ) (e : all ≡ 2 ^ n - 1) where
@@ -54,27 +58,19 @@ module _ (rows : List Row) (n : ℕ) (lent : Lent rows n) (all : ℕ) (e : all �
     answered :
         (o : Order) →
         found ≡ true →
-        Listed rows sets n all (o .tasks) (o .count) →
+        o ≡ ranking (chainTasks rows sets n all) →
         Answered table (record { found = true; order = o })
-    answered o h l =
-        let tasks = ap (λ (k : ℕ). take k (o .tasks)) (l .counted)
-        ∙ l .front ∙ chained h .1 ∙ ap tasksIn whole in
-        let fits : o .count ≤ length (o .tasks) = omega (arith, l .counted, l .long, lent .held) in
-        record {
-          found-is = sym h ∙ s .found-is ∙ ap isSome whole;
-          tasks-are = tasks;
-          count-is = sym (length-take-le (o .count) (o .tasks) fits) ∙ ap length tasks;
-          chosen = chosen table (lent .table .distinct);
-        }
+    answered o h l = record {
+      answer = ap₂ asFound (sym h ∙ s .found-is ∙ ap isSome whole)
+          (l ∙ ap ranking (chained h .1 ∙ ap tasksIn whole));
+      chosen = chosen table (lent .table .distinct);
+    }
 
-    answered-none : (o : Order) → found ≡ false → o .count ≡ 0 → Answered table (record { found = false; order = o })
-    answered-none o h z =
+    answered-none : (o : Order) → found ≡ false → o ≡ ranking [] → Answered table (record { found = false; order = o })
+    answered-none o h l =
         let missing = sym h ∙ s .found-is ∙ ap isSome whole in
-        let tasks = no-tasks (orderOf stable table) missing in
         record {
-          found-is = missing;
-          tasks-are = ap (λ (k : ℕ). take k (o .tasks)) z ∙ tasks;
-          count-is = z ∙ ap length tasks;
+          answer = ap₂ asFound missing (l ∙ ap ranking (no-tasks (orderOf stable table) missing));
           chosen = chosen table (lent .table .distinct);
         }
 
@@ -136,7 +132,7 @@ returns-2 c =
     let s = d .before .before .before .before in
     let a = s .args in
     answered-none (rowsIn (a .numbers .now)) (a .n) (s .pre .0) _ (all-is (d .before .before)) _ (d .settled .result)
-    (d .settled .ensures) (c .nothing .result) (c .before .if1 .left) (c .nothing .ensures .1)
+    (d .settled .ensures) (c .nothing .result) (c .before .if1 .left) (c .nothing .ensures)
 
 pub order-with-spec : {M : Type 1} → statement M
 order-with-spec =

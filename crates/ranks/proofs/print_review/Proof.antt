@@ -4,8 +4,9 @@ use mathlib.Core.Path.{_≡_, refl}
 use denote.Ref.{now}
 use borrow.Author.Needs.{needs}
 use lib.ListN.{length}
+use Rattle.text.proofs.Puts.{wrote-counts}
 use Rattle.plans.specs.Plans.{planRoom}
-use Rattle.plans.proofs.Outcomes.{long-fits}
+use Rattle.plans.proofs.Outcomes.{prints}
 use Rattle.ranks.specs.Calls.{reviewed}
 use Rattle.ranks.specs.Demands.{reviewerRefusals}
 use Rattle.ranks.proofs.Outcomes.{numbered}
@@ -19,7 +20,7 @@ review-order-requires : tie.Need-review-order-requires
 review-order-requires c κs = search needs
 
 printed-requires : tie.Need-printed-requires
-printed-requires c κs = long-fits (c .before .review-order .ensures .answer)
+printed-requires c κs = search needs
 
 returns : tie.Need-returns
 returns c =
@@ -30,8 +31,8 @@ returns c =
     let listed = rw (room f) at (says .demands .listed) in
     let answer = rw (room f) at (says .answer) in
     let p = c .printed .ensures in (
-      p .text (reviewed text planRoom) (now (s .args .out)) (numbered _ reviewerRefusals refl listed) answer,
-      p .counts,
+      prints (reviewed text planRoom) (numbered _ reviewerRefusals refl listed) answer p,
+      wrote-counts p,
     )
 
 pub print-review-spec : {M : Type 1} → statement M

@@ -15,7 +15,7 @@ use Rattle.ranks.specs.Calls.{givenOrder}
 use Rattle.ranks.proofs.Texts.{Accepts}
 use Rattle.ranks.proofs.Reviewed.{review-demands, decided}
 use Rattle.ranks.proofs.Readings.{accepts, refusal-is, few, board-fits}
-use Rattle.ranks.proofs.Ordered.{given-rows, given-ranged, given-plan}
+use Rattle.ranks.proofs.Ordered.{given-few, given-rows, given-ranged, given-plan}
 use Rattle.ranks.proofs.review_order.Statement.{statement}
 use Rattle.ranks.proofs.review_order.Tie as tie
 
@@ -59,9 +59,10 @@ returns c =
 rows-for-requires : tie.Need-rows-for-requires
 rows-for-requires c κs =
     let e = c .before .before in
-    let r = e .before .read-table in
-    let l = few true (text-of (e .before)) (r .result) (r .ensures .result) (ok e) in
-    (l, l)
+    let r = e .before .read-table in (
+      given-few (text-of (e .before)) (r .result) (r .ensures .result) (ok e),
+      few true (text-of (e .before)) (r .result) (r .ensures .result) (ok e),
+    )
 
 cast-board : tie.Need-cast-board
 cast-board c =

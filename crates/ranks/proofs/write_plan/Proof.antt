@@ -17,7 +17,7 @@ use Rattle.plans.proofs.Outcomes.{refused}
 use Rattle.ranks.proofs.Texts.{Accepts}
 use Rattle.ranks.proofs.Planned.{plan-demands, decided}
 use Rattle.ranks.proofs.Readings.{accepts, refusal-is, few, lent, board-fits}
-use Rattle.ranks.proofs.Ordered.{unordered-plan, order, order-rows, order-ranged, ordered-plan}
+use Rattle.ranks.proofs.Ordered.{unordered-plan, order, order-few, order-rows, order-ranged, ordered-plan}
 use Rattle.ranks.proofs.write_plan.Statement.{statement}
 use Rattle.ranks.proofs.write_plan.Tie as tie
 
@@ -96,10 +96,14 @@ returns-2 c =
 
 rows-for-requires : tie.Need-rows-for-requires
 rows-for-requires c κs =
-    let e = c .before .before .before .before .before in
+    let d = c .before in
+    let e = d .before .before .before .before in
     let r = e .before .read-table in
-    let l = few false (text-of (e .before)) (r .result) (r .ensures .result) (ok e) in
-    (l, l)
+    let o = d .before .before .order-of-first in
+    let text = text-of (e .before) in (
+      order-few text (r .result) (r .ensures .result) (ok e) (o .result) (o .ensures) (found d),
+      few false text (r .result) (r .ensures .result) (ok e),
+    )
 
 cast-board : tie.Need-cast-board
 cast-board c =
