@@ -5,5 +5,6 @@ pub mod Promised
 pub mod Planned
 pub mod Reviewed
 pub mod Cases
+pub mod Witnesses
 pub mod Readings
 pub mod Ordered

@@ -202,6 +202,19 @@ module _ (text : List ℕ) where
       is-given : Given (answer .rows) (answer .order) order
       is-given = record { possible = is-possible ok .0; tasks-are = is-possible ok .1 }
 
+    -- 7 has a rank, counted from 1
+    pub seven-ranked : reviewed text room ≡ refuses 7 0 → ⊥
+    seven-ranked e = by-cases cases
+      where
+        by-cases : Cases → ⊥
+        by-cases (refused n r is) =
+            true-not-false (isIn 7 (1 ∷ 2 ∷ 3 ∷ 4 ∷ 5 ∷ 6 ∷ []))
+            (subst (λ k. isIn k (1 ∷ 2 ∷ 3 ∷ 4 ∷ 5 ∷ 6 ∷ []) ≡ true) (same-refusal (sym is ∙ e) .0) (text-listed n r))
+            refl
+        by-cases (late a k l is) = omega (arith, same-refusal (sym is ∙ e) .1)
+        by-cases (short a t h is) = let z : _≡_ {A = ℕ} 9 7 = same-refusal (sym is ∙ e) .0 in omega arith
+        by-cases (written a t h is) = not-both (sym is ∙ e)
+
     has-room : Cases → planRoom ≤ room → (p : ℕ) → reviewed text room ≡ refuses 9 p → ⊥
     has-room (refused m r is) h p e =
         true-not-false (isIn 9 (1 ∷ 2 ∷ 3 ∷ 4 ∷ 5 ∷ 6 ∷ []))

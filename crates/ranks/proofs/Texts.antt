@@ -47,7 +47,7 @@ module _ (ranked : Bool) (text : List ℕ) where
   telling a = let w = read ranked text .as-written a in record { lines = w .lines; whole = w .whole }
 
   -- ---- and nothing else
-  fails-only : (n k : ℕ) → Fails ranked text n k → answer ≡ turnedDown n k
+  pub fails-only : (n k : ℕ) → Fails ranked text n k → answer ≡ turnedDown n k
   fails-only n k f = read ranked text .refuses k n (f .stage) (f .rest) (f .before) (f .condition)
 
   pub tells-only : (b : ℕ) (rows : List Row) (tasks : List ℕ) → Tells ranked text b rows tasks

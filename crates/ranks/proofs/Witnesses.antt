@@ -1,0 +1,85 @@
+-- What is read of each text is found by computing, and the demands of that text say the rest: what it meets, and that no
+-- other outcome than its own meets them.
+use mathlib.Core.Path.{_≡_, refl, sym, ap, _∙_}
+use mathlib.Core.Bool.{true, false}
+use mathlib.Core.List.{[], _∷_}
+use Prim.Native.Nat.{ℕ}
+use native.Mathlib.Omega.{arith}
+use lib.ListN.{length}
+use Rattle.text.specs.Text.{digits, decimal, signed, keyLine}
+use Rattle.text.specs.Lines.{numberOf, lineAt}
+use Rattle.rows.specs.Rows.{inRange, rowAt}
+use Rattle.rows.proofs.Limits.{limits, at-passes}
+use Rattle.tables.specs.Tables.{fieldAt, rankAt, ranksFrom, fieldsFrom, rowsFrom, tasksFrom, boardFrom}
+use Rattle.tables.specs.Tables.{Answer, readTable}
+use Rattle.responses.specs.Fixed.{smallest, largest}
+use Rattle.orders.specs.Orders.{overSet}
+use Rattle.plans.specs.Entries.{entries}
+use Rattle.plans.specs.Plans.{rankText, headText, planText}
+use Rattle.plans.specs.Outcomes.{refuses, ifInTime}
+use Rattle.ranks.specs.Calls.{onTable, planned, reviewed}
+use Rattle.ranks.specs.Cases.{table}
+use Rattle.ranks.specs.Witnesses.{example, exampleRows, exampleOrder, lateOrder, lateText, malformed}
+use Rattle.ranks.specs.Witnesses.{Met, Excluded}
+use Rattle.ranks.proofs.Outcomes.{same-refusal, not-both}
+use Rattle.ranks.proofs.Texts.{failing, telling, fails-only}
+use Rattle.ranks.proofs.Planned as Planned
+use Rattle.ranks.proofs.Reviewed as Reviewed
+
+pub met : Met
+unfolding digits decimal signed keyLine numberOf lineAt fieldAt rankAt ranksFrom fieldsFrom rowsFrom tasksFrom boardFrom
+    smallest largest overSet rankText headText planText ifInTime onTable
+met =
+    let late-told = telling true lateText refl in
+    let late-given = Reviewed.review-demands lateText 0 .given 7 exampleRows (11 ∷ 13 ∷ 12 ∷ []) late-told in
+    let reviews = Reviewed.review-demands lateText 0 .accepted 7 exampleRows (11 ∷ 13 ∷ 12 ∷ []) late-told in
+    let plan-long : length (planText 7 (entries exampleOrder)) ≡ 176 = refl in
+    record {
+      missing = failing false _ 0 refl;
+      trailing = failing false _ 0 refl;
+      no-number = failing false _ 1 refl;
+      out-of-range = failing false _ 2 refl;
+      exceeding = failing false _ 3 refl;
+      repeated = failing false _ 4 refl;
+      impossible = failing true _ 5 refl;
+      tells = telling false example refl;
+      by-rule = Planned.rule-of example 0 refl exampleOrder refl;
+      short = omega (arith, plan-long);
+      every-order-fails = Planned.choice (table "beta=8000" "beta=8000" "beta=54999") refl .none-passes refl;
+      tells-order = late-told;
+      given = late-given;
+      first-late = reviews lateOrder late-given .seven 2 .0 refl;
+      none-late = Planned.in-time example refl exampleOrder refl;
+      lasts = λ order ok i k l.
+          let r = limits (rowAt order i) (at-passes inRange order i ok l) in
+          (r .best-worst, omega arith);
+    }
+
+-- a text that is no table has its refusal only
+malformed-only : (room : ℕ) → planned malformed room ≡ refuses 2 1
+unfolding numberOf lineAt boardFrom onTable
+malformed-only room = refl
+
+example-accepted : readTable false example .refused ≡ 0
+unfolding numberOf lineAt fieldAt ranksFrom fieldsFrom rowsFrom tasksFrom boardFrom
+example-accepted = refl
+
+late-only : (room : ℕ) → reviewed lateText room ≡ refuses 7 3
+unfolding numberOf lineAt fieldAt rankAt ranksFrom fieldsFrom rowsFrom tasksFrom boardFrom smallest ifInTime onTable
+late-only room = refl
+
+pub excluded : Excluded
+excluded = record {
+  two-for-a-table = λ room d.
+      let e = fails-only false example 2 77 (d .refused 2 77 .0 (refl, omega arith)) in
+      let z : _≡_ {A = ℕ} 0 2 = sym example-accepted ∙ ap (λ (a : Answer). a .refused) e in
+      omega arith;
+  empty-plan = λ room d. not-both (Planned.decided malformed room _ d ∙ malformed-only room);
+  no-line = λ room d.
+      let z : _≡_ {A = ℕ} 0 1 = same-refusal (Planned.decided malformed room _ d ∙ malformed-only room) .1 in
+      omega arith;
+  seven-with-no-rank = λ text room d. Reviewed.seven-ranked text room (sym (Reviewed.decided text room _ d));
+  nine-for-late = λ room d.
+      let z : _≡_ {A = ℕ} 9 7 = same-refusal (Reviewed.decided lateText room _ d ∙ late-only room) .0 in
+      omega arith;
+}

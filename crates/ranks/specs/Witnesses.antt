@@ -1,0 +1,75 @@
+-- Nothing is demanded in vain: a text or a run that meets each condition that the demands name. And outcomes that weaker
+-- demands would admit, each excluded.
+use mathlib.Core.Path.{_≡_}
+use mathlib.Core.Bool.{true, false}
+use mathlib.Core.List.{List, [], _∷_, _++_}
+use Prim.Native.Nat.{ℕ, _<_}
+use Prim.Native.String.{String}
+use lib.ListN.{length}
+use Rattle.text.specs.Text.{bytes}
+use Rattle.rows.specs.Rows.{inRange, allRows, rowAt}
+use Rattle.rows.specs.declared.Row.{Row}
+use Rattle.boards.specs.Claims.{LastsInRange, NoneLate}
+use Rattle.plans.specs.Entries.{entries}
+use Rattle.plans.specs.Plans.{planText}
+use Rattle.plans.specs.Outcomes.{writes, refuses}
+use Rattle.ranks.specs.Cases.{lined, row11, row12, row13, table}
+use Rattle.ranks.specs.Demands.{Fails, Tells, EveryOrderFails, ByRule, PlanDemands}
+use Rattle.ranks.specs.Demands.{Given, FirstLate, ReviewDemands}
+
+-- document 01's example: its text, its rows, the order of its plan
+abbrev pub example : List ℕ
+example = table "beta=8000" "beta=8000" "beta=57000"
+
+abbrev pub exampleRows : List Row
+exampleRows = row11 8000 ∷ row12 8000 ∷ row13 57000 ∷ []
+
+abbrev pub exampleOrder : List Row
+exampleOrder = row12 8000 ∷ row11 8000 ∷ row13 57000 ∷ []
+
+-- and an order of it in which the lowest task is late
+abbrev pub lateOrder : List Row
+lateOrder = row11 8000 ∷ row13 57000 ∷ row12 8000 ∷ []
+
+abbrev pub lateText : List ℕ
+lateText = example ++ lined ("rank=11" ∷ "rank=13" ∷ "rank=12" ∷ [])
+
+-- a text that is no table, and one whose first task is followed by a line
+abbrev pub malformed : List ℕ
+malformed = lined ("board=07" ∷ [])
+
+abbrev pub oneTask : List String → List ℕ
+oneTask more = lined ("board=7" ∷ "tasks=2" ∷ "task=1" ∷ "period=10" ∷ more)
+
+pub record Met : Type 0 where
+  -- refusals 1 to 6, each at its line
+  pub missing : Fails false [] 1 1
+  pub trailing : Fails false (example ++ bytes "x") 1 21
+  pub no-number : Fails false malformed 2 1
+  pub out-of-range : Fails false (lined ("board=7" ∷ "tasks=13" ∷ [])) 3 2
+  pub exceeding : Fails false (oneTask ("worst=11" ∷ [])) 4 5
+  pub repeated : Fails false (oneTask ("worst=10" ∷ "best=1" ∷ "alpha=1000" ∷ "beta=0" ∷ "task=1" ∷ [])) 5 9
+  pub impossible : Fails true (example ++ lined ("rank=11" ∷ "rank=11" ∷ [])) 6 22
+  -- a table with an order, in a room that is too short too, and one with none
+  pub tells : Tells false example 7 exampleRows []
+  pub by-rule : ByRule exampleRows exampleOrder
+  pub short : 0 < length (planText 7 (entries exampleOrder))
+  pub every-order-fails : EveryOrderFails (row11 8000 ∷ row12 8000 ∷ row13 54999 ∷ [])
+  -- an order given with a late task, and one without
+  pub tells-order : Tells true lateText 7 exampleRows (11 ∷ 13 ∷ 12 ∷ [])
+  pub given : Given exampleRows (11 ∷ 13 ∷ 12 ∷ []) lateOrder
+  pub first-late : FirstLate lateOrder 2
+  pub none-late : NoneLate exampleOrder
+  -- a run in which every job needs its worst
+  pub lasts : (order : List Row) → allRows inRange order ≡ true → LastsInRange order (λ i k. rowAt order i .worst)
+
+pub record Excluded : Type 0 where
+  -- a refusal of the text for a table that is accepted
+  pub two-for-a-table : (room : ℕ) → PlanDemands example room (refuses 2 77) → ⊥
+  -- a plan of nothing, or a refusal with no line, for a text that is no table
+  pub empty-plan : (room : ℕ) → PlanDemands malformed room (writes (planText 0 [])) → ⊥
+  pub no-line : (room : ℕ) → PlanDemands malformed room (refuses 2 0) → ⊥
+  -- 7 with no rank, for every text
+  pub seven-with-no-rank : (text : List ℕ) (room : ℕ) → ReviewDemands text room (refuses 7 0) → ⊥
+  -- 9 for an order with a late task, however short the room
+  pub nine-for-late : (room : ℕ) → ReviewDemands lateText room (refuses 9 0) → ⊥
