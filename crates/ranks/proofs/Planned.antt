@@ -36,7 +36,7 @@ use Rattle.ranks.specs.Demands.{Promised, Tells, entryAt, plannerRefusal
 use Rattle.ranks.specs.Demands.{EveryOrderFails, ByRule, TablePlan, PlanDemands}
 use Rattle.ranks.proofs.Outcomes.{same-refusal, not-both, zero-or-more, on-accepted, on-refused}
 use Rattle.ranks.proofs.Outcomes.{nine-is, written-is, listed-more}
-use Rattle.ranks.proofs.Texts.{Accepts, failing, telling, tells-only, refused-exactly}
+use Rattle.ranks.proofs.Texts.{Accepts, failing, refused-low, telling, tells-only, refused-exactly}
 use Rattle.ranks.proofs.Promised.{promised}
 
 module _ (text : List ℕ) where
@@ -196,9 +196,7 @@ module _ (text : List ℕ) where
       }
 
     has-room : Cases → planRoom ≤ room → (p : ℕ) → planned text room ≡ refuses 9 p → ⊥
-    has-room (refused m r is) h p e =
-        true-not-false (isIn 9 (1 ∷ 2 ∷ 3 ∷ 4 ∷ 5 ∷ []))
-        (subst (λ k. isIn k (1 ∷ 2 ∷ 3 ∷ 4 ∷ 5 ∷ []) ≡ true) (same-refusal (sym is ∙ e) .0) (text-listed m r)) refl
+    has-room (refused n r is) h p e = omega (arith, same-refusal (sym is ∙ e) .0, refused-low false text n r)
     has-room (unordered a o is) h p e = let z : _≡_ {A = ℕ} 8 9 = same-refusal (sym is ∙ e) .0 in omega arith
     has-room (short a order o l is) h p e = omega (arith, order-fits a order o)
     has-room (written a order o l is) h p e = not-both (sym is ∙ e)

@@ -30,7 +30,7 @@ use Rattle.ranks.specs.Calls.{givenOrder, reviewed}
 use Rattle.ranks.specs.Demands.{Promised, reviewerRefusals, Given, FirstLate, OrderReview, ReviewDemands}
 use Rattle.ranks.proofs.Outcomes.{same-refusal, not-both, zero-or-more, on-accepted, on-refused}
 use Rattle.ranks.proofs.Outcomes.{nine-is, written-is, listed-more}
-use Rattle.ranks.proofs.Texts.{Accepts, failing, telling, tells-only, refused-exactly}
+use Rattle.ranks.proofs.Texts.{Accepts, failing, refused-low, telling, tells-only, refused-exactly}
 use Rattle.ranks.proofs.Promised.{promised}
 
 pub none-late-first : (order : List Row) → NoneLate order → firstLate order ≡ 0
@@ -207,18 +207,13 @@ module _ (text : List ℕ) where
     seven-ranked e = by-cases cases
       where
         by-cases : Cases → ⊥
-        by-cases (refused n r is) =
-            true-not-false (isIn 7 (1 ∷ 2 ∷ 3 ∷ 4 ∷ 5 ∷ 6 ∷ []))
-            (subst (λ k. isIn k (1 ∷ 2 ∷ 3 ∷ 4 ∷ 5 ∷ 6 ∷ []) ≡ true) (same-refusal (sym is ∙ e) .0) (text-listed n r))
-            refl
+        by-cases (refused n r is) = omega (arith, same-refusal (sym is ∙ e) .0, refused-low true text n r)
         by-cases (late a k l is) = omega (arith, same-refusal (sym is ∙ e) .1)
         by-cases (short a t h is) = let z : _≡_ {A = ℕ} 9 7 = same-refusal (sym is ∙ e) .0 in omega arith
         by-cases (written a t h is) = not-both (sym is ∙ e)
 
     has-room : Cases → planRoom ≤ room → (p : ℕ) → reviewed text room ≡ refuses 9 p → ⊥
-    has-room (refused m r is) h p e =
-        true-not-false (isIn 9 (1 ∷ 2 ∷ 3 ∷ 4 ∷ 5 ∷ 6 ∷ []))
-        (subst (λ k. isIn k (1 ∷ 2 ∷ 3 ∷ 4 ∷ 5 ∷ 6 ∷ []) ≡ true) (same-refusal (sym is ∙ e) .0) (text-listed m r)) refl
+    has-room (refused n r is) h p e = omega (arith, same-refusal (sym is ∙ e) .0, refused-low true text n r)
     has-room (late a k l is) h p e = let z : _≡_ {A = ℕ} 7 9 = same-refusal (sym is ∙ e) .0 in omega arith
     has-room (short a t l is) h p e = omega (arith, order-fits a t)
     has-room (written a t l is) h p e = not-both (sym is ∙ e)

@@ -43,6 +43,9 @@ module _ (ranked : Bool) (text : List ℕ) where
         condition = subst (Refused (r .stage) (r .rest)) e (r .condition);
       }
 
+  pub refused-low : (n : ℕ) → answer .refused ≡ suc n → suc n ≤ 6
+  refused-low n e = numbers (failing n e .condition) .1
+
   pub telling : Accepts ranked text → Tells ranked text (answer .board) (answer .rows) (answer .order)
   telling a = let w = read ranked text .as-written a in record { lines = w .lines; whole = w .whole }
 
