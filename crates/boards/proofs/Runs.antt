@@ -81,7 +81,7 @@ module _ (order : List Row) (offset : ℕ → ℕ) (need : ℕ → ℕ → ℕ) 
       let p = r i k t l .0 e in
       s i k t l .1 (
         pending-alike f g t a i k l (p .0),
-        λ j m h q. p .1 j m h (pending-alike g f t b j m (lt-trans h l) q),
+        λ j m h q. p .1 j m h (pending-alike g f t b j m (omega (arith, h, l)) q),
         λ m h q. p .2 m h (pending-alike g f t b i m l q),
       )
 
