@@ -1,6 +1,6 @@
--- Every run by document 01's rules: the tick that goes to a job is one of its rank's, between the work of the jobs before
--- it and its own; so the ticks it has had follow from its rank's service, and a job is pending exactly where its rank's
--- service has not come to its end.
+-- Every run by document 01's rules: the tick that goes to a job is one of its rank's, between the work of the jobs
+-- before it and its own; so the ticks it has had follow from its rank's service, and a job is pending exactly where its
+-- rank's service has not come to its end.
 use mathlib.Core.Path.{_≡_, refl, sym, ap, ap₂, subst, _∙_}
 use mathlib.Core.Bool.{Bool, true, false}
 use mathlib.Core.List.{List, [], _∷_}
@@ -54,7 +54,9 @@ first-of : (qs : List (List Job)) (i : ℕ) (x : Job) (q : List Job) → turn qs
     → isFirst i (x .release) qs ≡ true
 first-of [] i x q e h = absurd (let z : _≡_ {A = ℕ} 0 1 = cc in omega arith)
 first-of ([] ∷ qs) zero x q e h = absurd (omega arith)
-first-of ((y ∷ p) ∷ qs) zero x q e h = let same : x ≡ y = cc in eq-eqb (x .release) (y .release) (ap (λ j. j .release) same)
+first-of ((y ∷ p) ∷ qs) zero x q e h =
+    let same : x ≡ y = cc in
+    eq-eqb (x .release) (y .release) (ap (λ j. j .release) same)
 first-of ([] ∷ qs) (suc i) x q e h = first-of qs i x q (suc-inj e) h
 first-of ((y ∷ p) ∷ qs) (suc i) x q e h = absurd (omega arith)
 
@@ -333,7 +335,9 @@ module _ (order : List Row) (offset : ℕ → ℕ) (need : ℕ → ℕ → ℕ)
         let ih = ahead k d h (omega arith) in
         rw (add-suc (release 0 k) d) (elim (le-or-lt (runs t) 0) [
           | inl z ↦ (let ran : runs t ≡ 0 = omega arith in omega (arith, service-step runs 0 t ran))
-          | inr z ↦ omega (arith, run .by-rank 0 t l z, due 0 k t l (omega arith), service-grows runs 0 t (suc t) (omega arith))
+          | inr z ↦ (
+              let more = service-grows runs 0 t (suc t) (omega arith) in
+              omega (arith, run .by-rank 0 t l z, due 0 k t l (omega arith), more))
         ])
 
     on-time : (k : ℕ) → needed (need 0) k ≤ service runs 0 (release 0 k)

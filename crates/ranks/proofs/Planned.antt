@@ -136,14 +136,19 @@ module _ (text : List ℕ) where
     unfolding ifOrdered
     ordered-is order o = ap (ifOrdered room (answer .board)) o
 
-    high : (n k : ℕ) → onRows ≡ refuses n k → 7 ≤ n
-    high n k e = elim (answer-of (chosenOrder (answer .rows))) [
-      | inr o ↦ omega (arith, same-refusal (sym (unordered-is o) ∙ e) .0)
-      | inl o ↦ elim (le-or-lt (length (planFor (o .0))) room) [
-        | inl h ↦ absurd (not-both (sym (ordered-is (o .0) (o .1) ∙ fits room (planFor (o .0)) h) ∙ e))
-        | inr h ↦ omega (arith, same-refusal (sym (ordered-is (o .0) (o .1) ∙ fits-not room (planFor (o .0)) h) ∙ e) .0)
-      ]
-    ]
+    -- it has no number up to 6
+    high : Cases → Accepts false text → (n k : ℕ) → onRows ≡ refuses n k → 7 ≤ n
+    high (refused m r is) ok n k e = absurd (omega (arith, r, ok))
+    high (unordered a o is) ok n k e = omega (arith, same-refusal (sym is ∙ (on-accepted answer onRows ok ∙ e)) .0)
+    high (short a order o h is) ok n k e = omega (arith, same-refusal (sym is ∙ (on-accepted answer onRows ok ∙ e)) .0)
+    high (written a order o h is) ok n k e = absurd (not-both (sym is ∙ (on-accepted answer onRows ok ∙ e)))
+
+    eight-only : Cases → planned text room ≡ refuses 8 0 → EveryOrderFails (answer .rows)
+    eight-only (refused n r is) e = absurd (omega (arith, same-refusal (sym is ∙ e) .0, refused-low false text n r))
+    eight-only (unordered a o is) e = choice a .none-passes o
+    eight-only (short a order o h is) e =
+        absurd (let z : _≡_ {A = ℕ} 9 8 = same-refusal (sym is ∙ e) .0 in omega arith)
+    eight-only (written a order o h is) e = absurd (not-both (sym is ∙ e))
 
     module _ (ok : Accepts false text) where
       on-rows : planned text room ≡ onRows
@@ -168,21 +173,9 @@ module _ (text : List ℕ) where
         not-after = λ os possible passing. choice ok .by-rule order os o possible passing;
       }
 
-      eight-only : planned text room ≡ refuses 8 0 → EveryOrderFails (answer .rows)
-      eight-only e = elim (answer-of (chosenOrder (answer .rows))) [
-        | inr o ↦ choice ok .none-passes o
-        | inl o ↦ elim (le-or-lt (length (planFor (o .0))) room) [
-          | inl h ↦ absurd (not-both
-              (sym (on-rows ∙ (ordered-is (o .0) (o .1) ∙ fits room (planFor (o .0)) h)) ∙ e))
-          | inr h ↦ absurd (
-              let nine = on-rows ∙ (ordered-is (o .0) (o .1) ∙ fits-not room (planFor (o .0)) h) in
-              let z : _≡_ {A = ℕ} 9 8 = same-refusal (sym nine ∙ e) .0 in omega arith)
-        ]
-      ]
-
       table-plan : TablePlan room (answer .board) (answer .rows) (planned text room)
       table-plan = record {
-        eight = (eight-only, λ h. on-rows ∙ unordered-is (choice ok .none-only h));
+        eight = (eight-only cases, λ h. on-rows ∙ unordered-is (choice ok .none-only h));
         ordered = λ order r.
             let o = by-rule order r in
             let is = on-rows ∙ ordered-is order o in
@@ -205,7 +198,7 @@ module _ (text : List ℕ) where
     plan-demands = record {
       read = read false text;
       listed = listed cases;
-      refused = refused-exactly false text onRows high;
+      refused = refused-exactly false text onRows (high cases);
       accepted = λ b rows t.
           let is = tells-only false text b rows [] t in
           subst (λ (a : Answer). TablePlan room (a .board) (a .rows) (planned text room)) is

@@ -143,18 +143,22 @@ module _ (text : List ℕ) where
     abbrev onOrder : Outcome
     onOrder = ifInTime room (answer .board) order
 
-    high : (n k : ℕ) → onOrder ≡ refuses n k → 7 ≤ n
-    high n k e = elim (zero-or-more (firstLate order)) [
-      | inl z ↦ (
-          let is = timely-outcome room (answer .board) order z in
-          elim (le-or-lt (length plan) room) [
-            | inl h ↦ absurd (not-both (sym (is ∙ fits room plan h) ∙ e))
-            | inr h ↦ omega (arith, same-refusal (sym (is ∙ fits-not room plan h) ∙ e) .0)
-          ])
-      | inr l ↦ (
-          let is = late-outcome room (answer .board) order (suc (l .0)) (l .1) (λ e. omega (arith, e)) in
-          omega (arith, same-refusal (sym is ∙ e) .0))
-    ]
+    -- it has no number up to 6
+    high : Cases → Accepts true text → (n k : ℕ) → onOrder ≡ refuses n k → 7 ≤ n
+    high (refused m r is) ok n k e = absurd (omega (arith, r, ok))
+    high (late a j l is) ok n k e = omega (arith, same-refusal (sym is ∙ (on-accepted answer onOrder ok ∙ e)) .0)
+    high (short a t h is) ok n k e = omega (arith, same-refusal (sym is ∙ (on-accepted answer onOrder ok ∙ e)) .0)
+    high (written a t h is) ok n k e = absurd (not-both (sym is ∙ (on-accepted answer onOrder ok ∙ e)))
+
+    -- 7 is said of the first late rank, counted from 1
+    seven-only : Cases → (p : ℕ) → reviewed text room ≡ refuses 7 p → (k : ℕ) × (p ≡ suc k) × FirstLate order k
+    seven-only (refused n r is) p e = absurd (omega (arith, same-refusal (sym is ∙ e) .0, refused-low true text n r))
+    seven-only (late a k l is) p e = (k, sym (same-refusal (sym is ∙ e) .1), l)
+    seven-only (short a t h is) p e = absurd (let z : _≡_ {A = ℕ} 9 7 = same-refusal (sym is ∙ e) .0 in omega arith)
+    seven-only (written a t h is) p e = absurd (not-both (sym is ∙ e))
+
+    pub seven-ranked : reviewed text room ≡ refuses 7 0 → ⊥
+    seven-ranked e = omega (arith, seven-only cases 0 e .1)
 
     module _ (ok : Accepts true text) where
       on-order : reviewed text room ≡ onOrder
@@ -163,23 +167,12 @@ module _ (text : List ℕ) where
       timely : firstLate order ≡ 0 → reviewed text room ≡ fitted room plan
       timely z = on-order ∙ timely-outcome room (answer .board) order z
 
-      seven-only : (k : ℕ) → reviewed text room ≡ refuses 7 (suc k) → FirstLate order k
-      seven-only k e = elim (zero-or-more (firstLate order)) [
-        | inl z ↦ absurd (elim (le-or-lt (length plan) room) [
-          | inl h ↦ not-both (sym (timely z ∙ fits room plan h) ∙ e)
-          | inr h ↦ (
-              let z : _≡_ {A = ℕ} 9 7 = same-refusal (sym (timely z ∙ fits-not room plan h) ∙ e) .0 in omega arith)
-        ])
-        | inr l ↦ (
-            let is = late-outcome room (answer .board) order (suc (l .0)) (l .1) (λ e. omega (arith, e)) in
-            let same : l .0 ≡ k = omega (arith, same-refusal (sym (on-order ∙ is) ∙ e) .1) in
-            subst (FirstLate order) same (first-of (l .0) (l .1)))
-      ]
-
       order-review : OrderReview room (answer .board) order (reviewed text room)
       order-review = record {
         seven = λ k. (
-          seven-only k,
+          λ e.
+              let s = seven-only cases (suc k) e in
+              subst (FirstLate order) (omega (arith, s .1)) (s .2),
           λ l.
               let at = first-is k l in
               on-order ∙ late-outcome room (answer .board) order (suc k) at (λ e. omega (arith, e)),
@@ -202,16 +195,6 @@ module _ (text : List ℕ) where
       is-given : Given (answer .rows) (answer .order) order
       is-given = record { possible = is-possible ok .0; tasks-are = is-possible ok .1 }
 
-    -- 7 has a rank, counted from 1
-    pub seven-ranked : reviewed text room ≡ refuses 7 0 → ⊥
-    seven-ranked e = by-cases cases
-      where
-        by-cases : Cases → ⊥
-        by-cases (refused n r is) = omega (arith, same-refusal (sym is ∙ e) .0, refused-low true text n r)
-        by-cases (late a k l is) = omega (arith, same-refusal (sym is ∙ e) .1)
-        by-cases (short a t h is) = let z : _≡_ {A = ℕ} 9 7 = same-refusal (sym is ∙ e) .0 in omega arith
-        by-cases (written a t h is) = not-both (sym is ∙ e)
-
     has-room : Cases → planRoom ≤ room → (p : ℕ) → reviewed text room ≡ refuses 9 p → ⊥
     has-room (refused n r is) h p e = omega (arith, same-refusal (sym is ∙ e) .0, refused-low true text n r)
     has-room (late a k l is) h p e = let z : _≡_ {A = ℕ} 7 9 = same-refusal (sym is ∙ e) .0 in omega arith
@@ -222,7 +205,7 @@ module _ (text : List ℕ) where
     review-demands = record {
       read = read true text;
       listed = listed cases;
-      refused = refused-exactly true text onOrder high;
+      refused = refused-exactly true text onOrder (high cases);
       given = λ b rows tasks t.
           let is = tells-only true text b rows tasks t in
           subst (λ (a : Answer). Given (a .rows) (a .order) (rowsFor (a .order) (a .rows))) is
@@ -232,8 +215,8 @@ module _ (text : List ℕ) where
           let ok = ap (λ (a : Answer). a .refused) is in
           subst (λ (a : Answer). (os : List Row) → Given (a .rows) (a .order) os
           → OrderReview room (a .board) os (reviewed text room)) is
-          (λ os g. subst (λ (o : List Row). OrderReview room (answer .board) o (reviewed text room)) (given-only ok os g)
-          (order-review ok));
+          (λ os g. subst (λ (o : List Row). OrderReview room (answer .board) o (reviewed text room))
+          (given-only ok os g) (order-review ok));
       has-room = has-room cases;
     }
 

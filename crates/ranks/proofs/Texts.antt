@@ -1,5 +1,5 @@
--- A text fails at one line with one condition, or tells one table: what is read. So a call's outcome has a number up to 6
--- exactly for that condition.
+-- A text fails at one line with one condition, or tells one table: what is read. So a call's outcome has a number up
+-- to 6 exactly for that condition.
 use mathlib.Core.Path.{_≡_, sym, ap, subst, _∙_}
 use mathlib.Core.Bool.{Bool}
 use mathlib.Core.List.{List}
@@ -58,11 +58,11 @@ module _ (ranked : Bool) (text : List ℕ) where
   tells-only b rows tasks t = read ranked text .accepts (t .lines) b rows tasks (t .whole)
 
   -- ---- a call's refusal, where what an accepted text comes to has no number up to 6
-  pub refused-exactly : (next : Outcome) → ((n k : ℕ) → next ≡ refuses n k → 7 ≤ n)
+  pub refused-exactly : (next : Outcome) → (Accepts ranked text → (n k : ℕ) → next ≡ refuses n k → 7 ≤ n)
       → (n k : ℕ) → ((onTable answer next ≡ refuses n k) × (n ≤ 6)) ↔ Fails ranked text n k
   refused-exactly next high n k = (
     λ e. elim (zero-or-more (answer .refused)) [
-      | inl a ↦ absurd (omega (arith, high n k (sym (on-accepted answer next a) ∙ e .0)))
+      | inl a ↦ absurd (omega (arith, high a n k (sym (on-accepted answer next a) ∙ e .0)))
       | inr r ↦ (
           let same = same-refusal (sym (on-refused answer next (r .0) (r .1)) ∙ e .0) in
           subst (λ m. Fails ranked text m k) (same .0)

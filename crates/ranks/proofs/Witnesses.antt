@@ -1,5 +1,5 @@
--- What is read of each text is found by computing, and the demands of that text say the rest: what it meets, and that no
--- other outcome than its own meets them.
+-- What is read of each text is found by computing, and the demands of that text say the rest: what it meets, and that
+-- no other outcome than its own meets them.
 use mathlib.Core.Path.{_≡_, refl, sym, ap, _∙_}
 use mathlib.Core.Bool.{true, false}
 use mathlib.Core.List.{[], _∷_}

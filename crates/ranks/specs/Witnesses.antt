@@ -1,5 +1,5 @@
--- Nothing is demanded in vain: a text or a run that meets each condition that the demands name. And outcomes that weaker
--- demands would admit, each excluded.
+-- Nothing is demanded in vain: a text or a run that meets each condition that the demands name. And outcomes that
+-- weaker demands would admit, each excluded.
 use mathlib.Core.Path.{_≡_}
 use mathlib.Core.Bool.{true, false}
 use mathlib.Core.List.{List, [], _∷_, _++_}

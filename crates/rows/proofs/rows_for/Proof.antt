@@ -191,10 +191,11 @@ loop2-again c =
     let none = row-none task numbers (a .t2) (a .n) at (p .position-of .ensures) (x .inv .1) in
     let more = found-more tasks rs (x .found) (x .k) (x .inv .2) few there-is in
     let same = found-none tasks rs (x .found) (x .k) (x .inv .2) few there-is in
-    let so : Found tasks rs (c .if1 .found) (suc (x .k)) =
+    let Next : List Row → Type 0 = λ l. Found tasks rs l (suc (x .k)) in
+    let so : Next (c .if1 .found) =
     ⊎-elim
-    (λ w. subst (λ l. Found tasks rs l (suc (x .k))) (sym (w .2 ∙ ap (set (x .found) (x .k)) (there (w .0 .taken)))) more)
-    (λ w. subst (λ l. Found tasks rs l (suc (x .k))) (sym (w .1)) (same (none (w .0 .left))))
+    (λ w. subst Next (sym (w .2 ∙ ap (set (x .found) (x .k)) (there (w .0 .taken)))) more)
+    (λ w. subst Next (sym (w .1)) (same (none (w .0 .left))))
     (c .if1 .came) in
     rw (add-one (x .k)) (omega arith, x .inv .1, so)
 
