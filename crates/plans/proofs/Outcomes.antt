@@ -8,7 +8,6 @@ use lib.ListN.{length, take, drop}
 use lib.Seq.{take-append-seam, drop-append-seam}
 use borrow.Author.Tests.{le-leb, lt-leb}
 use Rattle.text.specs.Puts.{Wrote}
-use Rattle.text.proofs.Puts.{wrote-counts}
 use Rattle.rows.specs.declared.Row.{Row}
 use Rattle.plans.specs.declared.Plan.{Plan}
 use Rattle.plans.specs.Entries.{firstLate}

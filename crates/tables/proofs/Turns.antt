@@ -8,8 +8,7 @@ use Prim.Native.Nat.{ℕ, zero, suc, _+_, _-_, _*_, _≤_, _<_}
 use native.Mathlib.Omega.{arith}
 use native.Mathlib.Numerals.{add-one}
 use lib.Dec.{ltb}
-use lib.ListN.{length, take, set, replicate, length-append}
-use lib.Seq.{append-snoc, take-append-seam, set-append-seam}
+use lib.ListN.{length, take, set, length-append}
 use Rattle.basics.specs.Basics.{pick}
 use Rattle.basics.proofs.Tests.{test-of}
 use Rattle.text.specs.Lines.{endAt, refusal, place, onNumber}
