@@ -1,14 +1,14 @@
--- The starred cases hold, by computing.
+-- The starred cases and the others hold, by computing.
 use mathlib.Core.Path.{refl}
 use Rattle.text.specs.Text.{digits, decimal, signed, keyLine}
 use Rattle.text.specs.Lines.{numberOf, lineAt}
 use Rattle.tables.specs.Tables.{fieldAt, rankAt, ranksFrom, fieldsFrom, rowsFrom, tasksFrom, boardFrom}
 use Rattle.responses.specs.Fixed.{smallest, largest}
 use Rattle.orders.specs.Orders.{overSet}
-use Rattle.plans.specs.Plans.{rankText, headText, planText}
-use Rattle.plans.specs.Outcomes.{fitted}
+use Rattle.plans.specs.Plans.{rankText, headText, planText, refusalText}
+use Rattle.plans.specs.Outcomes.{fitted, ifInTime}
 use Rattle.ranks.specs.Calls.{onTable, ifOrdered}
-use Rattle.ranks.specs.Cases.{AllHold, starred}
+use Rattle.ranks.specs.Cases.{AllHold, starred, unstarred}
 
 pub starred-hold : AllHold starred
 unfolding digits decimal signed keyLine numberOf lineAt fieldAt rankAt ranksFrom fieldsFrom rowsFrom tasksFrom boardFrom
@@ -32,3 +32,8 @@ starred-hold = (
     ),
   ),
 )
+
+pub unstarred-hold : AllHold unstarred
+unfolding digits decimal signed keyLine numberOf lineAt fieldAt rankAt ranksFrom fieldsFrom rowsFrom tasksFrom boardFrom
+    smallest largest overSet rankText headText planText refusalText fitted ifInTime onTable ifOrdered
+unstarred-hold = (refl, (refl, (refl, (refl, (refl, (refl, tt))))))

@@ -1,4 +1,5 @@
--- Document 01's starred cases, in one list under one proposition about the definitions.
+-- Document 01's starred cases, in one list under one proposition about the definitions; and its other cases, as the
+-- programs print them.
 use mathlib.Core.Path.{_≡_}
 use mathlib.Core.Bool.{true, false}
 use mathlib.Core.List.{List, [], _∷_, _++_}
@@ -13,16 +14,18 @@ use Rattle.responses.specs.Figures.{latest, isLate, earliest, jitter, margin}
 use Rattle.orders.specs.Stability.{chosenOrder}
 use Rattle.plans.specs.Plans.{planRoom}
 use Rattle.plans.specs.Outcomes.{writes, refuses}
-use Rattle.ranks.specs.Calls.{planned}
+use Rattle.ranks.specs.Calls.{planned, plannerPrints, reviewerPrints}
 
 -- a row under rows above it and its E, W, jitter and margin; a late row; a table's rows and the tasks of its order;
--- a text and its whole plan; a text and its refusal
+-- a text and its whole plan; a text and its refusal; a text and what the planner's or the reviewer's program prints
 pub data Case : Type 0 where
   figures : Row → List Row → ℕ → ℕ → ℕ → ℤ → Case
   late : Row → List Row → Case
   order : List Row → List ℕ → Case
   plan : List ℕ → List ℕ → Case
   refusal : List ℕ → ℕ → ℕ → Case
+  planner : List ℕ → List ℕ → Case
+  reviewer : List ℕ → List ℕ → Case
 
 abbrev pub tasksIn : Option (List Row) → Option (List ℕ)
 tasksIn none = none
@@ -39,6 +42,8 @@ Holds (late t above) = isLate t above ≡ true
 Holds (order rows tasks) = tasksIn (chosenOrder rows) ≡ some tasks
 Holds (plan text output) = planned text planRoom ≡ writes output
 Holds (refusal text number place) = planned text planRoom ≡ refuses number place
+Holds (planner text output) = plannerPrints text ≡ output
+Holds (reviewer text output) = reviewerPrints text ≡ output
 
 abbrev pub AllHold : List Case → Type 0
 AllHold [] = Unit {0}
@@ -76,11 +81,11 @@ planWith margin13 = lined (
     ∷ "rank=3" ∷ "task=13" ∷ "best=25" ∷ "worst=35" ∷ "jitter=10" ∷ margin13
     ∷ [])
 
--- one task that always runs
-abbrev pub alone : String → List ℕ
-alone beta = lined (
+-- one task that always runs, with its worst time and its beta
+abbrev pub alone : String → String → List ℕ
+alone worst beta = lined (
     "board=7" ∷ "tasks=1"
-    ∷ "task=1" ∷ "period=10" ∷ "worst=10" ∷ "best=10" ∷ "alpha=1000" ∷ beta
+    ∷ "task=1" ∷ "period=10" ∷ worst ∷ "best=10" ∷ "alpha=1000" ∷ beta
     ∷ [])
 
 abbrev pub starred : List Case
@@ -97,7 +102,33 @@ starred =
     ∷ refusal (table "beta=8000" "beta=8000" "beta=54999") 8 0
     ∷ order (row11 7999 ∷ row12 8000 ∷ row13 57000 ∷ []) (11 ∷ 12 ∷ 13 ∷ [])
     ∷ refusal (table "beta=7999" "beta=7999" "beta=57000") 8 0
-    ∷ plan (alone "beta=10000")
+    ∷ plan (alone "worst=10" "beta=10000")
     (lined ("plan=1" ∷ "board=7" ∷ "tasks=1" ∷ "rank=1" ∷ "task=1" ∷ "best=10" ∷ "worst=10" ∷ "jitter=0" ∷ "margin=0" ∷ []))
-    ∷ refusal (alone "beta=9999") 8 0
+    ∷ refusal (alone "worst=10" "beta=9999") 8 0
+    ∷ []
+
+-- ---- the other cases; that worst = period passes is a starred one
+-- the paper's task 13 under task 11
+abbrev pub elevenAbove : List ℕ
+elevenAbove = lined (
+    "board=7" ∷ "tasks=2"
+    ∷ "task=11" ∷ "period=24" ∷ "worst=6" ∷ "best=6" ∷ "alpha=1000" ∷ "beta=8000"
+    ∷ "task=13" ∷ "period=200" ∷ "worst=19" ∷ "best=17" ∷ "alpha=3000" ∷ "beta=57000"
+    ∷ "rank=11" ∷ "rank=13"
+    ∷ [])
+
+abbrev pub unstarred : List Case
+unstarred =
+    reviewer (table "beta=8000" "beta=8000" "beta=57000" ++ lined ("rank=11" ∷ "rank=13" ∷ "rank=12" ∷ []))
+    (lined ("plan=0" ∷ "refusal=7" ∷ "line=3" ∷ []))
+    ∷ planner [] (lined ("plan=0" ∷ "refusal=1" ∷ "line=1" ∷ []))
+    ∷ planner (lined ("board=07" ∷ [])) (lined ("plan=0" ∷ "refusal=2" ∷ "line=1" ∷ []))
+    ∷ planner (lined ("board=7" ∷ "tasks=13" ∷ [])) (lined ("plan=0" ∷ "refusal=3" ∷ "line=2" ∷ []))
+    ∷ planner (alone "worst=11" "beta=10000") (lined ("plan=0" ∷ "refusal=4" ∷ "line=5" ∷ []))
+    ∷ reviewer elevenAbove
+    (lined (
+    "plan=1" ∷ "board=7" ∷ "tasks=2"
+    ∷ "rank=1" ∷ "task=11" ∷ "best=6" ∷ "worst=6" ∷ "jitter=0" ∷ "margin=2000"
+    ∷ "rank=2" ∷ "task=13" ∷ "best=17" ∷ "worst=31" ∷ "jitter=14" ∷ "margin=-2000"
+    ∷ []))
     ∷ []
