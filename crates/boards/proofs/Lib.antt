@@ -9,3 +9,4 @@ pub mod Ranks
 pub mod Windows
 pub mod Kept
 pub mod Runs
+pub mod Witnesses

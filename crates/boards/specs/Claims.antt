@@ -19,6 +19,10 @@ LastsInRange order need =
 abbrev pub Finishes : List Row → (ℕ → ℕ) → (ℕ → ℕ → ℕ) → ℕ → ℕ → ℕ → Type 0
 Finishes order offset need i r f = isDone i r f (afterTicks order offset need f .finished) ≡ true
 
+-- r is a period of rank i's own, or more, after the first release of every task above it
+abbrev pub AfterFirstReleases : List Row → (ℕ → ℕ) → ℕ → ℕ → Type 0
+AfterFirstReleases order offset i r = (j : ℕ) → j < i → offset j + rowAt order i .period ≤ r
+
 -- a run keeps each rank's latest and earliest response
 pub record Kept (order : List Row) (offset : ℕ → ℕ) (need : ℕ → ℕ → ℕ) (late early : ℕ → ℕ) : Type 0 where
   -- the kth job of rank i finishes within its latest response
@@ -29,10 +33,10 @@ pub record Kept (order : List Row) (offset : ℕ → ℕ) (need : ℕ → ℕ �
   -- and finishes only then
   pub once :
       (i r f g : ℕ) → i < length order → Finishes order offset need i r f → Finishes order offset need i r g → f ≡ g
-  -- one released a period of its own after the first release of every task above does not finish earlier
+  -- one released then does not finish before its earliest
   pub not-early :
       (i r f : ℕ) → i < length order
-      → ((j : ℕ) → j < i → offset j + rowAt order i .period ≤ r)
+      → AfterFirstReleases order offset i r
       → Finishes order offset need i r f
       → r + early i ≤ f
 

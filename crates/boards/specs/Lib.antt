@@ -2,3 +2,4 @@
 pub mod Boards
 pub mod Claims
 pub mod Runs
+pub mod Witnesses

@@ -5,6 +5,7 @@ use lib.ListN.{take}
 use Rattle.plans.specs.declared.Plan.{Plan}
 use Rattle.plans.specs.Plans.{refusalText}
 
--- the plan that the call left in its buffer, as long as its answer says and the buffer is; or the lines of its refusal
+-- the plan that the call left in its buffer, as long as its answer says (all of a shorter buffer), or the lines of its
+-- refusal
 abbrev pub toPrint : Plan → List ℕ → List ℕ
 toPrint r buffer = elim (r .number) [ zero ↦ take (r .long) buffer | suc n ↦ refusalText (suc n) (r .place) ]

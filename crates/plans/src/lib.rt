@@ -94,7 +94,8 @@ fn put_head(out: &mut [u8], board: u16, count: usize) -> usize
     put_line(out, at, b"tasks=", count as u64)
 }
 
-pub fn put_refusal(out: &mut [u8], number: u8, place: u32) -> usize
+// The three lines of a refusal.
+fn put_refusal(out: &mut [u8], number: u8, place: u32) -> usize
     requires { ⌜ length (refusalText number place) ≤ length (now out) ⌝ }
     ensures { λ r. ⌜ Wrote (refusalText number place) (now (out .entry)) (now (out .exit)) r ⌝ }
 {

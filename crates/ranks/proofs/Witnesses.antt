@@ -8,8 +8,6 @@ use native.Mathlib.Omega.{arith}
 use lib.ListN.{length}
 use Rattle.text.specs.Text.{digits, decimal, signed, keyLine}
 use Rattle.text.specs.Lines.{numberOf, lineAt}
-use Rattle.rows.specs.Rows.{inRange, rowAt}
-use Rattle.rows.proofs.Limits.{limits, at-passes}
 use Rattle.tables.specs.Tables.{fieldAt, rankAt, ranksFrom, fieldsFrom, rowsFrom, tasksFrom, boardFrom}
 use Rattle.tables.specs.Tables.{Answer, readTable}
 use Rattle.responses.specs.Fixed.{smallest, largest}
@@ -19,7 +17,9 @@ use Rattle.plans.specs.Plans.{rankText, headText, planText}
 use Rattle.plans.specs.Outcomes.{refuses, ifInTime}
 use Rattle.ranks.specs.Calls.{onTable, planned, reviewed}
 use Rattle.ranks.specs.Cases.{table}
-use Rattle.ranks.specs.Witnesses.{example, exampleRows, exampleOrder, lateOrder, lateText, malformed}
+use Rattle.boards.specs.Witnesses.{exampleOrder}
+use Rattle.boards.proofs.Witnesses.{runs-met}
+use Rattle.ranks.specs.Witnesses.{example, exampleRows, timelyText, lateOrder, lateText, malformed}
 use Rattle.ranks.specs.Witnesses.{Met, Excluded}
 use Rattle.ranks.proofs.Outcomes.{same-refusal, not-both}
 use Rattle.ranks.proofs.Texts.{failing, telling, fails-only}
@@ -31,8 +31,10 @@ unfolding digits decimal signed keyLine numberOf lineAt fieldAt rankAt ranksFrom
     smallest largest overSet rankText headText planText ifInTime onTable
 met =
     let late-told = telling true lateText refl in
-    let late-given = Reviewed.review-demands lateText 0 .given 7 exampleRows (11 ∷ 13 ∷ 12 ∷ []) late-told in
-    let reviews = Reviewed.review-demands lateText 0 .accepted 7 exampleRows (11 ∷ 13 ∷ 12 ∷ []) late-told in
+    let late = Reviewed.review-demands lateText 0 in
+    let late-given = late .given 7 exampleRows (11 ∷ 13 ∷ 12 ∷ []) late-told in
+    let timely-told = telling true timelyText refl in
+    let timely = Reviewed.review-demands timelyText 0 in
     let plan-long : length (planText 7 (entries exampleOrder)) ≡ 176 = refl in
     record {
       missing = failing false _ 0 refl;
@@ -46,13 +48,12 @@ met =
       by-rule = Planned.rule-of example 0 refl exampleOrder refl;
       short = omega (arith, plan-long);
       every-order-fails = Planned.choice (table "beta=8000" "beta=8000" "beta=54999") refl .none-passes refl;
-      tells-order = late-told;
-      given = late-given;
-      first-late = reviews lateOrder late-given .seven 2 .0 refl;
-      none-late = Planned.in-time example refl exampleOrder refl;
-      lasts = λ order ok i k l.
-          let r = limits (rowAt order i) (at-passes inRange order i ok l) in
-          (r .best-worst, omega arith);
+      tells-late = late-told;
+      given-late = late-given;
+      first-late = late .accepted 7 exampleRows (11 ∷ 13 ∷ 12 ∷ []) late-told lateOrder late-given .seven 2 .0 refl;
+      tells-timely = timely-told;
+      given-timely = timely .given 7 exampleRows (12 ∷ 11 ∷ 13 ∷ []) timely-told;
+      none-late = runs-met .none-late;
     }
 
 -- a text that is no table has its refusal only

@@ -1,15 +1,14 @@
--- Nothing is demanded in vain: a text or a run that meets each condition that the demands name. And outcomes that
--- weaker demands would admit, each excluded.
-use mathlib.Core.Path.{_≡_}
+-- Nothing is demanded in vain: texts and orders that meet each condition that the demands name (boards/specs/Witnesses
+-- has the runs). And outcomes that weaker demands would admit, each excluded.
 use mathlib.Core.Bool.{true, false}
 use mathlib.Core.List.{List, [], _∷_, _++_}
 use Prim.Native.Nat.{ℕ, _<_}
 use Prim.Native.String.{String}
 use lib.ListN.{length}
 use Rattle.text.specs.Text.{bytes}
-use Rattle.rows.specs.Rows.{inRange, allRows, rowAt}
 use Rattle.rows.specs.declared.Row.{Row}
-use Rattle.boards.specs.Claims.{LastsInRange, NoneLate}
+use Rattle.boards.specs.Claims.{NoneLate}
+use Rattle.boards.specs.Witnesses.{exampleOrder}
 use Rattle.plans.specs.Entries.{entries}
 use Rattle.plans.specs.Plans.{planText}
 use Rattle.plans.specs.Outcomes.{writes, refuses}
@@ -17,15 +16,15 @@ use Rattle.ranks.specs.Cases.{lined, row11, row12, row13, table}
 use Rattle.ranks.specs.Demands.{Fails, Tells, EveryOrderFails, ByRule, PlanDemands}
 use Rattle.ranks.specs.Demands.{Given, FirstLate, ReviewDemands}
 
--- document 01's example: its text, its rows, the order of its plan
+-- document 01's example: its text, its rows, and a text with the order of its plan
 abbrev pub example : List ℕ
 example = table "beta=8000" "beta=8000" "beta=57000"
 
 abbrev pub exampleRows : List Row
 exampleRows = row11 8000 ∷ row12 8000 ∷ row13 57000 ∷ []
 
-abbrev pub exampleOrder : List Row
-exampleOrder = row12 8000 ∷ row11 8000 ∷ row13 57000 ∷ []
+abbrev pub timelyText : List ℕ
+timelyText = example ++ lined ("rank=12" ∷ "rank=11" ∷ "rank=13" ∷ [])
 
 -- and an order of it in which the lowest task is late
 abbrev pub lateOrder : List Row
@@ -56,12 +55,12 @@ pub record Met : Type 0 where
   pub short : 0 < length (planText 7 (entries exampleOrder))
   pub every-order-fails : EveryOrderFails (row11 8000 ∷ row12 8000 ∷ row13 54999 ∷ [])
   -- an order given with a late task, and one without
-  pub tells-order : Tells true lateText 7 exampleRows (11 ∷ 13 ∷ 12 ∷ [])
-  pub given : Given exampleRows (11 ∷ 13 ∷ 12 ∷ []) lateOrder
+  pub tells-late : Tells true lateText 7 exampleRows (11 ∷ 13 ∷ 12 ∷ [])
+  pub given-late : Given exampleRows (11 ∷ 13 ∷ 12 ∷ []) lateOrder
   pub first-late : FirstLate lateOrder 2
+  pub tells-timely : Tells true timelyText 7 exampleRows (12 ∷ 11 ∷ 13 ∷ [])
+  pub given-timely : Given exampleRows (12 ∷ 11 ∷ 13 ∷ []) exampleOrder
   pub none-late : NoneLate exampleOrder
-  -- a run in which every job needs its worst
-  pub lasts : (order : List Row) → allRows inRange order ≡ true → LastsInRange order (λ i k. rowAt order i .worst)
 
 pub record Excluded : Type 0 where
   -- a refusal of the text for a table that is accepted
