@@ -33,12 +33,12 @@ lateOrder = row11 8000 ∷ row13 57000 ∷ row12 8000 ∷ []
 abbrev pub lateText : List ℕ
 lateText = example ++ lined ("rank=11" ∷ "rank=13" ∷ "rank=12" ∷ [])
 
--- a text that is no table, and one whose first task is followed by a line
+-- a text that is no table; a table of two tasks up to its first period, and more lines
 abbrev pub malformed : List ℕ
 malformed = lined ("board=07" ∷ [])
 
-abbrev pub oneTask : List String → List ℕ
-oneTask more = lined ("board=7" ∷ "tasks=2" ∷ "task=1" ∷ "period=10" ∷ more)
+abbrev pub twoTasks : List String → List ℕ
+twoTasks more = lined ("board=7" ∷ "tasks=2" ∷ "task=1" ∷ "period=10" ∷ more)
 
 pub record Met : Type 0 where
   -- refusals 1 to 6, each at its line
@@ -46,8 +46,8 @@ pub record Met : Type 0 where
   pub trailing : Fails false (example ++ bytes "x") 1 21
   pub no-number : Fails false malformed 2 1
   pub out-of-range : Fails false (lined ("board=7" ∷ "tasks=13" ∷ [])) 3 2
-  pub exceeding : Fails false (oneTask ("worst=11" ∷ [])) 4 5
-  pub repeated : Fails false (oneTask ("worst=10" ∷ "best=1" ∷ "alpha=1000" ∷ "beta=0" ∷ "task=1" ∷ [])) 5 9
+  pub exceeding : Fails false (twoTasks ("worst=11" ∷ [])) 4 5
+  pub repeated : Fails false (twoTasks ("worst=10" ∷ "best=1" ∷ "alpha=1000" ∷ "beta=0" ∷ "task=1" ∷ [])) 5 9
   pub impossible : Fails true (example ++ lined ("rank=11" ∷ "rank=11" ∷ [])) 6 22
   -- a table with an order, in a room that is too short too, and one with none
   pub tells : Tells false example 7 exampleRows []
