@@ -1,16 +1,19 @@
 -- Runs that meet the conditions of the claims, by computing.
 use mathlib.Core.Path.{_≡_, refl}
-use mathlib.Core.Bool.{true}
+use mathlib.Core.Bool.{true, false}
 use mathlib.Core.List.{List, [], _∷_}
 use mathlib.Core.Logic.{_⊎_, inl, inr}
-use Prim.Native.Nat.{ℕ, zero, suc}
+use Prim.Native.Nat.{ℕ, zero, suc, _<_}
 use native.Mathlib.Omega.{arith}
+use lib.ListN.{length}
+use Rattle.basics.proofs.Tests.{true-not-false}
 use Rattle.rows.specs.Rows.{timesInRange, allRows, rowAt}
 use Rattle.rows.specs.declared.Row.{Row}
 use Rattle.rows.proofs.Limits.{times, at-passes}
 use Rattle.responses.specs.Fixed.{smallest}
 use Rattle.boards.specs.Claims.{LastsInRange, NoneLate}
-use Rattle.boards.specs.Witnesses.{exampleOrder, lasting, RunsMet}
+use Rattle.boards.specs.Runs.{boardGoesTo}
+use Rattle.boards.specs.Witnesses.{exampleOrder, atOnce, lasting, RunsMet}
 
 in-time : NoneLate exampleOrder
 unfolding smallest
@@ -35,6 +38,13 @@ between (suc zero) k l = (omega arith, omega arith)
 between (suc (suc zero)) k l = (omega arith, omega arith)
 between (suc (suc (suc i))) k l = absurd (omega arith)
 
+idle : (i k : ℕ) → i < length exampleOrder
+    → boardGoesTo exampleOrder atOnce (lasting (2 ∷ 6 ∷ 17 ∷ [])) i k 226 ≡ true → ⊥
+idle zero k l e = true-not-false false e refl
+idle (suc zero) k l e = true-not-false false e refl
+idle (suc (suc zero)) k l e = true-not-false false e refl
+idle (suc (suc (suc i))) k l e = omega arith
+
 pub runs-met : RunsMet
 runs-met = record {
   none-late = in-time;
@@ -43,4 +53,7 @@ runs-met = record {
   held-early = λ j l. omega arith;
   earliest-reached = refl;
   latest-reached = refl;
+  finished-before = refl;
+  idle-there = idle;
+  highest-short = λ k. omega arith;
 }

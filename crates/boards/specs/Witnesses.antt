@@ -3,11 +3,12 @@ use mathlib.Core.Path.{_≡_}
 use mathlib.Core.Bool.{true}
 use mathlib.Core.List.{List, [], _∷_}
 use mathlib.Core.Logic.{_⊎_}
-use Prim.Native.Nat.{ℕ}
-use lib.ListN.{getD}
+use Prim.Native.Nat.{ℕ, _≤_, _<_}
+use lib.ListN.{length, getD}
 use Rattle.rows.specs.Rows.{row, timesInRange, allRows, rowAt}
 use Rattle.rows.specs.declared.Row.{Row}
 use Rattle.boards.specs.Claims.{LastsInRange, Finishes, AfterFirstReleases, NoneLate}
+use Rattle.boards.specs.Runs.{boardGoesTo}
 
 abbrev pub exampleOrder : List Row
 exampleOrder = row 12 18 2 2 1000 8000 ∷ row 11 24 6 6 1000 8000 ∷ row 13 200 19 17 3000 57000 ∷ []
@@ -32,3 +33,9 @@ pub record RunsMet : Type 0 where
   pub held-early : AfterFirstReleases exampleOrder atOnce 2 200
   pub earliest-reached : Finishes exampleOrder atOnce (lasting (2 ∷ 6 ∷ 17 ∷ [])) 2 200 225
   pub latest-reached : Finishes exampleOrder atOnce (lasting (2 ∷ 6 ∷ 19 ∷ [])) 2 0 35
+  -- a job of the same task before it; a tick that goes to no job; and jobs of the highest rank that fit their period
+  pub finished-before : Finishes exampleOrder atOnce (lasting (2 ∷ 6 ∷ 17 ∷ [])) 2 0 33
+  pub idle-there :
+      (i k : ℕ) → i < length exampleOrder
+      → boardGoesTo exampleOrder atOnce (lasting (2 ∷ 6 ∷ 17 ∷ [])) i k 226 ≡ true → ⊥
+  pub highest-short : (k : ℕ) → lasting (2 ∷ 6 ∷ 19 ∷ []) 0 k ≤ rowAt exampleOrder 0 .period
