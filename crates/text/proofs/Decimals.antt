@@ -3,7 +3,7 @@
 use mathlib.Core.Path.{_≡_, refl, sym, ap, ap₂, _∙_}
 use mathlib.Core.Bool.{true, false, _&&_, not, and-false}
 use mathlib.Core.List.{List, [], _∷_, _++_, append-assoc, append-nil}
-use mathlib.Core.Logic.{inl, inr}
+use mathlib.Core.Logic.{_⊎_, inl, inr}
 use Prim.Native.Nat.{ℕ, zero, suc, _+_, _-_, _*_, _/_, _%_, _^_, _≤_, _<_}
 use native.Mathlib.Nat.{pow-succ', one-le-pow}
 use native.Mathlib.Omega.{arith}
@@ -13,6 +13,7 @@ use borrow.Author.Tests.{lt-ltb, le-ltb, le-leb, ne-eqb}
 use borrow.Author.Tests.{eqb-true, eqb-false, ltb-true, ltb-false, not-true}
 use Rattle.basics.specs.Basics.{pick, within}
 use Rattle.basics.proofs.Tests.{test-of, and-left, and-right, within-true, true-within}
+use Rattle.text.specs.declared.Digits.{Digits}
 use Rattle.text.specs.declared.Digits.the-variants.{Value, Malformed}
 use Rattle.text.specs.Text.{digitZero, digitNine, digits, decimal}
 use Rattle.text.specs.Lines.{maxDigits, digitsFrom, wellFormed, numberOf}
@@ -240,3 +241,13 @@ number-decimal s v e =
 
 pub numerals : Numerals
 numerals = record { reads-back = decimal-number; one-way = number-decimal }
+
+-- what is written is the numeral of a number, or of none
+pub numeral-or-not : (s : List ℕ)
+    → ((v : ℕ) × (s ≡ decimal v) × (v < 10 ^ maxDigits)) ⊎ ((v : ℕ) → v < 10 ^ maxDigits → s ≡ decimal v → ⊥)
+numeral-or-not s = go (numberOf s) refl
+  where
+    go : (d : Digits) → numberOf s ≡ d
+        → ((v : ℕ) × (s ≡ decimal v) × (v < 10 ^ maxDigits)) ⊎ ((v : ℕ) → v < 10 ^ maxDigits → s ≡ decimal v → ⊥)
+    go (Value v) e = let n = number-decimal s v e in inl (v, n .0, n .1)
+    go Malformed e = inr (λ v few is. let z : _≡_ {A = ℕ} 0 1 = cc (decimal-number v few) in omega arith)

@@ -4,11 +4,11 @@
 use mathlib.Core.Path.{_≡_, refl, sym, ap, ap₂, _∙_}
 use mathlib.Core.Bool.{Bool, true, false, _&&_}
 use mathlib.Core.List.{List, [], _∷_, _++_, append-assoc, append-nil}
-use mathlib.Core.Logic.{_⊎_, inl, inr}
+use mathlib.Core.Logic.{inl, inr}
 use Prim.Native.Nat.{ℕ, suc, _+_, _/_, _%_, _^_, _≤_, _<_}
 use native.Mathlib.Omega.{arith}
 use lib.Dec.{eqb, ltb}
-use lib.ListN.{length, drop, length-append}
+use lib.ListN.{length, drop, length-append, length-drop}
 use lib.Seq.{drop-drop, drop-append-seam}
 use borrow.Author.Tests.{eqb-true, ltb-true, lt-ltb, eq-eqb, ne-eqb}
 use Rattle.basics.specs.Basics.{pick, within, isIn}
@@ -19,7 +19,7 @@ use Rattle.text.specs.declared.Digits.the-variants.{Value, Malformed}
 use Rattle.text.specs.declared.Line.{Line}
 use Rattle.text.specs.declared.Line.the-variants as L
 use Rattle.text.specs.Text.{lineFeed, digitZero, decimal, keyLine}
-use Rattle.text.specs.Lines.{maxDigits, lineOf, begins, numberOf, ranged, lineAt, refusal}
+use Rattle.text.specs.Lines.{maxDigits, lineOf, begins, numberOf, ranged, lineAt}
 use Rattle.text.proofs.Decimals.{last, decimal-one, decimal-more, by-digits, decimal-number, number-decimal}
 
 -- ---- line feeds
@@ -157,7 +157,7 @@ module _ (key : List ℕ) (no-feed : isIn lineFeed key ≡ false) where
   -- ---- and so its line answers
   module _ (low high : ℕ) (text : List ℕ) (at k : ℕ) where
     pub line-missing : ((value rest : List ℕ) → drop at text ≡ keyLine key value ++ rest → ⊥)
-        → lineAt key low high text at k ≡ L.Missing k
+        → lineAt key low high text at k ≡ L.Refused 1 k
     unfolding lineAt
     line-missing h =
         let s = drop at text in
@@ -168,7 +168,7 @@ module _ (key : List ℕ) (no-feed : isIn lineFeed key ≡ false) where
           → lineAt key low high text at k ≡ ranged (numberOf value) low high k (at + length (keyLine key value))
       unfolding lineAt
       line-holds h =
-          ap₂ (λ b l. pick b (ranged (numberOf (drop (length key) l)) low high k (at + suc (length l))) (L.Missing k))
+          ap₂ (λ b l. pick b (ranged (numberOf (drop (length key) l)) low high k (at + suc (length l))) (L.Refused 1 k))
           (ap (keyed key) is ∙ keyed-line value rest)
           (ap lineOf is ∙ line-is value rest h)
           ∙ ap₂ (λ d n. ranged (numberOf d) low high k (at + n))
@@ -176,7 +176,7 @@ module _ (key : List ℕ) (no-feed : isIn lineFeed key ≡ false) where
           (sym (key-line-length key value))
 
       pub line-malformed : isIn lineFeed value ≡ false → ((v : ℕ) → v < 10 ^ maxDigits → value ≡ decimal v → ⊥)
-          → lineAt key low high text at k ≡ L.Malformed k
+          → lineAt key low high text at k ≡ L.Refused 2 k
       line-malformed h none =
           line-holds h
           ∙ ap (λ d. ranged d low high k (at + length (keyLine key value))) (unread (numberOf value) refl)
@@ -190,20 +190,20 @@ module _ (key : List ℕ) (no-feed : isIn lineFeed key ≡ false) where
       abbrev next : ℕ
       next = at + length (keyLine key (decimal v))
 
-      line-reads : lineAt key low high text at k ≡ pick (within low high v) (L.Number v next) (L.OutOfRange k)
+      line-reads : lineAt key low high text at k ≡ pick (within low high v) (L.Number v next) (L.Refused 3 k)
       line-reads =
           line-holds (decimal v) rest is (decimal-no-feed v)
           ∙ ap (λ d. ranged d low high k next) (decimal-number v few)
 
-      pub line-outside : within low high v ≡ false → lineAt key low high text at k ≡ L.OutOfRange k
-      line-outside e = line-reads ∙ ap (λ b. pick b (L.Number v next) (L.OutOfRange k)) e
+      pub line-outside : within low high v ≡ false → lineAt key low high text at k ≡ L.Refused 3 k
+      line-outside e = line-reads ∙ ap (λ b. pick b (L.Number v next) (L.Refused 3 k)) e
 
       pub line-number : within low high v ≡ true → lineAt key low high text at k ≡ L.Number v next
-      line-number e = line-reads ∙ ap (λ b. pick b (L.Number v next) (L.OutOfRange k)) e
+      line-number e = line-reads ∙ ap (λ b. pick b (L.Number v next) (L.Refused 3 k)) e
 
     -- ---- and so it can be read by its parts: the key, and then what stands up to the first feed behind it
     module _ (rest : List ℕ) (r : rest ≡ drop at text) where
-      pub other-missing : begins key rest ≡ false → lineAt key low high text at k ≡ L.Missing k
+      pub other-missing : begins key rest ≡ false → lineAt key low high text at k ≡ L.Refused 1 k
       other-missing b =
           line-missing (λ value after is.
           let whole = r ∙ is ∙ key-line-is key value after in
@@ -211,7 +211,7 @@ module _ (key : List ℕ) (no-feed : isIn lineFeed key ≡ false) where
           true-not-false (begins key rest) keyed-so b)
 
       module _ (tail value : List ℕ) (t : tail ≡ drop (length key) rest) (l : value ≡ lineOf tail) where
-        pub unended-missing : length tail ≤ length value → lineAt key low high text at k ≡ L.Missing k
+        pub unended-missing : length tail ≤ length value → lineAt key low high text at k ≡ L.Refused 1 k
         unended-missing h =
             line-missing (λ other after is.
             let s = other ++ (lineFeed ∷ after) in
@@ -232,23 +232,29 @@ module _ (key : List ℕ) (no-feed : isIn lineFeed key ≡ false) where
             line-holds value after (sym r ∙ whole) (ap (isIn lineFeed) l ∙ line-no-feed tail)
             ∙ ap₂ (λ x m. ranged x low high k (at + m)) n long
 
--- ---- a line's answer is a number in its range, with the offset after it, or a refusal
-abbrev pub Answers : ℕ → ℕ → Line → Type 0
-Answers low high l =
-    ((v : ℕ) × (next : ℕ) × (l ≡ L.Number v next) × (within low high v ≡ true))
-    ⊎ ((n : ℕ) × (refusal l ≡ suc n))
-
-ranged-answers : (d : Digits) (low high k next : ℕ) → Answers low high (ranged d low high k next)
-ranged-answers Malformed low high k next = inr (1, refl)
-ranged-answers (Value v) low high k next =
-    elim (test-of (within low high v)) [ inl e ↦ rw e (inl (v, next, refl, e)) | inr e ↦ rw e (inr (2, refl)) ]
+-- ---- a line's answer is a number in its range with the offset after it, past the line's first byte and in the text,
+-- or a refusal of that line
+pub data Answers (low high : ℕ) (text : List ℕ) (at k : ℕ) : Line → Type 0 where
+  tells : (v next : ℕ) → within low high v ≡ true → at < next → next ≤ length text
+      → Answers low high text at k (L.Number v next)
+  refuses : (n : ℕ) → Answers low high text at k (L.Refused (suc n) k)
 
 pub line-answers : (key : List ℕ) (low high : ℕ) (text : List ℕ) (at k : ℕ)
-    → Answers low high (lineAt key low high text at k)
+    → Answers low high text at k (lineAt key low high text at k)
 unfolding lineAt
 line-answers key low high text at k =
-    let l = lineOf (drop at text) in
-    elim (test-of (ltb (length l) (length (drop at text)) && begins key l)) [
-      | inl e ↦ rw e (ranged-answers (numberOf (drop (length key) l)) low high k (at + suc (length l)))
-      | inr e ↦ rw e (inr (0, refl))
+    let s = drop at text in
+    let l = lineOf s in
+    elim (test-of (ltb (length l) (length s) && begins key l)) [
+      | inl e ↦
+          let shorter = ltb-true (length l) (length s) (and-left (ltb (length l) (length s)) (begins key l) e) in
+          let inside : at + suc (length l) ≤ length text = omega (arith, length-drop at text) in
+          rw e (ranged-answers (numberOf (drop (length key) l)) (at + suc (length l)) (omega arith) inside)
+      | inr e ↦ rw e (refuses 0)
     ]
+  where
+    ranged-answers : (d : Digits) (next : ℕ) → at < next → next ≤ length text
+        → Answers low high text at k (ranged d low high k next)
+    ranged-answers Malformed next h l = refuses 1
+    ranged-answers (Value v) next h l =
+        elim (test-of (within low high v)) [ inl e ↦ rw e (tells v next e h l) | inr e ↦ rw e (refuses 2) ]

@@ -39,10 +39,20 @@ wellFormed s = within 1 maxDigits (length s) && not (eqb (getD s 0 0) digitZero 
 unfoldable pub numberOf : List ℕ → Digits
 numberOf s = pick (wellFormed s) (digitsFrom 0 s) Malformed
 
+-- the refusals that every line may meet: there is no such line, no number in it, or none in its range
+abbrev pub missing : ℕ
+missing = 1
+
+abbrev pub malformed : ℕ
+malformed = 2
+
+abbrev pub outOfRange : ℕ
+outOfRange = 3
+
 -- a number in its range, with the offset after its line
 abbrev pub ranged : Digits → ℕ → ℕ → ℕ → ℕ → Line
-ranged Malformed low high k next = L.Malformed k
-ranged (Value v) low high k next = pick (within low high v) (L.Number v next) (L.OutOfRange k)
+ranged Malformed low high k next = L.Refused malformed k
+ranged (Value v) low high k next = pick (within low high v) (L.Number v next) (L.Refused outOfRange k)
 
 -- the line k that begins at an offset of a text
 unfoldable pub lineAt : List ℕ → ℕ → ℕ → List ℕ → ℕ → ℕ → Line
@@ -52,41 +62,20 @@ lineAt key low high text at k =
     let next = at + suc (length l) in
     pick (ltb (length l) (length s) && begins key l)
     (ranged (numberOf (drop (length key) l)) low high k next)
-    (L.Missing k)
+    (L.Refused missing k)
 
 -- where nothing is expected, nothing stands
 abbrev pub endAt : List ℕ → ℕ → ℕ → Line
-endAt text at k = pick (ltb at (length text)) (L.Missing k) L.End
+endAt text at k = pick (ltb at (length text)) (L.Refused missing k) L.End
 
 -- document 01's number of a line's answer, 0 where it is no refusal
 abbrev pub refusal : Line → ℕ
 refusal (L.Number v next) = 0
 refusal L.End = 0
-refusal (L.Missing k) = 1
-refusal (L.Malformed k) = 2
-refusal (L.OutOfRange k) = 3
-refusal (L.Exceeds k) = 4
-refusal (L.Repeated k) = 5
-refusal (L.Impossible k) = 6
+refusal (L.Refused n k) = n
 
 -- and its place, the line that is refused
 abbrev pub place : Line → ℕ
 place (L.Number v next) = 0
 place L.End = 0
-place (L.Missing k) = k
-place (L.Malformed k) = k
-place (L.OutOfRange k) = k
-place (L.Exceeds k) = k
-place (L.Repeated k) = k
-place (L.Impossible k) = k
-
--- what is done with the number of a line and the offset after it, or else with any other answer
-abbrev pub onNumber : {A : Type 0} → Line → (ℕ → ℕ → A) → A → A
-onNumber (L.Number v next) f x = f v next
-onNumber L.End f x = x
-onNumber (L.Missing k) f x = x
-onNumber (L.Malformed k) f x = x
-onNumber (L.OutOfRange k) f x = x
-onNumber (L.Exceeds k) f x = x
-onNumber (L.Repeated k) f x = x
-onNumber (L.Impossible k) f x = x
+place (L.Refused n k) = k

@@ -15,21 +15,23 @@ ghost use lib.ListN.{length, drop};
 ghost use Rattle.basics.specs.Basics.{isIn};
 ghost use Rattle.text.specs.Text.{lineFeed};
 ghost use Rattle.text.specs.Lines.{maxDigits, lineOf, begins, digitsFrom, numberOf};
-ghost use Rattle.text.specs.Lines.{lineAt, endAt, refusal, place};
+ghost use Rattle.text.specs.Lines.{lineAt, endAt};
 use basics::within;
 
 // What the reading of one line answers: its number and the offset after it, the end of the text where nothing is
-// expected, or a refusal with its line.
+// expected, or a refusal with its number and its line.
 pub enum Line {
     Number(u64, usize),
     End,
-    Missing(u32),
-    Malformed(u32),
-    OutOfRange(u32),
-    Exceeds(u32),
-    Repeated(u32),
-    Impossible(u32),
+    Refused(u8, u32),
 }
+
+// The refusals that every line may meet: there is no such line, no number in it, or none in its range.
+const MISSING: u8 = 1;
+
+const MALFORMED: u8 = 2;
+
+const OUT_OF_RANGE: u8 = 3;
 
 // What stands after a key: a number, or what is refusal 2.
 enum Digits {
@@ -137,20 +139,20 @@ pub fn line_at(text: &[u8], offset: usize, line: u32, key: &[u8], low: u64, high
 {
     let rest = rest_of(text, offset);
     if !starts_with(rest, key) {
-        return Line::Missing(line);
+        return Line::Refused(MISSING, line);
     }
     let tail = rest_of(rest, key.len());
     let written = first_line(tail);
     let size = written.len();
     if tail.len() <= size {
-        return Line::Missing(line);
+        return Line::Refused(MISSING, line);
     }
     let digits = number_of(written);
     let Digits::Value(value) = digits else {
-        return Line::Malformed(line);
+        return Line::Refused(MALFORMED, line);
     };
     if !within(low, high, value) {
-        return Line::OutOfRange(line);
+        return Line::Refused(OUT_OF_RANGE, line);
     }
     let next = offset + key.len() + size + 1;
     Line::Number(value, next)
@@ -161,39 +163,7 @@ pub fn end_at(text: &[u8], offset: usize, line: u32) -> Line
     ensures { λ r. ⌜ r ≡ endAt (now (text .entry)) offset line ⌝ }
 {
     if offset < text.len() {
-        return Line::Missing(line);
+        return Line::Refused(MISSING, line);
     }
     Line::End
-}
-
-// The number of a refusal, 0 where a line's answer is none.
-pub fn refusal_of(answer: Line) -> u8
-    ensures { λ r. ⌜ r ≡ refusal answer ⌝ }
-{
-    match answer {
-        Line::Number(_, _) => 0,
-        Line::End => 0,
-        Line::Missing(_) => 1,
-        Line::Malformed(_) => 2,
-        Line::OutOfRange(_) => 3,
-        Line::Exceeds(_) => 4,
-        Line::Repeated(_) => 5,
-        Line::Impossible(_) => 6,
-    }
-}
-
-// The line that is refused.
-pub fn place_of(answer: Line) -> u32
-    ensures { λ r. ⌜ r ≡ place answer ⌝ }
-{
-    match answer {
-        Line::Number(_, _) => 0,
-        Line::End => 0,
-        Line::Missing(line) => line,
-        Line::Malformed(line) => line,
-        Line::OutOfRange(line) => line,
-        Line::Exceeds(line) => line,
-        Line::Repeated(line) => line,
-        Line::Impossible(line) => line,
-    }
 }

@@ -88,10 +88,10 @@ module _ (w : tie.After-within) where
   value = w .before .before .digits .given .0 .0
 
   decided : (b : Bool) → w .within .result ≡ b
-      → pick b (L.Number value (next number)) (L.OutOfRange (call number .args .line)) ≡ answer (call number)
+      → pick b (L.Number value (next number)) (L.Refused 3 (call number .args .line)) ≡ answer (call number)
   decided b e =
       sym (told number (Value value) (w .before .before .digits .given .1)
-      ∙ ap (λ x. pick x (L.Number value (next number)) (L.OutOfRange (call number .args .line)))
+      ∙ ap (λ x. pick x (L.Number value (next number)) (L.Refused 3 (call number .args .line)))
       (sym (w .within .ensures) ∙ e))
 
 rest-of-requires : tie.Need-rest-of-requires
