@@ -4,7 +4,7 @@ use mathlib.Core.Path.{_≡_, refl, sym, ap, _∙_, subst}
 use mathlib.Core.Bool.{Bool, true, false}
 use mathlib.Core.List.{List, _++_, append-assoc}
 use mathlib.Core.Logic.{inl, inr}
-use Prim.Native.Nat.{ℕ, zero, suc, _+_, _^_, _<_}
+use Prim.Native.Nat.{ℕ, zero, suc, _+_, _^_, _≤_, _<_}
 use native.Mathlib.Omega.{arith}
 use lib.Dec.{ltb}
 use lib.IntN.{ℤ, pos, negsuc}
@@ -230,3 +230,22 @@ told-fits key plain form text at k z next e =
   where
     other : {n : ℕ} → formAt key form text at k ≡ no-number n → (fits form z ≡ true) × (inRange form z ≡ true)
     other f = let no : _≡_ {A = ℕ} 0 1 = cc in absurd (omega arith)
+
+-- ---- and no number is a refusal with a number
+pub told-some : (key : List ℕ) → isIn lineFeed key ≡ false → (form : Form) (text : List ℕ) (at k n : ℕ)
+    → formAt key form text at k ≡ no-number n → 1 ≤ n
+told-some key plain form text at k n e =
+    elim (says key plain form (drop at text)) [
+      | nothing none ↦ some (form-missing key plain text at k form none)
+      | no-numeral value rest is h none ↦ some (form-malformed key plain text at k form value rest is h none)
+      | numeral y rest is f ↦ elim (test-of (inRange form y)) [
+        | inl w ↦
+            let told = form-number key plain text at k y rest is form f w in
+            let no : _≡_ {A = ℕ} 0 1 = cc in
+            absurd (omega arith)
+        | inr w ↦ some (form-outside key plain text at k y rest is form f w)
+      ]
+    ]
+  where
+    some : {m : ℕ} → formAt key form text at k ≡ no-number (suc m) → 1 ≤ n
+    some {m} f = let is : n ≡ suc m = cc in omega arith

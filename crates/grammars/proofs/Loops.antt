@@ -1,18 +1,19 @@
--- A loop that reads line by line, one step a turn: the whole text reads as from here on, what the states keep is kept,
--- and fewer lines are left.
-use mathlib.Core.Path.{_≡_, refl, sym, ap, _∙_, subst}
+-- A loop that reads line by line, one step a turn: the text reads as from the next line on, and fewer bytes are left.
+use mathlib.Core.Path.{_≡_, refl, sym, ap, _∙_}
+use mathlib.Core.Bool.{Bool, true, false}
 use mathlib.Core.List.{List}
-use Prim.Native.Nat.{ℕ, zero, suc, _+_, _≤_, _<_}
+use Prim.Native.Nat.{ℕ, zero, suc, _-_, _≤_, _<_}
 use native.Mathlib.Omega.{arith}
+use lib.Dec.{ltb}
 use lib.IntN.{ℤ}
-use Rattle.basics.specs.Basics.{isIn}
+use lib.ListN.{length}
+use Rattle.basics.specs.Basics.{pick, isIn}
 use Rattle.text.specs.Text.{lineFeed}
 use Rattle.grammars.specs.Forms.{Form, Told, number, no-number, formAt}
-use Rattle.grammars.specs.Grammars.{Grammar, Expected, the-end, a-line, keyIn, Plain, Verdict}
-use Rattle.grammars.specs.Grammars.{goes-on, stops, onFault, onTold, onExpected, onStep, step, readFrom, read}
+use Rattle.grammars.specs.Grammars.{Grammar, Expected, the-end, a-line, keyIn, Plain, Verdict, accepted, refused}
+use Rattle.grammars.specs.Grammars.{Step, goes-on, stops, onFault, onTold, onExpected, onStep, step, readFrom}
 use Rattle.grammars.specs.Reasons.{Passes}
-use Rattle.grammars.specs.Claims.{Invariant, Falls}
-use Rattle.grammars.proofs.Forms.{told-fits}
+use Rattle.grammars.proofs.Forms.{told-fits, told-some}
 use Rattle.grammars.proofs.Steps.{read-steps, step-onward, not-both}
 
 -- ---- a step goes on by a number that passes
@@ -49,42 +50,53 @@ step-passed g plain text s at k t next j e = by-expected (g .expected s) refl e
     by-expected the-end x h = not-both h
     by-expected (a-line key form) x h = by-told key form x (formAt key form text at k) refl h
 
--- ---- what a loop needs to know of a grammar: what its states keep, and how many lines may follow each
-pub record Course {S : Type 0} (g : Grammar S) (start : S) : Type 1 where
-  pub plain : Plain g
-  pub Known : S → Type 0
-  pub invariant : Invariant g start Known
-  pub left : S → ℕ
-  pub falls : Falls g Known left
+-- ---- a turn of the loop: it goes on past a byte at least, so the bytes that are left are its measure, and what is read
+-- stays the same; or it ends
+pub record Turned {S : Type 0} (g : Grammar S) (text : List ℕ) (s : S) (at k : ℕ) (t : S) (next j : ℕ) : Type 0 where
+  pub passed : Passed g s t
+  pub same : readFrom g text s at k ≡ readFrom g text t next j
+  pub fewer : length text - next < length text - at
+  pub counted : j ≡ suc k
 
-module _ {S : Type 0} (g : Grammar S) (start : S) (c : Course g start) (text : List ℕ) where
-  -- its invariant, at a state, an offset and a line
-  pub record Going (s : S) (at line : ℕ) : Type 0 where
-    pub same : read g start text ≡ readFrom g text s at line
-    pub known : c .Known s
-    pub few : line + c .left s ≤ suc (c .left start)
+module _ {S : Type 0} (g : Grammar S) (plain : Plain g) (text : List ℕ) (s : S) (at k : ℕ) where
+  abbrev onward : Step S → Verdict S
+  onward x = onStep x (readFrom g text)
 
-  pub going-start : Going start 0 1
-  going-start = record { same = refl; known = c .invariant .begins; few = omega arith }
-
-  module _ (s : S) (at line : ℕ) (here : Going s at line) where
-    pub ends : (v : Verdict S) → step g text s at line ≡ stops v → read g start text ≡ v
-    ends v e = here .same ∙ read-steps g text s at line ∙ ap (λ x. onStep x (readFrom g text)) e
-
-    module _ (t : S) (next j : ℕ) (e : step g text s at line ≡ goes-on t next j) where
-      passed : Passed g s t
-      passed = step-passed g (c .plain) text s at line t next j e
-
-      pub fewer : c .left t < c .left s
-      fewer =
-          subst (λ y. c .left y < c .left s) (sym (passed .to))
-          (c .falls .fewer s (passed .key) (passed .told) (here .known) (passed .passes))
-
-      pub goes : Going t next j
-      goes = record {
-        same = here .same ∙ read-steps g text s at line ∙ ap (λ x. onStep x (readFrom g text)) e;
-        known =
-            subst (c .Known) (sym (passed .to))
-            (c .invariant .keeps s (passed .key) (passed .told) (here .known) (passed .passes));
-        few = omega (arith, here .few, fewer, step-onward g text s at line t next j e .1);
+  pub turned : (t : S) (next j : ℕ) → step g text s at k ≡ goes-on t next j → Turned g text s at k t next j
+  turned t next j e =
+      let (past, count) = step-onward g text s at k t next j e in
+      record {
+        passed = step-passed g plain text s at k t next j e;
+        same = read-steps g text s at k ∙ ap onward e;
+        fewer = omega (arith, past .further, past .inside);
+        counted = count;
       }
+
+  pub ended : (v : Verdict S) → step g text s at k ≡ stops v → readFrom g text s at k ≡ v
+  ended v e = read-steps g text s at k ∙ ap onward e
+
+  -- and its refusals have a number, and the line where it ends
+  pub refused-here : (n j : ℕ) → step g text s at k ≡ stops (refused n j) → (1 ≤ n) × (j ≡ k)
+  refused-here n j e = by-expected (g .expected s) refl e
+    where
+      no-feed : (key : List ℕ) (form : Form) → g .expected s ≡ a-line key form → isIn lineFeed key ≡ false
+      no-feed key form x = ap (λ y. isIn lineFeed (keyIn y)) (sym x) ∙ plain s
+
+      by-fault : (z : ℤ) (past m : ℕ) → onFault g s z past k m ≡ stops (refused n j) → (1 ≤ n) × (j ≡ k)
+      by-fault z past zero h = not-both (sym h)
+      by-fault z past (suc m) h = let is : suc m ≡ n = cc in (omega arith, cc)
+
+      by-told : (key : List ℕ) (form : Form) → g .expected s ≡ a-line key form → (a : Told)
+          → formAt key form text at k ≡ a → onTold g s k a ≡ stops (refused n j) → (1 ≤ n) × (j ≡ k)
+      by-told key form x (number z past) f h = by-fault z past (g .fault s z) h
+      by-told key form x (no-number m) f h =
+          let is : m ≡ n = cc in (omega (arith, told-some key (no-feed key form x) form text at k m f), cc)
+
+      by-end : (b : Bool) → stops (pick b (refused 1 k) (accepted s)) ≡ stops (refused n j) → (1 ≤ n) × (j ≡ k)
+      by-end true h = let is : 1 ≡ n = cc in (omega arith, cc)
+      by-end false h = let z : _≡_ {A = ℕ} 0 1 = cc in absurd (omega arith)
+
+      by-expected : (x : Expected) → g .expected s ≡ x → onExpected g text s at k x ≡ stops (refused n j)
+          → (1 ≤ n) × (j ≡ k)
+      by-expected the-end x h = by-end (ltb at (length text)) h
+      by-expected (a-line key form) x h = by-told key form x (formAt key form text at k) refl h

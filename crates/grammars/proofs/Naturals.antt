@@ -1,14 +1,14 @@
 -- Lines with a number in a range: what a number that passes there is, and what a step comes to for code that reads such
 -- a line.
 use mathlib.Core.Path.{_≡_, refl, sym, ap, _∙_, subst}
-use mathlib.Core.Bool.{true, _&&_}
+use mathlib.Core.Bool.{true}
 use mathlib.Core.List.{List}
 use mathlib.Core.Logic.{inl, inr}
-use Prim.Native.Nat.{ℕ, zero, suc, _+_}
+use Prim.Native.Nat.{ℕ, zero, suc}
 use lib.Dec.{ltb}
 use lib.IntN.{ℤ, pos, negsuc}
-use lib.ListN.{length, drop}
-use Rattle.basics.specs.Basics.{pick, within}
+use lib.ListN.{length}
+use Rattle.basics.specs.Basics.{within}
 use Rattle.basics.proofs.Tests.{test-of, never}
 use Rattle.text.specs.Text.{decimal, signed}
 use Rattle.text.specs.Lines.{lineAt, endAt}
@@ -16,8 +16,8 @@ use Rattle.text.specs.declared.Line.{Line}
 use Rattle.text.specs.declared.Line.the-variants as L
 use Rattle.text.proofs.Lines.{Answers, tells, refuses, line-answers}
 use Rattle.grammars.specs.Forms.{natural, size, fits, inRange, plainly, formAt}
-use Rattle.grammars.specs.Grammars.{Grammar, the-end, a-line, accepted, refused, Step, stops}
-use Rattle.grammars.specs.Grammars.{onFault, onTold, onExpected, step}
+use Rattle.grammars.specs.Grammars.{Grammar, the-end, a-line, onFault, onTold, onExpected, step}
+use Rattle.grammars.specs.inside.Answers.{unless, tested, onAnswer}
 use Rattle.grammars.specs.Reasons.{Passes}
 
 -- ---- a number without a sign
@@ -48,25 +48,32 @@ natural-passes {key = key} {z = z} p lock low high x =
     }
 
 -- ---- a step by what its line answers to code
-abbrev pub onLine : {S : Type 0} → Grammar S → S → ℕ → Line → Step S
-onLine g s k (L.Number v next) = onFault g s (pos v) next k (g .fault s (pos v))
-onLine g s k L.End = stops (accepted s)
-onLine g s k (L.Refused n j) = stops (refused n j)
-
 module _ {S : Type 0} (g : Grammar S) (text : List ℕ) (s : S) (at k : ℕ) where
-  answer-told : (low high : ℕ) (l : Line) → Answers low high text at k l → onTold g s k (plainly l) ≡ onLine g s k l
-  answer-told low high l (tells v next w h i) = refl
-  answer-told low high l (refuses n) = refl
+  abbrev faultOf : ℕ → ℕ
+  faultOf v = g .fault s (pos v)
+
+  by-fault : (v next n : ℕ) → faultOf v ≡ n
+      → onFault g s (pos v) next k n ≡ onAnswer g s k (tested faultOf (L.Number v next) k)
+  by-fault v next n e = refused-by n ∙ sym (ap (λ m. onAnswer g s k (unless m (L.Number v next) k)) e)
+    where
+      refused-by : (m : ℕ) → onFault g s (pos v) next k m ≡ onAnswer g s k (unless m (L.Number v next) k)
+      refused-by zero = refl
+      refused-by (suc m) = refl
+
+  by-answer : (low high : ℕ) (l : Line) → Answers low high text at k l
+      → onTold g s k (plainly l) ≡ onAnswer g s k (tested faultOf l k)
+  by-answer low high l (tells v next w h i) = by-fault v next (faultOf v) refl
+  by-answer low high l (refuses n) = refl
 
   -- where a number in a range is expected
   pub step-line : (key : List ℕ) (low high : ℕ) → g .expected s ≡ a-line key (natural low high)
-      → step g text s at k ≡ onLine g s k (lineAt key low high text at k)
+      → step g text s at k ≡ onAnswer g s k (tested faultOf (lineAt key low high text at k) k)
   unfolding formAt
   step-line key low high x =
-      ap (onExpected g text s at k) x ∙ answer-told low high _ (line-answers key low high text at k)
+      ap (onExpected g text s at k) x ∙ by-answer low high _ (line-answers key low high text at k)
 
   -- where nothing is
-  pub step-end : g .expected s ≡ the-end → step g text s at k ≡ onLine g s k (endAt text at k)
+  pub step-end : g .expected s ≡ the-end → step g text s at k ≡ onAnswer g s k (tested faultOf (endAt text at k) k)
   step-end x =
       ap (onExpected g text s at k) x
       ∙ elim (test-of (ltb at (length text))) [ inl h ↦ rw h | inr h ↦ rw h ]

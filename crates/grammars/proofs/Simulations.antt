@@ -11,10 +11,24 @@ use Rattle.basics.specs.Basics.{isIn}
 use Rattle.basics.proofs.Tests.{test-of}
 use Rattle.text.specs.Text.{lineFeed}
 use Rattle.grammars.specs.Forms.{Form, fits, inRange, Told, number, no-number, formAt}
-use Rattle.grammars.specs.Grammars.{Grammar, Expected, the-end, a-line, keyIn, Plain, Verdict}
+use Rattle.grammars.specs.Grammars.{Grammar, Expected, the-end, a-line, keyIn, Plain, Verdict, accepted, refused}
 use Rattle.grammars.specs.Grammars.{onFault, onTold, onExpected, onStep, readFor, readFrom}
-use Rattle.grammars.specs.Claims.{Simulates, Alike, both-accept, both-refuse}
+use Rattle.grammars.specs.Reasons.{Passes}
 use Rattle.grammars.proofs.Forms.{told-fits}
+
+-- two grammars that go side by side, as code's and a document's: where states are related, they expect the same line,
+-- refuse the same numbers, and go to related states
+pub record Simulates {C S : Type 0} (h : Grammar C) (g : Grammar S) (R : C → S → Type 0) : Type 0 where
+  pub same-line : (c : C) (s : S) → R c s → h .expected c ≡ g .expected s
+  pub same-fault : (c : C) (s : S) (key : List ℕ) (form : Form) (z : ℤ) → R c s → g .expected s ≡ a-line key form
+      → fits form z ≡ true
+      → inRange form z ≡ true
+      → h .fault c z ≡ g .fault s z
+  pub same-state : (c : C) (s : S) (key : List ℕ) (z : ℤ) → R c s → Passes g s key z → R (h .after c z) (g .after s z)
+
+pub data Alike {C S : Type 0} (R : C → S → Type 0) : Verdict C → Verdict S → Type 0 where
+  both-accept : (c : C) (s : S) → R c s → Alike R (accepted c) (accepted s)
+  both-refuse : (n k : ℕ) → Alike R (refused n k) (refused n k)
 
 module _ {C S : Type 0} (h : Grammar C) (g : Grammar S) (R : C → S → Type 0) (same : Simulates h g R) (plain : Plain g)
     (text : List ℕ) where

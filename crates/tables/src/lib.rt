@@ -1,24 +1,20 @@
 // A table as text: what is read, and what is refused on which line.
 ghost use mathlib.Core.Path.{_≡_};
-ghost use Rattle.basics.specs.Basics.{pick};
-ghost use Rattle.tables.specs.Tables.{turnedDown};
-ghost use Rattle.tables.specs.Readings.{reading, ReadAs};
-use progress::Part;
+ghost use Rattle.tables.specs.TableLines.{turnedDown};
+ghost use Rattle.tables.specs.inside.Readings.{reading, ReadAs};
+use numbers::LINES;
+use numbers::order_in;
+use numbers::rows_in;
+use reader::read_lines;
 use rows::MAX_TASKS;
 use rows::Order;
 use rows::Row;
 use rows::no_row;
-use sections::read_part;
-use sections::read_ranks;
-use sections::read_rows;
-use text::end_at;
-use text::place_of;
-use text::refusal_of;
 
 mod lines;
+mod numbers;
 mod progress;
 mod reader;
-mod sections;
 
 // A table by value: its first rows are those counted.
 pub struct Table {
@@ -42,9 +38,9 @@ impl Table {
 // refusal's number and its line.
 pub struct Reading {
     pub table: Table,
-    pub refused: u8,
-    pub line: u32,
     pub order: Order,
+    pub line: u32,
+    pub refused: u8,
 }
 
 impl Reading {
@@ -69,47 +65,23 @@ impl Reading {
     }
 }
 
-// How many rank lines are expected.
-fn rank_lines(ranked: bool, tasks: usize) -> usize
-    ensures { λ r. ⌜ r ≡ pick ranked tasks 0 ⌝ }
-{
-    if ranked { tasks } else { 0 }
-}
-
 // A table as the planner takes it, or with rank lines as the reviewer does.
 pub fn read_table(text: &[u8], ranked: bool) -> Reading
     ensures { λ r. ⌜ ReadAs ranked (now (text .entry)) r ⌝ }
 {
-    let head = read_part(text, Part::Head, 0, 1);
-    if head.refused != 0 {
-        return Reading::stopped(head.refused, head.line);
+    let mut numbers = [0u64; LINES];
+    let read = read_lines(text, ranked, &mut numbers);
+    if read.refused != 0 {
+        return Reading::stopped(read.refused, read.line);
     }
-    let count = head.numbers.second as usize;
-    let table = read_rows(text, head.offset, head.line, count);
-    if table.refused != 0 {
-        return Reading::stopped(table.refused, table.line);
-    }
-    let numbers = table.tasks;
-    let ranks = rank_lines(ranked, count);
-    let order = read_ranks(text, table.offset, table.line, numbers, count, ranks);
-    if order.refused != 0 {
-        return Reading::stopped(order.refused, order.line);
-    }
-    let end = end_at(text, order.offset, order.line);
-    let trailing = refusal_of(end);
-    if trailing != 0 {
-        return Reading::stopped(trailing, place_of(end));
-    }
-    let board = head.numbers.first as u32;
-    let rows = table.rows;
-    let tasks = order.tasks;
+    let count = read.stand.count;
+    let rows = rows_in(&numbers, count);
+    let order = order_in(&numbers, count, read.stand.position);
+    let board = numbers[0] as u32;
     Reading {
         table: Table { rows, board, count },
         refused: 0,
         line: 0,
-        order: Order {
-            tasks,
-            count: ranks,
-        },
+        order,
     }
 }

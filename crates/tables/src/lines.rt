@@ -1,82 +1,110 @@
-// The line that is expected: its key, its range, and the test of a row's times against each other.
-ghost use mathlib.Core.Path.{_≡_};
-ghost use Rattle.tables.specs.Steps.{atMost, headAt, rowLineAt, lineFor, Ready};
+// The line that is expected: its key, its range, and the test of its number beside the range.
 use super::Table;
-use super::progress::Numbers;
+use super::numbers::FIELDS;
+use super::numbers::HEAD;
+use super::numbers::has_task;
+use super::numbers::is_in;
 use super::progress::Part;
-use super::progress::Progress;
+use super::progress::Stand;
 use rows::Row;
 use text::Line;
+use text::end_at;
 use text::line_at;
+
+// Refusals of a number in its range: it is past another, a task's number was used before, a rank names no task of the
+// table or one that has been named.
+const EXCEEDING: u8 = 4;
+
+const REPEATED: u8 = 5;
+
+const IMPOSSIBLE: u8 = 6;
 
 // A number past another is refused.
 fn at_most(limit: u64, answer: Line, line: u32) -> Line
-    ensures { λ r. ⌜ r ≡ atMost limit answer line ⌝ }
 {
     let Line::Number(value, _) = answer else {
         return answer;
     };
     if limit < value {
-        Line::Exceeds(line)
-    } else {
-        answer
+        return Line::Refused(EXCEEDING, line);
+    }
+    answer
+}
+
+// A task of one of the first rows is refused.
+fn new_task(numbers: &[u64], count: usize, answer: Line, line: u32) -> Line
+{
+    let Line::Number(value, _) = answer else {
+        return answer;
+    };
+    if has_task(numbers, count, value) {
+        return Line::Refused(REPEATED, line);
+    }
+    answer
+}
+
+// A rank is to name one of the rows, and none of the ranks before it.
+fn new_rank(numbers: &[u64], count: usize, answer: Line, line: u32) -> Line
+{
+    let Line::Number(value, _) = answer else {
+        return answer;
+    };
+    let known = has_task(numbers, count, value);
+    let again = is_in(numbers, HEAD + FIELDS * count, value);
+    if known & !again {
+        return answer;
+    }
+    Line::Refused(IMPOSSIBLE, line)
+}
+
+// The line at a position within a row.
+fn row_line(text: &[u8], offset: usize, line: u32, count: usize, position: usize, numbers: &[u64]) -> Line
+{
+    match position {
+        0 => {
+            let answer = line_at(text, offset, line, b"task=", Row::TASK_MIN, Row::TASK_MAX);
+            new_task(numbers, count, answer, line)
+        }
+        1 => line_at(text, offset, line, b"period=", Row::TICKS_MIN, Row::TICKS_MAX),
+        2 => {
+            let answer = line_at(text, offset, line, b"worst=", Row::TICKS_MIN, Row::TICKS_MAX);
+            at_most(numbers[HEAD + FIELDS * count + 1], answer, line)
+        }
+        3 => {
+            let answer = line_at(text, offset, line, b"best=", Row::TICKS_MIN, Row::TICKS_MAX);
+            at_most(numbers[HEAD + FIELDS * count + 2], answer, line)
+        }
+        4 => line_at(text, offset, line, b"alpha=", Row::ALPHA_MIN, Row::ALPHA_MAX),
+        _ => line_at(text, offset, line, b"beta=", Row::BETA_MIN, Row::BETA_MAX),
     }
 }
 
-// The first two lines of a table.
-fn head_line(text: &[u8], at: usize, line: u32, position: usize) -> Line
-    ensures { λ r. ⌜ r ≡ headAt position (now (text .entry)) at line ⌝ }
+// The line that is expected, at an offset.
+pub fn expected_line(text: &[u8], offset: usize, line: u32, stand: Stand, numbers: &[u64]) -> Line
 {
-    match position {
-        0 => line_at(
+    let part = stand.part;
+    match part {
+        Part::Board => line_at(
             text,
-            at,
+            offset,
             line,
             b"board=",
             Table::BOARD_MIN,
             Table::BOARD_MAX,
         ),
-        _ => line_at(
+        Part::Tasks => line_at(
             text,
-            at,
+            offset,
             line,
             b"tasks=",
             Table::TASKS_MIN,
             Table::TASKS_MAX,
         ),
-    }
-}
-
-// The line at a position within a row; before it, after the task's, stand the numbers of the lines before.
-fn row_line(text: &[u8], at: usize, line: u32, position: usize, before: Numbers) -> Line
-    ensures { λ r. ⌜ r ≡ rowLineAt position before (now (text .entry)) at line ⌝ }
-{
-    match position {
-        0 => line_at(text, at, line, b"task=", Row::TASK_MIN, Row::TASK_MAX),
-        1 => line_at(text, at, line, b"period=", Row::TICKS_MIN, Row::TICKS_MAX),
-        2 => {
-            let answer = line_at(text, at, line, b"worst=", Row::TICKS_MIN, Row::TICKS_MAX);
-            at_most(before.first, answer, line)
+        Part::Row => row_line(text, offset, line, stand.count, stand.position, numbers),
+        Part::Rank => {
+            let answer = line_at(text, offset, line, b"rank=", Row::TASK_MIN, Row::TASK_MAX);
+            new_rank(numbers, stand.count, answer, line)
         }
-        3 => {
-            let answer = line_at(text, at, line, b"best=", Row::TICKS_MIN, Row::TICKS_MAX);
-            at_most(before.second, answer, line)
-        }
-        4 => line_at(text, at, line, b"alpha=", Row::ALPHA_MIN, Row::ALPHA_MAX),
-        _ => line_at(text, at, line, b"beta=", Row::BETA_MIN, Row::BETA_MAX),
-    }
-}
-
-// The line that is expected, at an offset.
-pub fn expected_line(text: &[u8], at: usize, line: u32, p: Progress) -> Line
-    requires { ⌜ Ready p ⌝ }
-    ensures { λ r. ⌜ r ≡ lineFor p (now (text .entry)) at line ⌝ }
-{
-    let part = p.part;
-    match part {
-        Part::Head => head_line(text, at, line, p.count),
-        Part::Task => row_line(text, at, line, 0, p.numbers),
-        Part::Rest => row_line(text, at, line, p.count + 1, p.numbers),
-        Part::Rank => line_at(text, at, line, b"rank=", Row::TASK_MIN, Row::TASK_MAX),
+        Part::End => end_at(text, offset, line),
     }
 }

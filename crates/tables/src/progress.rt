@@ -1,117 +1,168 @@
-// How far the reading of a part of the table has come, and what a line makes of it.
-ghost use mathlib.Core.Path.{_≡_};
-ghost use Rattle.tables.specs.Steps.{partSize, started, taken, withNumber, Ready};
+// How far the reading of a table has come, and what a line makes of it.
+use super::numbers::FIELDS;
 use text::Line;
-use text::place_of;
-use text::refusal_of;
 
-// A part of a table's text: lines that follow one another.
+// The line that is expected next: one of the head, of a row, a rank, or none.
 pub enum Part {
-    Head,
-    Task,
-    Rest,
+    Board,
+    Tasks,
+    Row,
     Rank,
+    End,
 }
 
-impl Part {
-    // How many lines it has: board and tasks; a row's task; the other five of a row; a rank.
-    fn size(self) -> usize
-        ensures { λ r. ⌜ r ≡ partSize self ⌝ }
-    {
-        match self {
-            Part::Head => 2,
-            Part::Task => 1,
-            Part::Rest => 5,
-            Part::Rank => 1,
-        }
-    }
-}
-
-// The numbers of a part's lines, in their sequence.
-pub struct Numbers {
-    pub first: u64,
-    pub second: u64,
-    pub third: u64,
-    pub fourth: u64,
-    pub fifth: u64,
-}
-
-impl Numbers {
-    fn with(mut self, position: usize, value: u64) -> Numbers
-        ensures { λ r. ⌜ r ≡ withNumber self position value ⌝ }
-    {
-        match position {
-            0 => self.first = value,
-            1 => self.second = value,
-            2 => self.third = value,
-            3 => self.fourth = value,
-            _ => self.fifth = value,
-        }
-        self
-    }
-}
-
-// The numbers read so far, `count` of them, and the place after their lines; or a refusal and its line.
-pub struct Progress {
+// Where in the table the reading stands: the rows that are whole, how many are left after the one that is being read,
+// and how many of its numbers are there; or, behind the rows, the ranks that are left after the next and those so far.
+pub struct Stand {
     pub part: Part,
+    pub ranked: bool,
+    pub count: usize,
+    pub left: usize,
+    pub position: usize,
+}
+
+// Where the reading stands, with the line and the offset of the next line; or its end, with refusal 0, or with a
+// refusal and its line.
+pub struct Progress {
+    pub stand: Stand,
     pub ended: bool,
     pub refused: u8,
     pub line: u32,
     pub offset: usize,
-    pub count: usize,
-    pub numbers: Numbers,
 }
 
-impl Progress {
-    // Before the first line of a part.
-    pub fn started(part: Part, offset: usize, line: u32) -> Progress
-        ensures { λ p. ⌜ p ≡ started part offset line ⌝ }
-    {
-        let numbers = Numbers {
-            first: 0,
-            second: 0,
-            third: 0,
-            fourth: 0,
-            fifth: 0,
+// Where so many rank lines are left.
+fn ranks_next(ranked: bool, count: usize, named: usize, left: usize) -> Stand
+{
+    if left == 0 {
+        return Stand {
+            part: Part::End,
+            ranked,
+            count,
+            left: 0,
+            position: named,
         };
-        Progress {
-            part,
-            ended: false,
-            refused: 0,
-            line,
-            offset,
+    }
+    Stand {
+        part: Part::Rank,
+        ranked,
+        count,
+        left: left - 1,
+        position: named,
+    }
+}
+
+// How many rank lines are expected.
+fn rank_lines(ranked: bool, tasks: usize) -> usize
+{
+    if ranked { tasks } else { 0 }
+}
+
+// Where so many rows are left.
+fn rows_next(ranked: bool, count: usize, left: usize) -> Stand
+{
+    if left == 0 {
+        return ranks_next(ranked, count, 0, rank_lines(ranked, count));
+    }
+    Stand {
+        part: Part::Row,
+        ranked,
+        count,
+        left: left - 1,
+        position: 0,
+    }
+}
+
+impl Stand {
+    // Before the first line.
+    pub fn start(ranked: bool) -> Stand
+    {
+        Stand {
+            part: Part::Board,
+            ranked,
             count: 0,
-            numbers,
+            left: 0,
+            position: 0,
         }
     }
 
-    // A line is taken in: its number after those before it, and anything else is a refusal.
-    pub fn with_line(self, answer: Line) -> Progress
-        requires { ⌜ Ready self ⌝ }
-        ensures { λ q. ⌜ q ≡ taken self answer ⌝ }
+    // Behind one more number of a row.
+    fn after_field(self) -> Stand
+    {
+        let more = self.position + 1;
+        if more == FIELDS {
+            return rows_next(self.ranked, self.count + 1, self.left);
+        }
+        Stand {
+            part: Part::Row,
+            ranked: self.ranked,
+            count: self.count,
+            left: self.left,
+            position: more,
+        }
+    }
+
+    // Behind a number.
+    fn after(self, value: u64) -> Stand
     {
         let part = self.part;
-        let before = self.numbers;
-        let Line::Number(value, next) = answer else {
-            return Progress {
-                part,
-                ended: true,
-                refused: refusal_of(answer),
-                line: place_of(answer),
-                offset: self.offset,
-                count: self.count,
-                numbers: before,
-            };
-        };
-        let count = self.count + 1;
-        Progress {
-            part,
-            ended: part.size() <= count,
-            refused: 0,
-            line: self.line + 1,
-            offset: next,
-            count,
-            numbers: before.with(self.count, value),
+        match part {
+            Part::Board => Stand {
+                part: Part::Tasks,
+                ranked: self.ranked,
+                count: 0,
+                left: 0,
+                position: 0,
+            },
+            Part::Tasks => rows_next(self.ranked, 0, value as usize),
+            Part::Row => self.after_field(),
+            Part::Rank => ranks_next(self.ranked, self.count, self.position + 1, self.left),
+            Part::End => self,
         }
+    }
+
+    // The reading ends here, with a refusal or with none.
+    fn ended(self, refused: u8, line: u32) -> Progress
+    {
+        Progress {
+            stand: self,
+            ended: true,
+            refused,
+            line,
+            offset: 0,
+        }
+    }
+}
+
+// The reading past the line that is expected, whose number stands behind those before it; or its end.
+pub fn take_line(
+    text: &[u8],
+    offset: usize,
+    line: u32,
+    stand: Stand,
+    numbers: &mut [u64; super::LINES],
+) -> Progress
+{
+    let at = line as usize - 1;
+    let answer = super::lines::expected_line(text, offset, line, stand, &numbers[..at]);
+    let Line::Number(value, next) = answer else {
+        return ended_by(stand, answer);
+    };
+    numbers[at] = value;
+    Progress {
+        stand: stand.after(value),
+        ended: false,
+        refused: 0,
+        line: line + 1,
+        offset: next,
+    }
+}
+
+fn ended_by(stand: Stand, answer: Line) -> Progress
+{
+    match answer {
+        Line::Number(_, _) => stand.ended(0, 0),
+        Line::End => stand.ended(0, 0),
+        Line::Refused(refused, line) => stand.ended(refused, line),
     }
 }

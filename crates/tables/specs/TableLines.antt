@@ -1,0 +1,182 @@
+-- A table as text, with its rank lines where they are expected: what each line is to be, the tests of its number, and
+-- what it leaves to be read. This is the one description of a table.
+use mathlib.Core.Bool.{Bool, _&&_, not}
+use mathlib.Core.List.{List, [], _∷_, _++_}
+use Prim.Native.Nat.{ℕ, zero, suc}
+use lib.Dec.{eqb, ltb}
+use lib.ListN.{length, getD}
+use Rattle.basics.specs.Basics.{pick, isIn}
+use Rattle.text.specs.Text.{bytes}
+use Rattle.grammars.specs.Forms.{natural, size}
+use Rattle.grammars.specs.Grammars.{Expected, the-end, a-line, Grammar, Verdict, accepted, refused, read}
+use Rattle.rows.specs.Rows.{minTask, maxTask, minTicks, maxTicks, minAlpha, maxAlpha, minBeta, maxBeta}
+use Rattle.rows.specs.Rows.{minTasks, maxTasks, row, hasTask}
+use Rattle.rows.specs.declared.Row.{Row}
+
+-- board numbers
+abbrev pub minBoard : ℕ
+minBoard = 1
+
+abbrev pub maxBoard : ℕ
+maxBoard = 65535
+
+-- ---- refusals of a number in its range
+-- worst > period, best > worst
+abbrev pub exceeding : ℕ
+exceeding = 4
+
+-- a task number used before
+abbrev pub repeated : ℕ
+repeated = 5
+
+-- a rank that names no task of the table, or one that has been named
+abbrev pub impossible : ℕ
+impossible = 6
+
+-- ---- the lines of a row, in fixed order
+-- where each number stands in its row
+abbrev pub taskAt : ℕ
+taskAt = 0
+
+abbrev pub periodAt : ℕ
+periodAt = 1
+
+abbrev pub worstAt : ℕ
+worstAt = 2
+
+abbrev pub bestAt : ℕ
+bestAt = 3
+
+abbrev pub alphaAt : ℕ
+alphaAt = 4
+
+abbrev pub betaAt : ℕ
+betaAt = 5
+
+abbrev pub fieldCount : ℕ
+fieldCount = suc betaAt
+
+-- a line of a row: its key, its range, and the refusal of a number in that range, 0 for none, given the rows before and
+-- the row's numbers before it
+pub record RowLine : Type 0 where
+  pub key : List ℕ
+  pub low : ℕ
+  pub high : ℕ
+  pub fault : List Row → List ℕ → ℕ → ℕ
+
+abbrev pub rowLine : List ℕ → ℕ → ℕ → (List Row → List ℕ → ℕ → ℕ) → RowLine
+rowLine key low high fault = record { key = key; low = low; high = high; fault = fault }
+
+-- the tests: none, a new task number, at most the row's number at a position
+abbrev pub anyNumber : List Row → List ℕ → ℕ → ℕ
+anyNumber rs vs v = 0
+
+abbrev pub newTask : List Row → List ℕ → ℕ → ℕ
+newTask rs vs v = pick (hasTask v rs) repeated 0
+
+abbrev pub atMost : ℕ → List Row → List ℕ → ℕ → ℕ
+atMost i rs vs v = pick (ltb (getD vs i 0) v) exceeding 0
+
+abbrev pub rowLines : List RowLine
+rowLines =
+    rowLine (bytes "task=") minTask maxTask newTask
+    ∷ rowLine (bytes "period=") minTicks maxTicks anyNumber
+    ∷ rowLine (bytes "worst=") minTicks maxTicks (atMost periodAt)
+    ∷ rowLine (bytes "best=") minTicks maxTicks (atMost worstAt)
+    ∷ rowLine (bytes "alpha=") minAlpha maxAlpha anyNumber
+    ∷ rowLine (bytes "beta=") minBeta maxBeta anyNumber
+    ∷ []
+
+-- the line at a position in a row
+abbrev pub rowLineAt : ℕ → RowLine
+rowLineAt i = getD rowLines i (rowLine [] 0 0 anyNumber)
+
+-- the row that its numbers make
+abbrev pub rowOf : List ℕ → Row
+rowOf vs =
+    row (getD vs taskAt 0) (getD vs periodAt 0) (getD vs worstAt 0) (getD vs bestAt 0) (getD vs alphaAt 0)
+    (getD vs betaAt 0)
+
+-- ---- what has been read
+-- the rows so far and how many are left after the one that is being read, with its numbers so far; the ranks so far and
+-- how many are left after the next
+pub data Stage : Type 0 where
+  at-board : Stage
+  at-tasks : (board : ℕ) → Stage
+  at-field : (left board : ℕ) (rows : List Row) (values : List ℕ) → Stage
+  at-rank : (left board : ℕ) (rows : List Row) (order : List ℕ) → Stage
+  at-end : (board : ℕ) (rows : List Row) (order : List ℕ) → Stage
+
+-- as many rank lines, then the end
+abbrev pub ranksStage : ℕ → ℕ → List Row → List ℕ → Stage
+ranksStage zero b rs os = at-end b rs os
+ranksStage (suc n) b rs os = at-rank n b rs os
+
+-- as many rows, then as many rank lines as rows, if they are expected
+abbrev pub rowsStage : Bool → ℕ → ℕ → List Row → Stage
+rowsStage ranked zero b rs = ranksStage (pick ranked (length rs) 0) b rs []
+rowsStage ranked (suc n) b rs = at-field n b rs []
+
+-- ---- the line that is expected
+abbrev pub expected : Stage → Expected
+expected at-board = a-line (bytes "board=") (natural minBoard maxBoard)
+expected (at-tasks b) = a-line (bytes "tasks=") (natural minTasks maxTasks)
+expected (at-field n b rs vs) = let l = rowLineAt (length vs) in a-line (l .key) (natural (l .low) (l .high))
+expected (at-rank n b rs os) = a-line (bytes "rank=") (natural minTask maxTask)
+expected (at-end b rs os) = the-end
+
+-- the refusal of a number in its range, 0 for none
+abbrev pub fault : Stage → ℕ → ℕ
+fault at-board v = 0
+fault (at-tasks b) v = 0
+fault (at-field n b rs vs) v = rowLineAt (length vs) .fault rs vs v
+fault (at-rank n b rs os) v = pick (hasTask v rs && not (isIn v os)) 0 impossible
+fault (at-end b rs os) v = 0
+
+-- what is to be read after a number
+abbrev pub after : Bool → Stage → ℕ → Stage
+after ranked at-board v = at-tasks v
+after ranked (at-tasks b) v = rowsStage ranked v b []
+after ranked (at-field n b rs vs) v =
+    let more = vs ++ (v ∷ []) in
+    pick (eqb (length more) fieldCount) (rowsStage ranked n b (rs ++ (rowOf more ∷ []))) (at-field n b rs more)
+after ranked (at-rank n b rs os) v = ranksStage n b rs (os ++ (v ∷ []))
+after ranked (at-end b rs os) v = at-end b rs os
+
+-- a table as the planner takes it, or with rank lines as the reviewer does
+abbrev pub table : Bool → Grammar Stage
+table ranked = record {
+  expected = expected;
+  fault = λ s z. fault s (size z);
+  after = λ s z. after ranked s (size z);
+}
+
+-- ---- what a text is read as
+-- a refusal with its line, or the table: its board, its rows, and the order of its rank lines
+pub record TableRead : Type 0 where
+  pub refused : ℕ
+  pub line : ℕ
+  pub board : ℕ
+  pub rows : List Row
+  pub order : List ℕ
+
+abbrev pub turnedDown : ℕ → ℕ → TableRead
+turnedDown n k = record { refused = n; line = k; board = 0; rows = []; order = [] }
+
+abbrev pub tableOf : ℕ → List Row → List ℕ → TableRead
+tableOf b rs os = record { refused = 0; line = 0; board = b; rows = rs; order = os }
+
+-- a text is accepted only at the end of a table
+abbrev pub tableAt : Stage → TableRead
+tableAt at-board = turnedDown 0 0
+tableAt (at-tasks b) = turnedDown 0 0
+tableAt (at-field n b rs vs) = turnedDown 0 0
+tableAt (at-rank n b rs os) = turnedDown 0 0
+tableAt (at-end b rs os) = tableOf b rs os
+
+abbrev pub onVerdict : Verdict Stage → TableRead
+onVerdict (accepted s) = tableAt s
+onVerdict (refused n k) = turnedDown n k
+
+unfoldable pub readTable : Bool → List ℕ → TableRead
+readTable ranked text = onVerdict (read (table ranked) at-board text)
