@@ -67,29 +67,33 @@ pub record RowLine : Type 0 where
 abbrev pub rowLine : List ℕ → ℕ → ℕ → (List Row → List ℕ → ℕ → ℕ) → RowLine
 rowLine key low high fault = record { key = key; low = low; high = high; fault = fault }
 
--- the tests: none, a new task number, at most the row's number at a position
-abbrev pub anyNumber : List Row → List ℕ → ℕ → ℕ
-anyNumber rs vs v = 0
+-- the tests: none; a task number that none of some rows has; a number at most another; a rank that names one of some
+-- rows, and none of the ranks before it
+abbrev pub anyNumber : ℕ → ℕ
+anyNumber v = 0
 
-abbrev pub newTask : List Row → List ℕ → ℕ → ℕ
-newTask rs vs v = pick (hasTask v rs) repeated 0
+abbrev pub newTask : List Row → ℕ → ℕ
+newTask rs v = pick (hasTask v rs) repeated 0
 
-abbrev pub atMost : ℕ → List Row → List ℕ → ℕ → ℕ
-atMost i rs vs v = pick (ltb (getD vs i 0) v) exceeding 0
+abbrev pub atMost : ℕ → ℕ → ℕ
+atMost limit v = pick (ltb limit v) exceeding 0
+
+abbrev pub newRank : List Row → List ℕ → ℕ → ℕ
+newRank rs os v = pick (hasTask v rs && not (isIn v os)) 0 impossible
 
 abbrev pub rowLines : List RowLine
 rowLines =
-    rowLine (bytes "task=") minTask maxTask newTask
-    ∷ rowLine (bytes "period=") minTicks maxTicks anyNumber
-    ∷ rowLine (bytes "worst=") minTicks maxTicks (atMost periodAt)
-    ∷ rowLine (bytes "best=") minTicks maxTicks (atMost worstAt)
-    ∷ rowLine (bytes "alpha=") minAlpha maxAlpha anyNumber
-    ∷ rowLine (bytes "beta=") minBeta maxBeta anyNumber
+    rowLine (bytes "task=") minTask maxTask (λ rs vs. newTask rs)
+    ∷ rowLine (bytes "period=") minTicks maxTicks (λ rs vs. anyNumber)
+    ∷ rowLine (bytes "worst=") minTicks maxTicks (λ rs vs. atMost (getD vs periodAt 0))
+    ∷ rowLine (bytes "best=") minTicks maxTicks (λ rs vs. atMost (getD vs worstAt 0))
+    ∷ rowLine (bytes "alpha=") minAlpha maxAlpha (λ rs vs. anyNumber)
+    ∷ rowLine (bytes "beta=") minBeta maxBeta (λ rs vs. anyNumber)
     ∷ []
 
 -- the line at a position in a row
 abbrev pub rowLineAt : ℕ → RowLine
-rowLineAt i = getD rowLines i (rowLine [] 0 0 anyNumber)
+rowLineAt i = getD rowLines i (rowLine [] 0 0 (λ rs vs. anyNumber))
 
 -- the row that its numbers make
 abbrev pub rowOf : List ℕ → Row
@@ -130,7 +134,7 @@ abbrev pub fault : Stage → ℕ → ℕ
 fault at-board v = 0
 fault (at-tasks b) v = 0
 fault (at-field n b rs vs) v = rowLineAt (length vs) .fault rs vs v
-fault (at-rank n b rs os) v = pick (hasTask v rs && not (isIn v os)) 0 impossible
+fault (at-rank n b rs os) v = newRank rs os v
 fault (at-end b rs os) v = 0
 
 -- what is to be read after a number

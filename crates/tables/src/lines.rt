@@ -1,7 +1,20 @@
 // The line that is expected: its key, its range, and the test of its number beside the range.
+ghost use mathlib.Core.Path.{_≡_};
+ghost use Prim.Native.Nat.{_+_, _≤_, _<_};
+ghost use lib.ListN.{length};
+ghost use Rattle.grammars.specs.inside.Answers.{tested};
+ghost use Rattle.rows.specs.Rows.{maxTasks};
+ghost use Rattle.tables.specs.TableLines.{fieldCount, atMost, newTask, newRank};
+ghost use Rattle.tables.specs.inside.Numbers.{lineCount, rowStart, rowsIn, behind};
+ghost use Rattle.tables.specs.inside.Stands.{rowLineTested, lineHere, faultIn, Stands};
 use super::Table;
+use super::numbers::ALPHA;
+use super::numbers::BEST;
 use super::numbers::FIELDS;
 use super::numbers::HEAD;
+use super::numbers::PERIOD;
+use super::numbers::TASK;
+use super::numbers::WORST;
 use super::numbers::has_task;
 use super::numbers::is_in;
 use super::progress::Part;
@@ -21,6 +34,7 @@ const IMPOSSIBLE: u8 = 6;
 
 // A number past another is refused.
 fn at_most(limit: u64, answer: Line, line: u32) -> Line
+    ensures { λ r. ⌜ r ≡ tested (atMost limit) answer line ⌝ }
 {
     let Line::Number(value, _) = answer else {
         return answer;
@@ -33,6 +47,8 @@ fn at_most(limit: u64, answer: Line, line: u32) -> Line
 
 // A task of one of the first rows is refused.
 fn new_task(numbers: &[u64], count: usize, answer: Line, line: u32) -> Line
+    requires { ⌜ (count ≤ maxTasks) × (rowStart count ≤ length (now numbers)) ⌝ }
+    ensures { λ r. ⌜ r ≡ tested (newTask (rowsIn count (now (numbers .entry)))) answer line ⌝ }
 {
     let Line::Number(value, _) = answer else {
         return answer;
@@ -44,13 +60,17 @@ fn new_task(numbers: &[u64], count: usize, answer: Line, line: u32) -> Line
 }
 
 // A rank is to name one of the rows, and none of the ranks before it.
-fn new_rank(numbers: &[u64], count: usize, answer: Line, line: u32) -> Line
+fn new_rank(numbers: &[u64], count: usize, named: usize, answer: Line, line: u32) -> Line
+    requires { ⌜ (count ≤ maxTasks) × (rowStart count + named ≤ length (now numbers)) ⌝ }
+    ensures { λ r. ⌜ r ≡ tested (newRank (rowsIn count (now (numbers .entry)))
+        (behind count named (now (numbers .entry)))) answer line ⌝ }
 {
     let Line::Number(value, _) = answer else {
         return answer;
     };
+    let start = HEAD + FIELDS * count;
     let known = has_task(numbers, count, value);
-    let again = is_in(numbers, HEAD + FIELDS * count, value);
+    let again = is_in(numbers, start, start + named, value);
     if known & !again {
         return answer;
     }
@@ -58,29 +78,42 @@ fn new_rank(numbers: &[u64], count: usize, answer: Line, line: u32) -> Line
 }
 
 // The line at a position within a row.
-fn row_line(text: &[u8], offset: usize, line: u32, count: usize, position: usize, numbers: &[u64]) -> Line
+fn row_line(
+    text: &[u8],
+    offset: usize,
+    line: u32,
+    count: usize,
+    position: usize,
+    numbers: &[u64],
+) -> Line
+    requires { ⌜ (position < fieldCount) × (count < maxTasks) × (length (now numbers) ≡ lineCount) ⌝ }
+    ensures { λ r. ⌜ r ≡ rowLineTested count position (now (numbers .entry)) (now (text .entry)) offset line ⌝ }
 {
+    let start = HEAD + FIELDS * count;
     match position {
-        0 => {
+        TASK => {
             let answer = line_at(text, offset, line, b"task=", Row::TASK_MIN, Row::TASK_MAX);
             new_task(numbers, count, answer, line)
         }
-        1 => line_at(text, offset, line, b"period=", Row::TICKS_MIN, Row::TICKS_MAX),
-        2 => {
+        PERIOD => line_at(text, offset, line, b"period=", Row::TICKS_MIN, Row::TICKS_MAX),
+        WORST => {
             let answer = line_at(text, offset, line, b"worst=", Row::TICKS_MIN, Row::TICKS_MAX);
-            at_most(numbers[HEAD + FIELDS * count + 1], answer, line)
+            at_most(numbers[start + PERIOD], answer, line)
         }
-        3 => {
+        BEST => {
             let answer = line_at(text, offset, line, b"best=", Row::TICKS_MIN, Row::TICKS_MAX);
-            at_most(numbers[HEAD + FIELDS * count + 2], answer, line)
+            at_most(numbers[start + WORST], answer, line)
         }
-        4 => line_at(text, offset, line, b"alpha=", Row::ALPHA_MIN, Row::ALPHA_MAX),
+        ALPHA => line_at(text, offset, line, b"alpha=", Row::ALPHA_MIN, Row::ALPHA_MAX),
         _ => line_at(text, offset, line, b"beta=", Row::BETA_MIN, Row::BETA_MAX),
     }
 }
 
 // The line that is expected, at an offset.
 pub fn expected_line(text: &[u8], offset: usize, line: u32, stand: Stand, numbers: &[u64]) -> Line
+    requires { ⌜ Stands stand line (now numbers) ⌝ }
+    ensures { λ r. ⌜ r ≡ tested (faultIn (stand .part) stand (now (numbers .entry)))
+        (lineHere (stand .part) (stand .position) (now (text .entry)) offset line) line ⌝ }
 {
     let part = stand.part;
     match part {
@@ -103,7 +136,7 @@ pub fn expected_line(text: &[u8], offset: usize, line: u32, stand: Stand, number
         Part::Row => row_line(text, offset, line, stand.count, stand.position, numbers),
         Part::Rank => {
             let answer = line_at(text, offset, line, b"rank=", Row::TASK_MIN, Row::TASK_MAX);
-            new_rank(numbers, stand.count, answer, line)
+            new_rank(numbers, stand.count, stand.position, answer, line)
         }
         Part::End => end_at(text, offset, line),
     }

@@ -1,5 +1,14 @@
 // How far the reading of a table has come, and what a line makes of it.
+ghost use mathlib.Core.Path.{_≡_};
+ghost use Prim.Native.Nat.{_<_};
+ghost use Rattle.basics.specs.Basics.{pick};
+ghost use Rattle.rows.specs.Rows.{maxTasks};
+ghost use Rattle.tables.specs.TableLines.{fieldCount};
+ghost use Rattle.tables.specs.inside.Stands.{begun, ranksNext, rowsNext, afterField, standAfter, Counted};
+ghost use Rattle.tables.specs.inside.Stands.{endedBy, Stands, TakesLine};
+use super::lines::expected_line;
 use super::numbers::FIELDS;
+use super::numbers::LINES;
 use text::Line;
 
 // The line that is expected next: one of the head, of a row, a rank, or none.
@@ -31,8 +40,31 @@ pub struct Progress {
     pub offset: usize,
 }
 
+impl Progress {
+    // Before the first line.
+    pub fn start(ranked: bool) -> Progress
+        ensures { λ r. ⌜ r ≡ begun ranked ⌝ }
+    {
+        let stand = Stand {
+            part: Part::Board,
+            ranked,
+            count: 0,
+            left: 0,
+            position: 0,
+        };
+        Progress {
+            stand,
+            ended: false,
+            refused: 0,
+            line: 1,
+            offset: 0,
+        }
+    }
+}
+
 // Where so many rank lines are left.
 fn ranks_next(ranked: bool, count: usize, named: usize, left: usize) -> Stand
+    ensures { λ r. ⌜ r ≡ ranksNext ranked count named left ⌝ }
 {
     if left == 0 {
         return Stand {
@@ -54,12 +86,14 @@ fn ranks_next(ranked: bool, count: usize, named: usize, left: usize) -> Stand
 
 // How many rank lines are expected.
 fn rank_lines(ranked: bool, tasks: usize) -> usize
+    ensures { λ r. ⌜ r ≡ pick ranked tasks 0 ⌝ }
 {
     if ranked { tasks } else { 0 }
 }
 
 // Where so many rows are left.
 fn rows_next(ranked: bool, count: usize, left: usize) -> Stand
+    ensures { λ r. ⌜ r ≡ rowsNext ranked count left ⌝ }
 {
     if left == 0 {
         return ranks_next(ranked, count, 0, rank_lines(ranked, count));
@@ -74,20 +108,10 @@ fn rows_next(ranked: bool, count: usize, left: usize) -> Stand
 }
 
 impl Stand {
-    // Before the first line.
-    pub fn start(ranked: bool) -> Stand
-    {
-        Stand {
-            part: Part::Board,
-            ranked,
-            count: 0,
-            left: 0,
-            position: 0,
-        }
-    }
-
     // Behind one more number of a row.
     fn after_field(self) -> Stand
+        requires { ⌜ (self .position < fieldCount) × (self .count < maxTasks) ⌝ }
+        ensures { λ r. ⌜ r ≡ afterField self ⌝ }
     {
         let more = self.position + 1;
         if more == FIELDS {
@@ -104,6 +128,8 @@ impl Stand {
 
     // Behind a number.
     fn after(self, value: u64) -> Stand
+        requires { ⌜ Counted (self .part) self ⌝ }
+        ensures { λ r. ⌜ r ≡ standAfter (self .part) self value ⌝ }
     {
         let part = self.part;
         match part {
@@ -120,17 +146,24 @@ impl Stand {
             Part::End => self,
         }
     }
+}
 
-    // The reading ends here, with a refusal or with none.
-    fn ended(self, refused: u8, line: u32) -> Progress
-    {
-        Progress {
-            stand: self,
-            ended: true,
-            refused,
-            line,
-            offset: 0,
-        }
+// The reading ends here: with no number, a line is the end of the text, or refused.
+fn ended_by(stand: Stand, answer: Line) -> Progress
+    ensures { λ r. ⌜ r ≡ endedBy stand answer ⌝ }
+{
+    let mut refused = 0;
+    let mut line = 0;
+    if let Line::Refused(number, place) = answer {
+        refused = number;
+        line = place;
+    }
+    Progress {
+        stand,
+        ended: true,
+        refused,
+        line,
+        offset: 0,
     }
 }
 
@@ -139,30 +172,25 @@ pub fn take_line(
     text: &[u8],
     offset: usize,
     line: u32,
-    stand: Stand,
-    numbers: &mut [u64; super::LINES],
+    before: Progress,
+    numbers: &mut [u64; LINES],
 ) -> Progress
+    requires { ⌜ Stands (before .stand) line (now numbers) ⌝ }
+    ensures { λ p. ⌜ TakesLine before (now (text .entry)) offset line (now (numbers .entry)) p (now (numbers .exit)) ⌝ }
 {
-    let at = line as usize - 1;
-    let answer = super::lines::expected_line(text, offset, line, stand, &numbers[..at]);
+    let stand = before.stand;
+    let answer = expected_line(text, offset, line, stand, numbers);
     let Line::Number(value, next) = answer else {
         return ended_by(stand, answer);
     };
+    let at = line as usize - 1;
     numbers[at] = value;
+    let past = stand.after(value);
     Progress {
-        stand: stand.after(value),
+        stand: past,
         ended: false,
         refused: 0,
         line: line + 1,
         offset: next,
-    }
-}
-
-fn ended_by(stand: Stand, answer: Line) -> Progress
-{
-    match answer {
-        Line::Number(_, _) => stand.ended(0, 0),
-        Line::End => stand.ended(0, 0),
-        Line::Refused(refused, line) => stand.ended(refused, line),
     }
 }

@@ -1,7 +1,12 @@
 // The reader walks the lent text line by line and remembers how far it has come.
+ghost use mathlib.Core.Path.{_≡_};
+ghost use lib.ListN.{length};
+ghost use Rattle.grammars.specs.Grammars.{read};
+ghost use Rattle.tables.specs.TableLines.{table, at-board};
+ghost use Rattle.tables.specs.inside.Numbers.{lineCount};
+ghost use Rattle.tables.specs.inside.Stands.{Ends};
 use super::numbers::LINES;
 use super::progress::Progress;
-use super::progress::Stand;
 use super::progress::take_line;
 
 // The text, how far the reader has come in it, and the number of the line that begins there.
@@ -13,21 +18,17 @@ pub struct Reader<'a> {
 
 // Reads a table line by line, each number behind those before it.
 pub fn read_lines(text: &[u8], ranked: bool, numbers: &mut [u64; LINES]) -> Progress
+    requires { ⌜ length (now numbers) ≡ lineCount ⌝ }
+    ensures { λ p. ⌜ Ends (read (table ranked) at-board (now (text .entry))) p (now (numbers .exit)) ⌝ }
 {
     let mut r = Reader {
         text,
         offset: 0,
         line: 1,
     };
-    let mut p = Progress {
-        stand: Stand::start(ranked),
-        ended: false,
-        refused: 0,
-        line: 1,
-        offset: 0,
-    };
+    let mut p = Progress::start(ranked);
     while !p.ended {
-        p = take_line(r.text, r.offset, r.line, p.stand, numbers);
+        p = take_line(r.text, r.offset, r.line, p, numbers);
         r.offset = p.offset;
         r.line = p.line;
     }

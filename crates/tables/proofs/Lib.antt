@@ -1,0 +1,6 @@
+-- Laws of tables as text, and of the reader's way through one.
+pub mod Keys
+pub mod RowNumbers
+pub mod Stands
+pub mod Steps
+pub mod Turns

@@ -1,0 +1,111 @@
+-- A line that the code takes in is the step of the text's reading: its number leads to the next stage and stands behind
+-- those before it, and any other answer ends the reading.
+use mathlib.Core.Path.{_≡_, refl, sym, ap, ap₂, _∙_, subst}
+use mathlib.Core.Bool.{false}
+use mathlib.Core.List.{List, [], _∷_, _++_}
+use Prim.Native.Nat.{ℕ, suc, _+_, _-_, _≤_}
+use native.Mathlib.Numerals.{add-one}
+use native.Mathlib.Omega.{arith}
+use lib.ListN.{length, take, set, length-set}
+use lib.Seq.{length-take-le, take-suc-set}
+use types.Run.{miss}
+use Rattle.text.specs.declared.Line.{Line}
+use Rattle.text.specs.declared.Line.the-variants as L
+use Rattle.grammars.specs.Grammars.{step}
+use Rattle.grammars.specs.inside.Answers.{tested, onAnswer}
+use Rattle.grammars.proofs.Answers.{NoNumber}
+use Rattle.grammars.proofs.Loops.{refused-here}
+use Rattle.tables.specs.declared.progress.Part.{Part}
+use Rattle.tables.specs.declared.progress.Part.the-variants as P
+use Rattle.tables.specs.declared.progress.Stand.{Stand}
+use Rattle.tables.specs.declared.progress.Progress.{Progress}
+use Rattle.tables.specs.TableLines.{Stage, after, table}
+use Rattle.tables.specs.inside.Numbers.{lineCount}
+use Rattle.tables.specs.inside.Stands.{lineHere, faultIn, standAfter, readBy, Counted, stageIn, stageOf}
+use Rattle.tables.specs.inside.Stands.{Stands, progress, endedBy, Takes, TakesLine}
+use Rattle.tables.proofs.Keys.{table-plain}
+use Rattle.tables.proofs.Stands.{step-shown, Follows, stand-follows, answer-taken}
+
+-- ---- there is a line for each number, and one more where nothing is left
+few-read : (p : Part) (s : Stand) → Counted p s → readBy p s ≤ lineCount
+few-read P.Board s h = omega arith
+few-read P.Tasks s h = omega arith
+few-read P.Row s h = omega (arith, h .0, h .1)
+few-read P.Rank s h = omega (arith, h .0, h .1)
+few-read P.End s h = omega (arith, h .0, h .1)
+
+pub line-small : (s : Stand) (k : ℕ) (ns : List ℕ) → Stands s k ns → (1 ≤ k) × (k ≤ suc lineCount)
+line-small s k ns h =
+    let few = few-read (s .part) s (h .counted) in (omega (arith, h .line), omega (arith, h .line))
+
+module _ (p : Progress) (text : List ℕ) (at k : ℕ) (ns : List ℕ) (h : Stands (p .stand) k ns) (l : Line)
+    (is : l ≡ tested (faultIn (p .stand .part) (p .stand) ns) (lineHere (p .stand .part) (p .stand .position) text at k) k)
+    where
+  abbrev s : Stand
+  s = p .stand
+
+  abbrev here : Stage
+  here = stageOf s ns
+
+  step-is : (x : Line) → l ≡ x → step (table (s .ranked)) text here at k ≡ onAnswer (table (s .ranked)) here k x
+  step-is x e =
+      step-shown (s .ranked) text at k s ns (h .long) (s .part) (h .counted)
+      ∙ ap (onAnswer (table (s .ranked)) here k) (sym is ∙ e)
+
+  -- ---- no number: the reading ends
+  ends-so : (x : Line) → l ≡ x → NoNumber x → TakesLine p text at k ns (endedBy s x) ns
+  ends-so (L.Number v next) e none = absurd (miss (1 ∷ 2 ∷ []) 0 tt none)
+  ends-so L.End e none =
+      subst (λ w. Takes (s .ranked) w (endedBy s L.End) ns) (sym (step-is L.End e)) (refl, (refl, refl, h .counted))
+  ends-so (L.Refused n j) e none =
+      let some =
+      refused-here (table (s .ranked)) (table-plain (s .ranked)) text here at k n j (step-is (L.Refused n j) e) .0 in
+      subst (λ w. Takes (s .ranked) w (endedBy s (L.Refused n j)) ns) (sym (step-is (L.Refused n j) e))
+      (refl, (refl, refl, λ z. omega arith))
+
+  pub takes-end : NoNumber l → (q : Progress) → q ≡ endedBy s l → TakesLine p text at k ns q ns
+  takes-end none q e = subst (λ x. TakesLine p text at k ns x ns) (sym e) (ends-so l refl none)
+
+  -- ---- a number: the stage after it
+  module _ (v next : ℕ) (e : l ≡ L.Number v next) where
+    abbrev ws : List ℕ
+    ws = take (readBy (s .part) s) ns
+
+    abbrev there : Stand
+    there = standAfter (s .part) s v
+
+    read-so-far : length ws ≡ readBy (s .part) s
+    read-so-far = length-take-le (readBy (s .part) s) ns (omega (arith, h .long, few-read (s .part) s (h .counted)))
+
+    follows : Follows (s .ranked) (after (s .ranked) here v) (suc (readBy (s .part) s)) there (ws ++ (v ∷ []))
+    follows =
+        stand-follows (s .part) (s .ranked) (s .count) (s .left) (s .position) ws v read-so-far (h .counted)
+        (answer-taken (s .part) (s .position) (faultIn (s .part) s ns) text at k v next (sym is ∙ e))
+
+    -- there is room for it
+    pub number-room : k ≤ lineCount
+    number-room = omega (arith, h .line, few-read (there .part) there (follows .counted), follows .read-is)
+
+    put-behind : take (readBy (there .part) there) (set ns (k - 1) v) ≡ ws ++ (v ∷ [])
+    put-behind =
+        let before : k - 1 ≡ readBy (s .part) s = omega (arith, h .line) in
+        ap₂ (λ m i. take m (set ns i v)) (follows .read-is) before
+        ∙ take-suc-set ns (readBy (s .part) s) v (omega (arith, h .line, h .long, number-room))
+
+    pub takes-number : (t : Stand) → t ≡ there
+        → TakesLine p text at k ns (progress t false 0 (k + 1) next) (set ns (k - 1) v)
+    takes-number t same =
+        subst (λ x. TakesLine p text at k ns (progress x false 0 (k + 1) next) (set ns (k - 1) v)) (sym same)
+        (subst (λ x. Takes (s .ranked) x (progress there false 0 (k + 1) next) (set ns (k - 1) v))
+        (sym (step-is (L.Number v next) e))
+        (refl, record {
+          asked = follows .asked;
+          shows = ap (stageIn (there .part) there) put-behind ∙ follows .shows;
+          stands = record {
+            long = length-set ns (k - 1) v ∙ h .long;
+            line = omega (arith, h .line, follows .read-is);
+            counted = follows .counted;
+          };
+          line = add-one k;
+          offset = refl;
+        }))

@@ -1,0 +1,69 @@
+-- `tables::progress::take_line` meets its contract: the line's answer is the step of the text's reading.
+use native.Mathlib.Omega.{arith}
+use borrow.Author.Needs.{needs}
+use Rattle.tables.proofs.Steps.{takes-end, number-room, takes-number, line-small}
+use Rattle.tables.proofs.progress.take_line.Statement.{statement}
+use Rattle.tables.proofs.progress.take_line.Tie as tie
+
+expected-line-requires : tie.Need-expected-line-requires
+expected-line-requires c κs = search needs
+
+enum-known-answer : tie.Need-enum-known-answer
+enum-known-answer c = search needs
+
+ended-by-requires : tie.Need-ended-by-requires
+ended-by-requires c κs = search needs
+
+returns : tie.Need-returns
+returns c =
+    let m = c .before in
+    let s = m .before .before .before .before .before .before in
+    let a = s .args in
+    takes-end (a .before) (a .text .now) (a .offset) (a .line) (a .numbers .now) (s .pre) (m .before .expected-line .result)
+    (m .before .expected-line .ensures) (m .match .keys2) (c .ended-by .result) (c .ended-by .ensures)
+
+sub-at : tie.Need-sub-at
+sub-at c = search needs
+
+mul-numbers : tie.Need-mul-numbers
+mul-numbers c = search needs
+
+element-write-numbers : tie.Need-element-write-numbers
+element-write-numbers c =
+    let s = c .before .before .before .before .before .before .before .before in
+    let a = s .args in
+    let d = c .before .answer .given in
+    omega (arith, s .pre .line, number-room (a .before) (a .text .now) (a .offset) (a .line) (a .numbers .now) (s .pre) _
+    (c .before .before .before .expected-line .ensures) (d .0 .0) (d .0 .1 .0) (d .1))
+
+after-requires : tie.Need-after-requires
+after-requires c κs = search needs
+
+add-t17 : tie.Need-add-t17
+add-t17 c =
+    let s = c .before .before .before .before .before .before .before .before .before in
+    omega (arith, line-small (s .args .before .stand) (s .args .line) (s .args .numbers .now) (s .pre))
+
+returns-2 : tie.Need-returns-2
+returns-2 c =
+    let s = c .before .before .before .before .before .before .before .before .before in
+    let a = s .args in
+    let d = c .before .before .answer .given in
+    takes-number (a .before) (a .text .now) (a .offset) (a .line) (a .numbers .now) (s .pre) _
+    (c .before .before .before .before .expected-line .ensures) (d .0 .0) (d .0 .1 .0) (d .1) (c .after .result)
+    (c .after .ensures)
+
+pub take-line-spec : {M : Type 1} → statement M
+take-line-spec =
+    tie.close
+    (tie.spec
+    expected-line-requires
+    enum-known-answer
+    ended-by-requires
+    returns
+    sub-at
+    mul-numbers
+    element-write-numbers
+    after-requires
+    add-t17
+    returns-2)

@@ -1,0 +1,143 @@
+-- Promised between functions: where in a table the code stands, and what that says of the text's reading.
+use mathlib.Core.Path.{_≡_}
+use mathlib.Core.Bool.{Bool, true, false}
+use mathlib.Core.List.{List}
+use Prim.Native.Nat.{ℕ, zero, suc, _+_, _*_, _≤_, _<_}
+use lib.Dec.{eqb}
+use lib.ListN.{length, take, drop}
+use Rattle.basics.specs.Basics.{pick}
+use Rattle.text.specs.Text.{bytes}
+use Rattle.text.specs.Lines.{lineAt, endAt, refusal, place}
+use Rattle.text.specs.declared.Line.{Line}
+use Rattle.grammars.specs.inside.Answers.{tested}
+use Rattle.grammars.specs.Grammars.{Verdict, accepted, refused, Step, goes-on, stops, step}
+use Rattle.rows.specs.Rows.{minTask, maxTask, minTasks, maxTasks}
+use Rattle.tables.specs.declared.progress.Part.{Part}
+use Rattle.tables.specs.declared.progress.Part.the-variants as P
+use Rattle.tables.specs.declared.progress.Stand.{Stand}
+use Rattle.tables.specs.declared.progress.Progress.{Progress}
+use Rattle.tables.specs.TableLines.{minBoard, maxBoard, fieldCount, newRank, rowLineAt}
+use Rattle.tables.specs.TableLines.{Stage, at-board, at-tasks, at-field, at-rank, at-end, table}
+use Rattle.tables.specs.inside.Numbers.{lineCount, rowStart, boardIn, rowsIn, behind}
+
+-- ---- the line that is expected
+abbrev pub fieldLine : ℕ → List ℕ → ℕ → ℕ → Line
+fieldLine i text at k = let l = rowLineAt i in lineAt (l .key) (l .low) (l .high) text at k
+
+-- with the test of its number, by the numbers so far
+abbrev pub rowLineTested : ℕ → ℕ → List ℕ → List ℕ → ℕ → ℕ → Line
+rowLineTested n i ns text at k = tested (rowLineAt i .fault (rowsIn n ns) (behind n i ns)) (fieldLine i text at k) k
+
+abbrev pub lineHere : Part → ℕ → List ℕ → ℕ → ℕ → Line
+lineHere P.Board i text at k = lineAt (bytes "board=") minBoard maxBoard text at k
+lineHere P.Tasks i text at k = lineAt (bytes "tasks=") minTasks maxTasks text at k
+lineHere P.Row i text at k = fieldLine i text at k
+lineHere P.Rank i text at k = lineAt (bytes "rank=") minTask maxTask text at k
+lineHere P.End i text at k = endAt text at k
+
+-- the refusal of its number, 0 for none, by the numbers so far
+abbrev pub faultIn : Part → Stand → List ℕ → ℕ → ℕ
+faultIn P.Board s ns v = 0
+faultIn P.Tasks s ns v = 0
+faultIn P.Row s ns v = rowLineAt (s .position) .fault (rowsIn (s .count) ns) (behind (s .count) (s .position) ns) v
+faultIn P.Rank s ns v = newRank (rowsIn (s .count) ns) (behind (s .count) (s .position) ns) v
+faultIn P.End s ns v = 0
+
+-- ---- where the code stands
+abbrev pub stand : Part → Bool → ℕ → ℕ → ℕ → Stand
+stand part ranked count left position =
+    record { part = part; ranked = ranked; count = count; left = left; position = position }
+
+abbrev pub start : Bool → Stand
+start ranked = stand P.Board ranked 0 0 0
+
+-- where n rank lines are left, and where n rows are
+abbrev pub ranksNext : Bool → ℕ → ℕ → ℕ → Stand
+ranksNext ranked count named zero = stand P.End ranked count 0 named
+ranksNext ranked count named (suc n) = stand P.Rank ranked count n named
+
+abbrev pub rowsNext : Bool → ℕ → ℕ → Stand
+rowsNext ranked count zero = ranksNext ranked count 0 (pick ranked count 0)
+rowsNext ranked count (suc n) = stand P.Row ranked count n 0
+
+abbrev pub afterField : Stand → Stand
+afterField s =
+    pick (eqb (suc (s .position)) fieldCount)
+    (rowsNext (s .ranked) (suc (s .count)) (s .left))
+    (stand P.Row (s .ranked) (s .count) (s .left) (suc (s .position)))
+
+abbrev pub standAfter : Part → Stand → ℕ → Stand
+standAfter P.Board s v = stand P.Tasks (s .ranked) 0 0 0
+standAfter P.Tasks s v = rowsNext (s .ranked) 0 v
+standAfter P.Row s v = afterField s
+standAfter P.Rank s v = ranksNext (s .ranked) (s .count) (suc (s .position)) (s .left)
+standAfter P.End s v = s
+
+-- how many numbers have been read, and what is known of the counts
+abbrev pub readBy : Part → Stand → ℕ
+readBy P.Board s = 0
+readBy P.Tasks s = 1
+readBy P.Row s = rowStart (s .count) + s .position
+readBy P.Rank s = rowStart (s .count) + s .position
+readBy P.End s = rowStart (s .count) + s .position
+
+abbrev pub Counted : Part → Stand → Type 0
+Counted P.Board s = s .position ≡ 0
+Counted P.Tasks s = s .position ≡ 0
+Counted P.Row s = (s .position < fieldCount) × (s .count + suc (s .left) ≤ maxTasks)
+Counted P.Rank s = (s .position + suc (s .left) ≡ s .count) × (s .count ≤ maxTasks)
+Counted P.End s = (s .position ≤ s .count) × (s .count ≤ maxTasks)
+
+-- ---- what it shows of the text's reading, with the numbers so far
+abbrev pub stageIn : Part → Stand → List ℕ → Stage
+stageIn P.Board s ws = at-board
+stageIn P.Tasks s ws = at-tasks (boardIn ws)
+stageIn P.Row s ws = at-field (s .left) (boardIn ws) (rowsIn (s .count) ws) (drop (rowStart (s .count)) ws)
+stageIn P.Rank s ws = at-rank (s .left) (boardIn ws) (rowsIn (s .count) ws) (drop (rowStart (s .count)) ws)
+stageIn P.End s ws = at-end (boardIn ws) (rowsIn (s .count) ws) (drop (rowStart (s .count)) ws)
+
+abbrev pub soFar : Stand → List ℕ → List ℕ
+soFar s ns = take (readBy (s .part) s) ns
+
+abbrev pub stageOf : Stand → List ℕ → Stage
+stageOf s ns = stageIn (s .part) s (soFar s ns)
+
+-- a stand before line k, with a number for each line
+pub record Stands (s : Stand) (k : ℕ) (ns : List ℕ) : Type 0 where
+  pub long : length ns ≡ lineCount
+  pub line : k ≡ suc (readBy (s .part) s)
+  pub counted : Counted (s .part) s
+
+-- ---- a step taken
+abbrev pub progress : Stand → Bool → ℕ → ℕ → ℕ → Progress
+progress s ended number line offset =
+    record { stand = s; ended = ended; refused = number; line = line; offset = offset }
+
+-- before the first line
+abbrev pub begun : Bool → Progress
+begun ranked = progress (start ranked) false 0 1 0
+
+abbrev pub endedBy : Stand → Line → Progress
+endedBy s l = progress s true (refusal l) (place l) 0
+
+-- the reading ended: all is read, or it is refused
+abbrev pub Ends : Verdict Stage → Progress → List ℕ → Type 0
+Ends (accepted s) p ns = (p .refused ≡ 0) × (stageOf (p .stand) ns ≡ s) × Counted (p .stand .part) (p .stand)
+Ends (refused n k) p ns = (p .refused ≡ n) × (p .line ≡ k) × (p .refused ≡ 0 → ⊥)
+
+pub record Goes (ranked : Bool) (s : Stage) (next k : ℕ) (p : Progress) (ns : List ℕ) : Type 0 where
+  pub asked : p .stand .ranked ≡ ranked
+  pub shows : stageOf (p .stand) ns ≡ s
+  pub stands : Stands (p .stand) k ns
+  pub line : p .line ≡ k
+  pub offset : p .offset ≡ next
+
+-- what a line makes of it
+abbrev pub Takes : Bool → Step Stage → Progress → List ℕ → Type 0
+Takes ranked (goes-on s next k) p ns = (p .ended ≡ false) × Goes ranked s next k p ns
+Takes ranked (stops v) p ns = (p .ended ≡ true) × Ends v p ns
+
+abbrev pub TakesLine : Progress → List ℕ → ℕ → ℕ → List ℕ → Progress → List ℕ → Type 0
+TakesLine p text at k ns q ms =
+    let ranked = p .stand .ranked in
+    Takes ranked (step (table ranked) text (stageOf (p .stand) ns) at k) q ms
