@@ -1,6 +1,9 @@
 -- Laws of tables as text, and of the reader's way through one.
 pub mod Keys
+pub mod Soundness
+pub mod Readings
 pub mod RowNumbers
 pub mod Stands
 pub mod Steps
 pub mod Turns
+pub mod Tables

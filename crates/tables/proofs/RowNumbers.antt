@@ -21,16 +21,28 @@ use Rattle.tables.specs.inside.Numbers.{headCount, rowStart, rowsOf, row
 -- ---- a row by its numbers
 row-same : (xs ys : List ℕ) → ((i : ℕ) → i < fieldCount → getD xs i 0 ≡ getD ys i 0) → rowOf xs ≡ rowOf ys
 row-same xs ys h =
-    rw (h taskAt (omega arith), h periodAt (omega arith), h worstAt (omega arith), h bestAt (omega arith),
-    h alphaAt (omega arith), h betaAt (omega arith))
+    rw (
+      h taskAt (omega arith),
+      h periodAt (omega arith),
+      h worstAt (omega arith),
+      h bestAt (omega arith),
+      h alphaAt (omega arith),
+      h betaAt (omega arith),
+    )
 
 -- the row whose numbers begin at an index
 pub row-from : (ns : List ℕ) (at : ℕ) → rowOf (drop at ns)
     ≡ row (getD ns (at + taskAt) 0) (getD ns (at + periodAt) 0) (getD ns (at + worstAt) 0) (getD ns (at + bestAt) 0)
     (getD ns (at + alphaAt) 0) (getD ns (at + betaAt) 0)
 row-from ns at =
-    rw (getD-drop at ns taskAt 0, getD-drop at ns periodAt 0, getD-drop at ns worstAt 0, getD-drop at ns bestAt 0,
-    getD-drop at ns alphaAt 0, getD-drop at ns betaAt 0)
+    rw (
+      getD-drop at ns taskAt 0,
+      getD-drop at ns periodAt 0,
+      getD-drop at ns worstAt 0,
+      getD-drop at ns bestAt 0,
+      getD-drop at ns alphaAt 0,
+      getD-drop at ns betaAt 0,
+    )
 
 -- ---- rows from their first number on
 pub rows-length : (n : ℕ) (ws : List ℕ) → length (rowsOf n ws) ≡ n

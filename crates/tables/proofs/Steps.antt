@@ -40,72 +40,74 @@ line-small s k ns h =
 
 module _ (p : Progress) (text : List ℕ) (at k : ℕ) (ns : List ℕ) (h : Stands (p .stand) k ns) (l : Line)
     (is : l ≡ tested (faultIn (p .stand .part) (p .stand) ns) (lineHere (p .stand .part) (p .stand .position) text at k) k)
-    where
-  abbrev s : Stand
-  s = p .stand
+  where
+    abbrev s : Stand
+    s = p .stand
 
-  abbrev here : Stage
-  here = stageOf s ns
+    abbrev here : Stage
+    here = stageOf s ns
 
-  step-is : (x : Line) → l ≡ x → step (table (s .ranked)) text here at k ≡ onAnswer (table (s .ranked)) here k x
-  step-is x e =
-      step-shown (s .ranked) text at k s ns (h .long) (s .part) (h .counted)
-      ∙ ap (onAnswer (table (s .ranked)) here k) (sym is ∙ e)
+    step-is : (x : Line) → l ≡ x → step (table (s .ranked)) text here at k ≡ onAnswer (table (s .ranked)) here k x
+    step-is x e =
+        step-shown (s .ranked) text at k s ns (h .long) (s .part) (h .counted)
+        ∙ ap (onAnswer (table (s .ranked)) here k) (sym is ∙ e)
 
-  -- ---- no number: the reading ends
-  ends-so : (x : Line) → l ≡ x → NoNumber x → TakesLine p text at k ns (endedBy s x) ns
-  ends-so (L.Number v next) e none = absurd (miss (1 ∷ 2 ∷ []) 0 tt none)
-  ends-so L.End e none =
-      subst (λ w. Takes (s .ranked) w (endedBy s L.End) ns) (sym (step-is L.End e)) (refl, (refl, refl, h .counted))
-  ends-so (L.Refused n j) e none =
-      let some =
-      refused-here (table (s .ranked)) (table-plain (s .ranked)) text here at k n j (step-is (L.Refused n j) e) .0 in
-      subst (λ w. Takes (s .ranked) w (endedBy s (L.Refused n j)) ns) (sym (step-is (L.Refused n j) e))
-      (refl, (refl, refl, λ z. omega arith))
+    -- ---- no number: the reading ends
+    ends-so : (x : Line) → l ≡ x → NoNumber x → TakesLine p text at k ns (endedBy s x) ns
+    ends-so (L.Number v next) e none = absurd (miss (1 ∷ 2 ∷ []) 0 tt none)
+    ends-so L.End e none =
+        subst (λ w. Takes (s .ranked) w (endedBy s L.End) ns) (sym (step-is L.End e)) (refl, (refl, refl, h .counted, h .long))
+    ends-so (L.Refused n j) e none =
+        let some =
+        refused-here (table (s .ranked)) (table-plain (s .ranked)) text here at k n j (step-is (L.Refused n j) e) .0 in
+        subst (λ w. Takes (s .ranked) w (endedBy s (L.Refused n j)) ns) (sym (step-is (L.Refused n j) e))
+        (refl, (refl, refl, λ z. omega arith))
 
-  pub takes-end : NoNumber l → (q : Progress) → q ≡ endedBy s l → TakesLine p text at k ns q ns
-  takes-end none q e = subst (λ x. TakesLine p text at k ns x ns) (sym e) (ends-so l refl none)
+    pub takes-end : NoNumber l → (q : Progress) → q ≡ endedBy s l → TakesLine p text at k ns q ns
+    takes-end none q e = subst (λ x. TakesLine p text at k ns x ns) (sym e) (ends-so l refl none)
 
-  -- ---- a number: the stage after it
-  module _ (v next : ℕ) (e : l ≡ L.Number v next) where
-    abbrev ws : List ℕ
-    ws = take (readBy (s .part) s) ns
+    -- ---- a number: the stage after it
+    module _ (v next : ℕ) (e : l ≡ L.Number v next) where
+      abbrev ws : List ℕ
+      ws = take (readBy (s .part) s) ns
 
-    abbrev there : Stand
-    there = standAfter (s .part) s v
+      abbrev there : Stand
+      there = standAfter (s .part) s v
 
-    read-so-far : length ws ≡ readBy (s .part) s
-    read-so-far = length-take-le (readBy (s .part) s) ns (omega (arith, h .long, few-read (s .part) s (h .counted)))
+      read-so-far : length ws ≡ readBy (s .part) s
+      read-so-far = length-take-le (readBy (s .part) s) ns (omega (arith, h .long, few-read (s .part) s (h .counted)))
 
-    follows : Follows (s .ranked) (after (s .ranked) here v) (suc (readBy (s .part) s)) there (ws ++ (v ∷ []))
-    follows =
-        stand-follows (s .part) (s .ranked) (s .count) (s .left) (s .position) ws v read-so-far (h .counted)
-        (answer-taken (s .part) (s .position) (faultIn (s .part) s ns) text at k v next (sym is ∙ e))
+      follows : Follows (s .ranked) (after (s .ranked) here v) (suc (readBy (s .part) s)) there (ws ++ (v ∷ []))
+      follows =
+          stand-follows (s .part) (s .ranked) (s .count) (s .left) (s .position) ws v read-so-far (h .counted)
+          (answer-taken (s .part) (s .position) (faultIn (s .part) s ns) text at k v next (sym is ∙ e))
 
-    -- there is room for it
-    pub number-room : k ≤ lineCount
-    number-room = omega (arith, h .line, few-read (there .part) there (follows .counted), follows .read-is)
+      -- there is room for it
+      pub number-room : k ≤ lineCount
+      number-room = omega (arith, h .line, few-read (there .part) there (follows .counted), follows .read-is)
 
-    put-behind : take (readBy (there .part) there) (set ns (k - 1) v) ≡ ws ++ (v ∷ [])
-    put-behind =
-        let before : k - 1 ≡ readBy (s .part) s = omega (arith, h .line) in
-        ap₂ (λ m i. take m (set ns i v)) (follows .read-is) before
-        ∙ take-suc-set ns (readBy (s .part) s) v (omega (arith, h .line, h .long, number-room))
+      put-behind : take (readBy (there .part) there) (set ns (k - 1) v) ≡ ws ++ (v ∷ [])
+      put-behind =
+          let before : k - 1 ≡ readBy (s .part) s = omega (arith, h .line) in
+          ap₂ (λ m i. take m (set ns i v)) (follows .read-is) before
+          ∙ take-suc-set ns (readBy (s .part) s) v (omega (arith, h .line, h .long, number-room))
 
-    pub takes-number : (t : Stand) → t ≡ there
-        → TakesLine p text at k ns (progress t false 0 (k + 1) next) (set ns (k - 1) v)
-    takes-number t same =
-        subst (λ x. TakesLine p text at k ns (progress x false 0 (k + 1) next) (set ns (k - 1) v)) (sym same)
-        (subst (λ x. Takes (s .ranked) x (progress there false 0 (k + 1) next) (set ns (k - 1) v))
-        (sym (step-is (L.Number v next) e))
-        (refl, record {
-          asked = follows .asked;
-          shows = ap (stageIn (there .part) there) put-behind ∙ follows .shows;
-          stands = record {
-            long = length-set ns (k - 1) v ∙ h .long;
-            line = omega (arith, h .line, follows .read-is);
-            counted = follows .counted;
-          };
-          line = add-one k;
-          offset = refl;
-        }))
+      pub takes-number : (t : Stand) → t ≡ there
+          → TakesLine p text at k ns (progress t false 0 (k + 1) next) (set ns (k - 1) v)
+      takes-number t same =
+          subst (λ x. TakesLine p text at k ns (progress x false 0 (k + 1) next) (set ns (k - 1) v)) (sym same)
+          (subst (λ x. Takes (s .ranked) x (progress there false 0 (k + 1) next) (set ns (k - 1) v))
+          (sym (step-is (L.Number v next) e)) (
+            refl,
+            record {
+              asked = follows .asked;
+              shows = ap (stageIn (there .part) there) put-behind ∙ follows .shows;
+              stands = record {
+                long = length-set ns (k - 1) v ∙ h .long;
+                line = omega (arith, h .line, follows .read-is);
+                counted = follows .counted;
+              };
+              line = add-one k;
+              offset = refl;
+            },
+          ))

@@ -38,9 +38,9 @@ impl Table {
 // refusal's number and its line.
 pub struct Reading {
     pub table: Table,
-    pub order: Order,
-    pub line: u32,
     pub refused: u8,
+    pub line: u32,
+    pub order: Order,
 }
 
 impl Reading {

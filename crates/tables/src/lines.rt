@@ -95,16 +95,37 @@ fn row_line(
             let answer = line_at(text, offset, line, b"task=", Row::TASK_MIN, Row::TASK_MAX);
             new_task(numbers, count, answer, line)
         }
-        PERIOD => line_at(text, offset, line, b"period=", Row::TICKS_MIN, Row::TICKS_MAX),
+        PERIOD => line_at(
+            text,
+            offset,
+            line,
+            b"period=",
+            Row::TICKS_MIN,
+            Row::TICKS_MAX,
+        ),
         WORST => {
-            let answer = line_at(text, offset, line, b"worst=", Row::TICKS_MIN, Row::TICKS_MAX);
+            let answer = line_at(
+                text,
+                offset,
+                line,
+                b"worst=",
+                Row::TICKS_MIN,
+                Row::TICKS_MAX,
+            );
             at_most(numbers[start + PERIOD], answer, line)
         }
         BEST => {
             let answer = line_at(text, offset, line, b"best=", Row::TICKS_MIN, Row::TICKS_MAX);
             at_most(numbers[start + WORST], answer, line)
         }
-        ALPHA => line_at(text, offset, line, b"alpha=", Row::ALPHA_MIN, Row::ALPHA_MAX),
+        ALPHA => line_at(
+            text,
+            offset,
+            line,
+            b"alpha=",
+            Row::ALPHA_MIN,
+            Row::ALPHA_MAX,
+        ),
         _ => line_at(text, offset, line, b"beta=", Row::BETA_MIN, Row::BETA_MAX),
     }
 }

@@ -108,5 +108,8 @@ pub fn order_in(numbers: &[u64; LINES], count: usize, ranks: usize) -> Order
         tasks[i] = numbers[start + i] as u16;
         i += 1;
     }
-    Order { tasks, count: ranks }
+    Order {
+        tasks,
+        count: ranks,
+    }
 }

@@ -122,7 +122,8 @@ endedBy s l = progress s true (refusal l) (place l) 0
 
 -- the reading ended: all is read, or it is refused
 abbrev pub Ends : Verdict Stage → Progress → List ℕ → Type 0
-Ends (accepted s) p ns = (p .refused ≡ 0) × (stageOf (p .stand) ns ≡ s) × Counted (p .stand .part) (p .stand)
+Ends (accepted s) p ns =
+    (p .refused ≡ 0) × (stageOf (p .stand) ns ≡ s) × Counted (p .stand .part) (p .stand) × (length ns ≡ lineCount)
 Ends (refused n k) p ns = (p .refused ≡ n) × (p .line ≡ k) × (p .refused ≡ 0 → ⊥)
 
 pub record Goes (ranked : Bool) (s : Stage) (next k : ℕ) (p : Progress) (ns : List ℕ) : Type 0 where

@@ -43,8 +43,11 @@ cast-tasks c =
     let x = c .before .before .loop in
     let ns = s .args .numbers .now in
     let all = behind-length (s .args .count) (s .args .ranks) ns (omega (arith, s .pre .1)) in
-    omega (arith, s .pre .0 .2 (x .i) (omega (arith, all)),
-    behind-at (s .args .count) (s .args .ranks) (x .i) ns (omega arith))
+    omega (
+      arith,
+      s .pre .0 .2 (x .i) (omega (arith, all)),
+      behind-at (s .args .count) (s .args .ranks) (x .i) ns (omega arith),
+    )
 
 mul-tasks-2 : tie.Need-mul-tasks-2 Inv-loop μ-loop
 mul-tasks-2 c = omega arith

@@ -33,8 +33,12 @@ element-write-numbers c =
     let s = c .before .before .before .before .before .before .before .before in
     let a = s .args in
     let d = c .before .answer .given in
-    omega (arith, s .pre .line, number-room (a .before) (a .text .now) (a .offset) (a .line) (a .numbers .now) (s .pre) _
-    (c .before .before .before .expected-line .ensures) (d .0 .0) (d .0 .1 .0) (d .1))
+    omega (
+      arith,
+      s .pre .line,
+      number-room (a .before) (a .text .now) (a .offset) (a .line) (a .numbers .now) (s .pre) _
+          (c .before .before .before .expected-line .ensures) (d .0 .0) (d .0 .1 .0) (d .1),
+    )
 
 after-requires : tie.Need-after-requires
 after-requires c κs = search needs

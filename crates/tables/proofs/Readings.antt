@@ -1,0 +1,89 @@
+-- Every text is accepted as it is written, or refused for its reason: as every grammar decides, and since a table's
+-- reading ends at its last line only.
+use mathlib.Core.Path.{_≡_, refl, sym, ap, _∙_, subst}
+use mathlib.Core.Bool.{Bool, true, false, _&&_, not}
+use mathlib.Core.List.{List, [], _∷_}
+use mathlib.Core.Logic.{inl, inr}
+use Prim.Native.Nat.{ℕ, zero, suc}
+use native.Mathlib.Omega.{arith}
+use lib.Dec.{ltb}
+use lib.ListN.{length, getD}
+use Rattle.basics.specs.Basics.{pick, isIn}
+use Rattle.basics.proofs.Tests.{test-of, never}
+use Rattle.grammars.specs.Forms.{size}
+use Rattle.grammars.specs.Grammars.{the-end, Verdict, accepted, refused}
+use Rattle.grammars.specs.Grammars as Grammars
+use Rattle.grammars.specs.Reasons.{Refused, trailing, missing, malformed, out-of-range, faulty}
+use Rattle.grammars.specs.Claims.{Decides}
+use Rattle.grammars.proofs.Decided.{decides, refused-some}
+use Rattle.grammars.proofs.Invariants.{holds}
+use Rattle.rows.specs.Rows.{hasTask}
+use Rattle.rows.specs.declared.Row.{Row}
+use Rattle.tables.specs.TableLines.{anyNumber, newTask, atMost, newRank, RowLine, rowLine, rowLines, rowLineAt}
+use Rattle.tables.specs.TableLines.{Stage, at-board, at-tasks, at-field, at-rank, at-end, expected, fault, table}
+use Rattle.tables.specs.TableLines.{TableRead, turnedDown, tableOf, onVerdict, readTable}
+use Rattle.tables.specs.Claims.{Accepted, Tells, Fails, Read}
+use Rattle.tables.proofs.Keys.{table-plain}
+use Rattle.tables.proofs.Soundness.{Known, sound}
+
+-- ---- what is read
+pub data Ending : Stage → Type 0 where
+  at-last : (b : ℕ) (rs : List Row) (os : List ℕ) → Ending (at-end b rs os)
+
+pub ending : (s : Stage) → expected s ≡ the-end → Ending s
+ending at-board e = let no-end : _≡_ {A = ℕ} 0 1 = cc in absurd (omega arith)
+ending (at-tasks b) e = let no-end : _≡_ {A = ℕ} 0 1 = cc in absurd (omega arith)
+ending (at-field n b rs vs) e = let no-end : _≡_ {A = ℕ} 0 1 = cc in absurd (omega arith)
+ending (at-rank n b rs os) e = let no-end : _≡_ {A = ℕ} 0 1 = cc in absurd (omega arith)
+ending (at-end b rs os) e = at-last b rs os
+
+module _ (ranked : Bool) (text : List ℕ) where
+  abbrev pub verdict : Verdict Stage
+  verdict = Grammars.read (table ranked) at-board text
+
+  abbrev pub decided : Decides (table ranked) at-board text
+  decided = decides (table ranked) (table-plain ranked) at-board text
+
+  pub read-is : (v : Verdict Stage) → verdict ≡ v → readTable ranked text ≡ onVerdict v
+  unfolding readTable
+  read-is v e = ap onVerdict e
+
+  pub read : Read ranked text
+  read = go verdict refl
+    where
+      accepts : (b : ℕ) (rs : List Row) (os : List ℕ) → Tells ranked text b rs os
+          → readTable ranked text ≡ tableOf b rs os
+      accepts b rs os t = read-is (accepted (at-end b rs os)) (decided .accepts (at-end b rs os) t)
+
+      refuses : (n k : ℕ) → Fails ranked text n k → readTable ranked text ≡ turnedDown n k
+      refuses n k f = read-is (refused n k) (decided .refuses n k f)
+
+      whole : (s : Stage) → Ending s → verdict ≡ accepted s → Read ranked text
+      whole s (at-last b rs os) e =
+          let written = decided .as-written (at-end b rs os) e in
+          let is = read-is (accepted (at-end b rs os)) e in
+          let known = holds (table ranked) at-board (Known ranked) (sound ranked) (written .whole) in
+          record {
+            sound = λ z. subst (Accepted ranked) (sym is) known;
+            as-written = λ z. subst (λ (a : TableRead). Tells ranked text (a .board) (a .rows) (a .order)) (sym is) written;
+            reason = λ n z. absurd (omega (arith, ap (λ (a : TableRead). a .refused) is));
+            accepts = accepts;
+            refuses = refuses;
+          }
+
+      go : (v : Verdict Stage) → verdict ≡ v → Read ranked text
+      go (accepted s) e = whole s (ending s (decided .as-written s e .ends)) e
+      go (refused n k) e =
+          let why = decided .reason n k e in
+          let some = refused-some (why .condition) in
+          let is = read-is (refused n k) e in
+          let number : readTable ranked text .refused ≡ n = ap (λ (a : TableRead). a .refused) is in
+          record {
+            sound = λ z. absurd (omega (arith, number));
+            as-written = λ z. absurd (omega (arith, number));
+            reason = λ m z.
+                subst (λ i. Fails ranked text i (readTable ranked text .line)) (sym number ∙ z)
+                (subst (λ (a : TableRead). Fails ranked text n (a .line)) (sym is) why);
+            accepts = accepts;
+            refuses = refuses;
+          }

@@ -1,0 +1,233 @@
+-- What the lines before a stage make known, kept by every number that passes. At the end it is that the table is sound,
+-- so soundness is shown of the lines of a text and not of the way they are read.
+use mathlib.Core.Path.{_≡_, refl, sym, ap, _∙_, subst}
+use mathlib.Core.Bool.{Bool, true, false, _&&_, not}
+use mathlib.Core.List.{List, [], _∷_, _++_}
+use mathlib.Core.Logic.{inl, inr}
+use Prim.Native.Nat.{ℕ, zero, suc, _+_, _≤_, _<_}
+use native.Mathlib.Omega.{arith}
+use native.Mathlib.Nat.{add-zero, zero-add}
+use lib.Dec.{eqb, ltb}
+use lib.IntN.{ℤ}
+use lib.ListN.{length, getD, take, length-append, List·getD-append}
+use lib.Seq.{take-append-le, take-at, getD-at, getD-take}
+use borrow.Author.Tests.{eq-eqb, eqb-true, eqb-false, not-true, ltb-false}
+use Rattle.basics.specs.Basics.{pick, within, isIn, distinct}
+use Rattle.basics.proofs.Tests.{test-of, true-not-false, never, and-left, and-right, or-neither, le-or-lt}
+use Rattle.basics.proofs.Tests.{Within, within-true, eqb-swap, in-append}
+use Rattle.text.specs.Text.{bytes}
+use Rattle.grammars.specs.Forms.{size}
+use Rattle.grammars.specs.Reasons.{Passes}
+use Rattle.grammars.proofs.Invariants.{Invariant}
+use Rattle.grammars.proofs.Naturals.{natural-passes}
+use Rattle.rows.specs.Rows.{minTask, maxTask, minTicks, maxTicks, minAlpha, maxAlpha, minBeta, maxBeta}
+use Rattle.rows.specs.Rows.{minTasks, maxTasks, inRange, allRows, tasksOf, hasTask, distinctRows, allTasks, isPossible}
+use Rattle.rows.specs.declared.Row.{Row}
+use Rattle.rows.proofs.Tasks.{tasks-last}
+use Rattle.rows.proofs.Limits.{in-range}
+use Rattle.tables.specs.TableLines.{minBoard, maxBoard, taskAt, periodAt, worstAt, bestAt, alphaAt, betaAt}
+use Rattle.tables.specs.TableLines.{fieldCount, rowLineAt, newTask, atMost, newRank, rowOf}
+use Rattle.tables.specs.TableLines.{Stage, at-board, at-tasks, at-field, at-rank, at-end, ranksStage, rowsStage}
+use Rattle.tables.specs.TableLines.{fault, after, table, tableOf}
+use Rattle.tables.specs.Claims.{Accepted}
+
+-- ---- lists with one more at the end
+distinct-last : (xs : List ℕ) (x : ℕ) → distinct xs ≡ true → isIn x xs ≡ false → distinct (xs ++ (x ∷ [])) ≡ true
+distinct-last [] x e h = refl
+distinct-last (y ∷ xs) x e h =
+    let new = not-true (isIn y xs) (and-left (not (isIn y xs)) (distinct xs) e) in
+    let o = or-neither (eqb x y) (isIn x xs) h in
+    rw (in-append y xs (x ∷ []), new, eqb-swap x y (o .0))
+    (distinct-last xs x (and-right (not (isIn y xs)) (distinct xs) e) (o .1))
+
+all-rows-last : (f : Row → Bool) (rs : List Row) (r : Row) → allRows f rs ≡ true → f r ≡ true
+    → allRows f (rs ++ (r ∷ [])) ≡ true
+all-rows-last f [] r e h = rw h
+all-rows-last f (x ∷ rs) r e h =
+    rw (and-left (f x) (allRows f rs) e) (all-rows-last f rs r (and-right (f x) (allRows f rs) e) h)
+
+all-tasks-last : (os : List ℕ) (v : ℕ) (rs : List Row) → allTasks os rs ≡ true → hasTask v rs ≡ true
+    → allTasks (os ++ (v ∷ [])) rs ≡ true
+all-tasks-last [] v rs e h = rw h
+all-tasks-last (x ∷ os) v rs e h =
+    rw (and-left (hasTask x rs) (allTasks os rs) e)
+    (all-tasks-last os v rs (and-right (hasTask x rs) (allTasks os rs) e) h)
+
+-- ---- a test that refuses nothing has passed
+not-refused : (b : Bool) (n : ℕ) → pick b (suc n) 0 ≡ 0 → b ≡ false
+not-refused true n e = absurd (omega arith)
+not-refused false n e = refl
+
+let-through : (b : Bool) (n : ℕ) → pick b 0 (suc n) ≡ 0 → b ≡ true
+let-through true n e = refl
+let-through false n e = absurd (omega arith)
+
+-- ---- what is known at each stage
+-- the rows so far, of n in all
+pub record Rows (b n : ℕ) (rs : List Row) : Type 0 where
+  board : Within minBoard maxBoard b
+  count : Within minTasks maxTasks n
+  ranges : allRows inRange rs ≡ true
+  once : distinctRows rs ≡ true
+
+-- each number of a row passed where it stands
+pub record FieldPasses (rs : List Row) (vs : List ℕ) (i v : ℕ) : Type 0 where
+  between : within (rowLineAt i .low) (rowLineAt i .high) v ≡ true
+  no-fault : rowLineAt i .fault rs vs v ≡ 0
+
+abbrev pub Good : List Row → List ℕ → Type 0
+Good rs vs = (i : ℕ) → i < length vs → FieldPasses rs (take i vs) i (getD vs i 0)
+
+pub record Values (n b : ℕ) (rs : List Row) (vs : List ℕ) : Type 0 where
+  rows : Rows b (length rs + suc n) rs
+  short : length vs < fieldCount
+  good : Good rs vs
+
+-- the ranks so far, with n left
+pub record Ranks (ranked : Bool) (n b : ℕ) (rs : List Row) (os : List ℕ) : Type 0 where
+  rows : Rows b (length rs) rs
+  pub asked : ranked ≡ true
+  left : length os + n ≡ length rs
+  once : distinct os ≡ true
+  there : allTasks os rs ≡ true
+
+abbrev pub Known : Bool → Stage → Type 0
+Known ranked at-board = Unit {0}
+Known ranked (at-tasks b) = Within minBoard maxBoard b
+Known ranked (at-field n b rs vs) = Values n b rs vs
+Known ranked (at-rank n b rs os) = Ranks ranked (suc n) b rs os
+Known ranked (at-end b rs os) = Accepted ranked (tableOf b rs os)
+
+-- ---- a row whose numbers passed is in range, and its task is new
+module _ (rs : List Row) where
+  good-next : (vs : List ℕ) (v : ℕ) → Good rs vs → FieldPasses rs vs (length vs) v → Good rs (vs ++ (v ∷ []))
+  good-next vs v g p i h =
+      elim (le-or-lt (length vs) i) [
+        | inl l ↦
+            let e : i ≡ length vs = omega (arith, length-append vs (v ∷ [])) in
+            rw (take-at vs (v ∷ []) i (sym e), getD-at vs v [] 0 i (sym e), e) p
+        | inr l ↦ rw (take-append-le i vs (v ∷ []) (omega arith), List·getD-append vs (v ∷ []) 0 i l) (g i l)
+      ]
+
+  module _ (vs : List ℕ) (whole : length vs ≡ fieldCount) (g : Good rs vs) where
+    -- a number that was held to the one at a position before it
+    at-most : (i j : ℕ) → j < i → (i < fieldCount) → rowLineAt i .fault rs (take i vs) (getD vs i 0)
+        ≡ atMost (getD (take i vs) j 0) (getD vs i 0) → getD vs i 0 ≤ getD vs j 0
+    at-most i j h l is =
+        let passed = sym is ∙ g i (omega arith) .no-fault in
+        let limit = getD-take i vs j 0 h in
+        let test = not-refused (ltb (getD (take i vs) j 0) (getD vs i 0)) 3 passed in
+        omega (arith, limit, ltb-false (getD (take i vs) j 0) (getD vs i 0) test)
+
+    row-in-range : inRange (rowOf vs) ≡ true
+    row-in-range =
+        let in-limits : (i : ℕ) → i < fieldCount → Within (rowLineAt i .low) (rowLineAt i .high) (getD vs i 0) =
+        λ i h. within-true (rowLineAt i .low) (rowLineAt i .high) (getD vs i 0) (g i (omega arith) .between) in
+        in-range (rowOf vs) (record {
+          task = in-limits taskAt (omega arith);
+          period = in-limits periodAt (omega arith);
+          worst = in-limits worstAt (omega arith);
+          best = in-limits bestAt (omega arith);
+          alpha = in-limits alphaAt (omega arith);
+          beta = in-limits betaAt (omega arith);
+          worst-period = at-most worstAt periodAt (omega arith) (omega arith) refl;
+          best-worst = at-most bestAt worstAt (omega arith) (omega arith) refl;
+        })
+
+    row-new : hasTask (rowOf vs .task) rs ≡ false
+    row-new = not-refused (hasTask (getD vs taskAt 0) rs) 4 (g taskAt (omega arith) .no-fault)
+
+    -- and the rows with it are as the rows before it
+    rows-next : (b n : ℕ) → Rows b (length rs + suc n) rs
+        → let more = rs ++ (rowOf vs ∷ []) in Rows b (length more + n) more
+    rows-next b n h = record {
+      board = h .board;
+      count = subst (Within minTasks maxTasks) (omega (arith, length-append rs (rowOf vs ∷ []))) (h .count);
+      ranges = all-rows-last inRange rs (rowOf vs) (h .ranges) row-in-range;
+      once = ap distinct (tasks-last rs (rowOf vs)) ∙ distinct-last (tasksOf rs) (rowOf vs .task) (h .once) row-new;
+    }
+
+-- ---- every number that passes keeps it
+table-known : (ranked : Bool) (b : ℕ) (rs : List Row) (os : List ℕ) → Rows b (length rs) rs
+    → (ranked ≡ true → isPossible os rs ≡ true) → (ranked ≡ false → os ≡ []) → Accepted ranked (tableOf b rs os)
+table-known ranked b rs os h possible none = record {
+  board-low = h .board .low-le;
+  board-high = h .board .le-high;
+  some-rows = h .count .low-le;
+  few-rows = h .count .le-high;
+  rows-in-range = h .ranges;
+  rows-distinct = h .once;
+  ranks-possible = possible;
+  no-ranks = none;
+}
+
+ranks-known : (ranked : Bool) (n b : ℕ) (rs : List Row) (os : List ℕ) → Ranks ranked n b rs os
+    → Known ranked (ranksStage n b rs os)
+ranks-known ranked zero b rs os h =
+    table-known ranked b rs os (h .rows)
+    (λ e. rw (eq-eqb (length os) (length rs) (omega (arith, h .left)), h .once) (h .there))
+    (λ e. absurd (true-not-false ranked (h .asked) e))
+ranks-known ranked (suc n) b rs os h = h
+
+rows-known : (ranked : Bool) (n b : ℕ) (rs : List Row) → Rows b (length rs + n) rs
+    → Known ranked (rowsStage ranked n b rs)
+rows-known true zero b rs h =
+    ranks-known true (length rs) b rs []
+    (record { rows = rw (add-zero (length rs)) at h; asked = refl; left = omega arith; once = refl; there = refl })
+rows-known false zero b rs h =
+    table-known false b rs [] (rw (add-zero (length rs)) at h) never (λ e. refl)
+rows-known ranked (suc n) b rs h = record { rows = h; short = omega arith; good = λ i l. absurd (omega arith) }
+
+field-known : (ranked : Bool) (n b : ℕ) (rs : List Row) (vs : List ℕ) (v : ℕ) → Values n b rs vs
+    → FieldPasses rs vs (length vs) v → Known ranked (after ranked (at-field n b rs vs) v)
+field-known ranked n b rs vs v h p =
+    let ws = vs ++ (v ∷ []) in
+    let long = length-append vs (v ∷ []) in
+    let good = good-next rs vs v (h .good) p in
+    let next : Bool → Stage = λ last.
+    pick last (rowsStage ranked n b (rs ++ (rowOf ws ∷ []))) (at-field n b rs ws) in
+    elim (test-of (eqb (length ws) fieldCount)) [
+      | inl t ↦
+          let whole = eqb-true (length ws) fieldCount t in
+          subst (λ x. Known ranked (next x)) (sym t)
+          (rows-known ranked n b (rs ++ (rowOf ws ∷ [])) (rows-next rs ws whole good b n (h .rows)))
+      | inr t ↦
+          let short : length ws < fieldCount = omega (arith, h .short, eqb-false (length ws) fieldCount t) in
+          subst (λ x. Known ranked (next x)) (sym t) (record { rows = h .rows; short = short; good = good })
+    ]
+
+rank-known : (ranked : Bool) (n b : ℕ) (rs : List Row) (os : List ℕ) (v : ℕ) → Ranks ranked (suc n) b rs os
+    → newRank rs os v ≡ 0 → Known ranked (ranksStage n b rs (os ++ (v ∷ [])))
+rank-known ranked n b rs os v h e =
+    let both = let-through (hasTask v rs && not (isIn v os)) 5 e in
+    let new = not-true (isIn v os) (and-right (hasTask v rs) (not (isIn v os)) both) in
+    ranks-known ranked n b rs (os ++ (v ∷ []))
+    (record {
+      rows = h .rows;
+      asked = h .asked;
+      left = omega (arith, h .left, length-append os (v ∷ []));
+      once = distinct-last os v (h .once) new;
+      there = all-tasks-last os v rs (h .there) (and-left (hasTask v rs) (not (isIn v os)) both);
+    })
+
+pub sound : (ranked : Bool) → Invariant (table ranked) at-board (Known ranked)
+sound ranked = record { begins = tt; keeps = keeps }
+  where
+    keeps : (s : Stage) (key : List ℕ) (z : ℤ) → Known ranked s → Passes (table ranked) s key z
+        → Known ranked (after ranked s (size z))
+    keeps at-board key z h p =
+        within-true minBoard maxBoard (size z) (natural-passes p (bytes "board=") minBoard maxBoard refl .between)
+    keeps (at-tasks b) key z h p =
+        let count = within-true minTasks maxTasks (size z)
+        (natural-passes p (bytes "tasks=") minTasks maxTasks refl .between) in
+        rows-known ranked (size z) b []
+        (record { board = h; count = rw (zero-add (size z)) count; ranges = refl; once = refl })
+    keeps (at-field n b rs vs) key z h p =
+        let l = rowLineAt (length vs) in
+        field-known ranked n b rs vs (size z) h
+        (record { between = natural-passes p (l .key) (l .low) (l .high) refl .between; no-fault = p .no-fault })
+    keeps (at-rank n b rs os) key z h p = rank-known ranked n b rs os (size z) h (p .no-fault)
+    keeps (at-end b rs os) key z h p =
+        let x = p .is-expected in
+        let no-line : _≡_ {A = ℕ} 0 1 = cc in
+        absurd (omega arith)
