@@ -9,6 +9,10 @@ use Rattle.rows.specs.declared.Row.{Row}
 abbrev pub rowNumbers : ℕ
 rowNumbers = 6
 
+-- room for the numbers of all rows
+abbrev pub numbersRoom : ℕ
+numbersRoom = rowNumbers * maxTasks
+
 -- row i of numbers
 abbrev pub rowIn : List ℕ → ℕ → Row
 rowIn ns i =

@@ -18,8 +18,14 @@ use text::put_bytes;
 use text::put_line;
 use text::put_signed_line;
 
+// Room for the lines before a plan's ranks, or for a refusal's.
+const HEAD_ROOM: usize = 40;
+
+// Room for the lines of a rank.
+const RANK_ROOM: usize = 82;
+
 // Room for every plan.
-pub const ROOM: usize = 1024;
+pub const ROOM: usize = HEAD_ROOM + MAX_TASKS * RANK_ROOM;
 
 pub fn buffer() -> [u8; ROOM]
     ensures { λ r. ⌜ r ≡ replicate planRoom 0 ⌝ }

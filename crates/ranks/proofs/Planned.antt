@@ -72,7 +72,7 @@ module _ (text : List ℕ) where
           ap (λ e. leZ (pos 0) (e .margin)) (order-promised .entry-is i h)
           ∙ and-right (not (isLate (rowAt order i) (take i order))) (leZ (pos 0) m) (rank-stable i h)
 
-      -- at most twelve ranks within the limits
+      -- at most `maxTasks` ranks within the limits
       order-fits : length (planText (answer .board) (entries order)) ≤ planRoom
       order-fits =
           let as-many = possible-length (choice .is-possible order is) in

@@ -1,4 +1,4 @@
--- Columns of at most eleven rows, filled row by row.
+-- Columns of at most `maxAbove` rows, filled row by row.
 use mathlib.Core.Path.{_≡_}
 use mathlib.Core.Bool.{Bool, true, false, _&&_}
 use mathlib.Core.List.{List, [], _∷_}

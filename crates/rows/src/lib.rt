@@ -19,7 +19,7 @@ pub struct Row {
     pub beta: u64,
 }
 
-// An order, highest rank first: at most twelve task numbers and a count.
+// An order, highest rank first: at most MAX_TASKS task numbers and a count.
 pub struct Order {
     pub tasks: [u16; MAX_TASKS],
     pub count: usize,

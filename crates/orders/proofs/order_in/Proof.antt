@@ -1,6 +1,6 @@
 -- `order_in` meets its contract: the record of sets, for few rows or for many, has room for their sets, and has none of
 -- them yet.
-use Prim.Native.Nat.{_^_}
+use Prim.Native.Nat.{ℕ, _^_}
 use lib.Pow.{pow-mono}
 use borrow.Author.Needs.{needs}
 use Rattle.rows.specs.Rows.{maxTasks}
@@ -8,13 +8,17 @@ use Rattle.orders.proofs.Record.{fresh}
 use Rattle.orders.proofs.order_in.Statement.{statement}
 use Rattle.orders.proofs.order_in.Tie as tie
 
+-- the rows that the short record has room for
+abbrev fewTasks : ℕ
+fewTasks = 6
+
 slice-aggregate-order-with : tie.Need-slice-aggregate-order-with
 slice-aggregate-order-with c = search needs
 
 order-with-requires : tie.Need-order-with-requires
 order-with-requires c κs =
     let s = c .before .before in
-    (s .pre, fresh (s .args .n) (2 ^ 6) (pow-mono (c .before .if1 .taken)))
+    (s .pre, fresh (s .args .n) (2 ^ fewTasks) (pow-mono (c .before .if1 .taken)))
 
 returns : tie.Need-returns
 returns c = search needs

@@ -34,7 +34,7 @@ use denote.Triple.Walked.{needs}
 use Rattle.rows.specs.Rows.{maxTasks}
 use Rattle.rows.specs.declared.Row.{Row}
 use Rattle.orders.specs.declared.Answer.{Answer}
-use Rattle.orders.specs.Numbers.{rowNumbers, rowsIn}
+use Rattle.orders.specs.Numbers.{numbersRoom, rowsIn}
 use Rattle.orders.specs.Search.{Table, Lent, Answered}
 use Rattle.rows.proofs.Row as T
 use Rattle.orders.proofs.Answer as L
@@ -61,16 +61,16 @@ lent-front ys hs table e = record { held = table .few; counted = ap length e; ta
 
 -- the local array: its type, its value at first, and room for the numbers of all rows
 abbrev Numbers : RattleType
-Numbers = Array u64 72
+Numbers = Array u64 numbersRoom
 
 abbrev zeros : List ℕ
-zeros = replicate 72 0
+zeros = replicate numbersRoom 0
 
 abbrev zeroVal : Val
-zeroVal = arrayVal (replicate 72 (vint w64 0))
+zeroVal = arrayVal (replicate numbersRoom (vint w64 0))
 
-room : rowNumbers * maxTasks ≤ length zeros
-room = omega arith
+long : numbersRoom ≤ length zeros
+long = omega arith
 
 module _ {M : Type 1} (𝓤 : URA M) (H : Heap 𝓤) (A : Atoms 𝓤) (mem : Memory → SProp 𝓤) (run : Routine → Fun 𝓤) where
   -- the contracts that the proof cites
@@ -118,7 +118,7 @@ module _ {M : Type 1} (𝓤 : URA M) (H : Heap 𝓤) (A : Atoms 𝓤) (W : Given
       (PutRows 𝓤 H A mem run .pre (to-put-rows l α δ))
   goes-put-rows l α δ table =
       qed W ((‵ (flft (α ∷ []) fullShare) ⊛ (‵ (flft κ q) ⊛ ‵ ftrue)) ∷ ‵ Owns ∷ ‵ (Mut l α δ) ∷ []) ∵
-      says ! (table .few, room) $
+      says ! (table .few, long) $
       split ! $ move ! (1 ∷ []) $ split ! $ move ! (2 ∷ 1 ∷ []) $ join ! $ move ! (1 ∷ 0 ∷ []) $ join ! $ frame ! $
       fsplit ! $ move ! (2 ∷ 1 ∷ []) $ fjoin ! $ move ! (1 ∷ 0 ∷ []) $ fjoin ! $ done !
 
@@ -159,10 +159,10 @@ module _ {M : Type 1} (𝓤 : URA M) (H : Heap 𝓤) (A : Atoms 𝓤) (W : Given
         (from ! (stop !)) (init ! 8 refl (tt, record { fits = p .0 .1 .0 })) $
         owned ! u64 (Is u64) (uint-makes 𝓤 H A W w64) 0 (vint w64 0 ∷ []) (refl, lit< tt) $
         use1 W (‵ (Numbers .own zeros (zeroVal ∷ [])))
-        (array-repeat 𝓤 H A W u64 (uint-copy 𝓤 H A W w64) 72 0 (vint w64 0)) $
+        (array-repeat 𝓤 H A W u64 (uint-copy 𝓤 H A W w64) numbersRoom 0 (vint w64 0)) $
         peeks ! Numbers (Is Numbers) (shows 𝓤 H A Numbers) zeros (zeroVal ∷ []) (λ are.
-        assigns ! (rep ! 72 (lit ! tt)) (from ! (stop !)) (init ! 7 refl (array-lawful 𝓤 H A W u64
-        (uint-lawful 𝓤 H A W w64) 72 .typed zeros (zeroVal ∷ []) are .0)) $
+        assigns ! (rep ! numbersRoom (lit ! tt)) (from ! (stop !)) (init ! 7 refl (array-lawful 𝓤 H A W u64
+        (uint-lawful 𝓤 H A W w64) numbersRoom .typed zeros (zeroVal ∷ []) are .0)) $
         assigns ! (addr ! (from ! (stop !))) (from ! (stop !)) (init ! 3 refl (tt, tt)) $
         move ! (7 ∷ 0 ∷ []) $
         use2 W (‵ (inMemory Numbers .lies zeros l₃ 0)) (part-in 𝓤 H A W Numbers refl fullShare zeros l₃ 0 zeroVal) $
@@ -201,7 +201,7 @@ module _ {M : Type 1} (𝓤 : URA M) (H : Heap 𝓤) (A : Atoms 𝓤) (W : Given
         land ! (from ! (stop !)) (init ! 16 refl (LL.lawful L.the-type L′.the-laws 𝓤 H A W .typed x (u ∷ []) ix .0)) $
         -- β ends, and the numbers' room is had again
         move ! (1 ∷ []) $ split ! $ lft-end ! tt $ move ! (0 ∷ 3 ∷ []) $ lent-back ! tt $
-        use1 W (‵ (froom (tyArray (tyInt w64) 72) l₃ 0)) (part-room 𝓤 H A W Numbers (ws .1 .0) l₃ 0) $
+        use1 W (‵ (froom (tyArray (tyInt w64) numbersRoom) l₃ 0)) (part-room 𝓤 H A W Numbers (ws .1 .0) l₃ 0) $
         -- [room for _3; true; the result; true; the token; _6; …; _5; …; _4; …; _3's end; _2; …; _1; …; _0; …]
         returns ! (look ! 16 refl) $ forget ! 5 refl $ forget ! 7 refl $ forget ! 9 refl $ forget ! 12 refl $
         forget ! 14 refl $ forget ! 16 refl $

@@ -8,7 +8,7 @@ use native.Mathlib.Omega.{arith}
 use native.Mathlib.Numerals.{add-one}
 use borrow.Author.Needs.{needs}
 use lib.ListN.{length, take}
-use Rattle.rows.specs.Rows.{inRange}
+use Rattle.rows.specs.Rows.{maxTasks, inRange}
 use Rattle.rows.specs.declared.Row.{Row}
 use Rattle.responses.specs.Figures.{isStable}
 use Rattle.orders.specs.Sets.{members}
@@ -32,7 +32,7 @@ abbrev μ-loop : tie.MeasureT-loop
 abbrev table : tie.Start Inv-loop μ-loop → List Row
 table c = take (c .args .n) (rowsIn (c .args .numbers .now))
 
-small : (c : tie.Start Inv-loop μ-loop) → length (table c) ≤ 12
+small : (c : tie.Start Inv-loop μ-loop) → length (table c) ≤ maxTasks
 small c = omega (arith, c .pre .0 .counted, c .pre .0 .held)
 
 ranged : (c : tie.Start Inv-loop μ-loop) (k : ℕ) → k < c .args .n → inRange (rowIn (c .args .numbers .now) k) ≡ true

@@ -92,10 +92,10 @@ Inv-loop2 n rows tasks count numbers i found₀ k₀ found k =
 abbrev μ-loop2 : tie.MeasureT-loop2
 μ-loop2 n rows tasks count numbers i found₀ k₀ found k = count - k
 
-rows-long : (c : tie.Start Inv-loop μ-loop Inv-loop2 μ-loop2) → length (c .args .t2) ≡ 12
+rows-long : (c : tie.Start Inv-loop μ-loop Inv-loop2 μ-loop2) → length (c .args .t2) ≡ maxTasks
 rows-long c = c .good .1 .0 .1 .0 .1
 
-tasks-long : (c : tie.Start Inv-loop μ-loop Inv-loop2 μ-loop2) → length (c .args .order .tasks) ≡ 12
+tasks-long : (c : tie.Start Inv-loop μ-loop Inv-loop2 μ-loop2) → length (c .args .order .tasks) ≡ maxTasks
 tasks-long c = sym (length-map (c .args .order .tasks) (λ v. v)) ∙ c .good .0 .1 .1 .0 .1 .0 .1
 
 loop-holds : tie.Need-loop-holds Inv-loop μ-loop Inv-loop2 μ-loop2

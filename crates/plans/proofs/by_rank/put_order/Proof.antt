@@ -10,7 +10,7 @@ use lib.IntN.{ℤ}
 use mir.Syntax.{w64}
 use mir.Val.{toZ, ofZ}
 use mir.Facts.{toZ-ofZ}
-use Rattle.rows.specs.Rows.{noRow}
+use Rattle.rows.specs.Rows.{maxTasks, noRow}
 use Rattle.responses.specs.declared.Figures.{Figures}
 use Rattle.plans.specs.declared.Entry.{Entry}
 use Rattle.plans.proofs.Turns.{Turning, starts, posed, found-late, rank-fits, turned, finished}
@@ -24,7 +24,7 @@ Inv-loop out₀ at n rows periods₀ worsts₀ bests₀ end₀ i₀ out periods 
 abbrev μ-loop : tie.MeasureT-loop
 μ-loop out₀ at n rows periods₀ worsts₀ bests₀ end₀ i₀ out periods worsts bests end i = n - i
 
-rows-long : (c : tie.Start Inv-loop μ-loop) → length (c .args .t3) ≡ 12
+rows-long : (c : tie.Start Inv-loop μ-loop) → length (c .args .t3) ≡ maxTasks
 rows-long c = c .good .1 .1 .0 .1 .0 .1
 
 -- where a turn stands, from its figures on
