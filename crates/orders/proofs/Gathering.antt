@@ -17,11 +17,11 @@ use Rattle.rows.specs.Rows.{maxTasks, inRange, allRows, rowAt}
 use Rattle.rows.specs.declared.Row.{Row}
 use Rattle.rows.proofs.Limits.{head-passes, tail-passes}
 use Rattle.responses.specs.declared.Figures.{Figures}
-use Rattle.responses.specs.Columns.{rowsAbove, Posed}
+use Rattle.responses.specs.inside.Columns.{rowsAbove, Posed}
 use Rattle.responses.specs.Figures.{figuresUnder, isStable}
 use Rattle.responses.proofs.Filled.{Filled, filled-none, filled-more, filled-over, filled-posed, filled-figures}
 use Rattle.responses.proofs.Responses.{stable-is}
-use Rattle.orders.specs.Sets.{keep, members}
+use Rattle.orders.specs.inside.Sets.{keep, members}
 use Rattle.orders.proofs.Sets.{halved-after, before-next}
 
 -- ---- the members of a set

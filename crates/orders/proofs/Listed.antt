@@ -11,14 +11,14 @@ use lib.Seq.{getD-take, drop-cons, append-snoc, set-append-seam}
 use lib.Pow.{pow-pos}
 use Rattle.rows.specs.declared.Row.{Row}
 use Rattle.rows.specs.Rows.{maxTasks, inRange, noRow, rowAt}
-use Rattle.rows.specs.Arrays.{ranking}
+use Rattle.rows.specs.inside.Arrays.{ranking}
 use Rattle.rows.proofs.Limits.{at-passes}
 use Rattle.rows.proofs.Tasks.{tasks-last}
 use Rattle.rows.proofs.Arrays.{blank-left}
 use Rattle.orders.specs.Orders.{theOrder}
-use Rattle.orders.specs.Sets.{members, isSome, orderAt, Known, Recorded}
+use Rattle.orders.specs.inside.Sets.{members, isSome, orderAt, Known, Recorded}
 use Rattle.orders.specs.Stability.{stable}
-use Rattle.orders.specs.Search.{tasksIn, Lent, Chained, chainTasks}
+use Rattle.orders.specs.inside.Search.{tasksIn, Lent, Chained, chainTasks}
 use Rattle.orders.proofs.Possible.{taken-length}
 use Rattle.orders.proofs.Sets.{less-row, taken-at, no-members, all-members, some-member}
 use Rattle.orders.proofs.Searched.{small, a-set}

@@ -8,7 +8,7 @@ use lib.ListN.{length, getD, take, set, length-set}
 use lib.Seq.{getD-take, length-take-le, ext-getD, getD-set-same, getD-set-other}
 use Rattle.rows.specs.Rows.{maxTasks, noRow, rowAt}
 use Rattle.rows.specs.declared.Row.{Row}
-use Rattle.orders.specs.Numbers.{rowIn, rowsFrom, rowsIn, RowPut}
+use Rattle.orders.specs.inside.Numbers.{rowIn, rowsFrom, rowsIn, RowPut}
 
 -- ---- the rows read off
 from-length : (ns : List ℕ) (i k : ℕ) → length (rowsFrom ns i k) ≡ k

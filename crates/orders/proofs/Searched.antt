@@ -9,9 +9,9 @@ use lib.ListN.{length, take}
 use Rattle.rows.specs.declared.Row.{Row}
 use Rattle.rows.specs.Rows.{inRange}
 use Rattle.rows.proofs.Limits.{at-passes}
-use Rattle.orders.specs.Sets.{unknown}
-use Rattle.orders.specs.Numbers.{rowIn, rowsIn}
-use Rattle.orders.specs.Search.{Lent}
+use Rattle.orders.specs.inside.Sets.{unknown}
+use Rattle.orders.specs.inside.Numbers.{rowIn, rowsIn}
+use Rattle.orders.specs.inside.Search.{Lent}
 use Rattle.orders.proofs.Numbered.{row-is}
 
 module _ {rows : List Row} {n : ℕ} (l : Lent rows n) where

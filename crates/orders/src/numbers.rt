@@ -4,7 +4,7 @@ ghost use mathlib.Core.Bool.{true};
 ghost use Prim.Native.Nat.{_*_, _≤_, _<_};
 ghost use lib.ListN.{length, take};
 ghost use Rattle.rows.specs.Rows.{maxTasks, inRange};
-ghost use Rattle.orders.specs.Numbers.{numbersRoom, rowIn, rowsIn, RowPut};
+ghost use Rattle.orders.specs.inside.Numbers.{numbersRoom, rowIn, rowsIn, RowPut};
 use rows::MAX_TASKS;
 use rows::Row;
 

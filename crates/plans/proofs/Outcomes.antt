@@ -7,13 +7,13 @@ use native.Mathlib.Omega.{arith}
 use lib.ListN.{length, take, drop}
 use lib.Seq.{take-append-seam, drop-append-seam}
 use borrow.Author.Tests.{le-leb, lt-leb}
-use Rattle.text.specs.Puts.{Wrote}
+use Rattle.text.specs.Buffers.{Wrote}
 use Rattle.rows.specs.declared.Row.{Row}
 use Rattle.plans.specs.declared.Plan.{Plan}
 use Rattle.plans.specs.Entries.{firstLate}
 use Rattle.plans.specs.Plans.{refusalText}
 use Rattle.plans.specs.Outcomes.{Outcome, writes, refuses, fitted, planOf, ifInTime, result, Written, printed}
-use Rattle.plans.specs.Prints.{toPrint}
+use Rattle.plans.specs.inside.Prints.{toPrint}
 
 pub fits : (room : ℕ) (t : List ℕ) → length t ≤ room → fitted room t ≡ writes t
 unfolding fitted

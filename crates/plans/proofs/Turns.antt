@@ -10,19 +10,19 @@ use lib.Seq.{append-snoc, take-suc, take-take, length-take-le, getD-take}
 use Rattle.basics.specs.Basics.{pick}
 use Rattle.basics.proofs.Fronts.{left-none, left-next}
 use Rattle.text.specs.Text.{joined}
-use Rattle.text.specs.Puts.{Put}
+use Rattle.text.specs.inside.Puts.{Put}
 use Rattle.text.proofs.Puts.{begins, next, ends}
 use Rattle.rows.specs.Rows.{maxTasks, inRange, allRows, noRow}
 use Rattle.rows.specs.declared.Row.{Row}
 use Rattle.rows.proofs.Limits.{at-passes, front-passes}
 use Rattle.responses.specs.declared.Figures.{Figures}
 use Rattle.responses.specs.Figures.{isLate, latest, earliest, margin, lateFigures, figuresAt, figuresUnder}
-use Rattle.responses.specs.Columns.{rowsAbove, Posed}
+use Rattle.responses.specs.inside.Columns.{rowsAbove, Posed}
 use Rattle.responses.proofs.Filled.{Filled, filled-none, filled-more, filled-posed, filled-figures}
 use Rattle.plans.specs.declared.Entry.{Entry}
 use Rattle.plans.specs.Entries.{entry, entriesFrom, entries, lateFrom, firstLate}
 use Rattle.plans.specs.Plans.{rankText, rankTexts, rankRoom}
-use Rattle.plans.specs.Ranked.{Ranked}
+use Rattle.plans.specs.inside.Ranked.{Ranked}
 use Rattle.plans.proofs.Entries.{InLimits, entries-length, entry-limits}
 use Rattle.plans.proofs.Lengths.{rank-length}
 use Rattle.plans.proofs.Ranks.{rank-put}

@@ -5,7 +5,7 @@ ghost use Prim.Native.Nat.{_+_, _*_, _≤_};
 ghost use lib.ListN.{length, take};
 ghost use Rattle.rows.specs.Rows.{maxTasks, inRange, allRows};
 ghost use Rattle.plans.specs.Plans.{rankRoom};
-ghost use Rattle.plans.specs.Ranked.{Ranked};
+ghost use Rattle.plans.specs.inside.Ranked.{Ranked};
 use responses::figures_under;
 use rows::MAX_TASKS;
 use rows::Row;

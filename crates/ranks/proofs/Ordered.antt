@@ -11,7 +11,7 @@ use borrow.Author.Tests.{eqb-true}
 use Rattle.basics.specs.Basics.{distinct}
 use Rattle.basics.proofs.Tests.{and-left, true-not-false}
 use Rattle.rows.specs.Rows.{maxTasks, noRow, inRange, allRows, allTasks, tasksOf, rowsFor}
-use Rattle.rows.specs.Arrays.{padded, ranking, ranked}
+use Rattle.rows.specs.inside.Arrays.{padded, ranking, ranked}
 use Rattle.rows.specs.declared.Row.{Row}
 use Rattle.rows.specs.declared.Order.{Order}
 use Rattle.rows.proofs.Tasks.{tasks-length, for-length}
@@ -21,10 +21,10 @@ use Rattle.tables.specs.Tables.{Answer, readTable}
 use Rattle.tables.specs.Readings.{reading}
 use Rattle.tables.proofs.Reasons.{read}
 use Rattle.orders.specs.declared.Answer as Found
-use Rattle.orders.specs.Sets.{isSome}
+use Rattle.orders.specs.inside.Sets.{isSome}
 use Rattle.orders.specs.Stability.{chosenOrder}
 use Rattle.orders.specs.Orders.{Possible}
-use Rattle.orders.specs.Search.{tasksIn, answerOf, Answered}
+use Rattle.orders.specs.inside.Search.{tasksIn, answerOf, Answered}
 use Rattle.orders.proofs.Possible.{possible-length}
 use Rattle.orders.proofs.Scan.{some-of}
 use Rattle.orders.proofs.Tasks.{rows-for}

@@ -13,7 +13,7 @@ use Rattle.tables.specs.Tables.{Answer, readTable}
 use Rattle.tables.specs.Readings.{reading}
 use Rattle.tables.specs.Claims.{Accepted}
 use Rattle.tables.proofs.Reasons.{read}
-use Rattle.orders.specs.Search.{Table, Lent}
+use Rattle.orders.specs.inside.Search.{Table, Lent}
 use Rattle.plans.specs.Outcomes.{Outcome, refuses}
 use Rattle.ranks.specs.Calls.{onTable}
 use Rattle.ranks.proofs.Texts.{Accepts}

@@ -1,6 +1,6 @@
 // The public calls: a table's plan, the figures of an order chosen by hand, and what the programs print.
 ghost use Rattle.io.specs.Counts.{Counts};
-ghost use Rattle.text.specs.Puts.{Wrote};
+ghost use Rattle.text.specs.Buffers.{Wrote};
 ghost use Rattle.ranks.specs.Calls.{plannerPrints, reviewerPrints};
 ghost use Rattle.ranks.specs.Demands.{PlanSays, ReviewSays};
 use orders::order_of_first;

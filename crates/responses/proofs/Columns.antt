@@ -11,7 +11,8 @@ use Rattle.rows.specs.Rows.{maxTicks, timesInRange, allRows}
 use Rattle.rows.specs.declared.Row.{Row}
 use Rattle.rows.proofs.Limits.{Times, times, in-range-times, head-passes, tail-passes}
 use Rattle.responses.specs.Interference.{ceiling, Load, load, interference, leastFixed, largestFixed}
-use Rattle.responses.specs.Columns.{loadsFrom, loads, rowAbove, rowsFrom, rowsAbove, columnsMax, Columns, Posed}
+use Rattle.responses.specs.inside.Columns.{loadsFrom, loads, rowAbove, rowsFrom, rowsAbove}
+use Rattle.responses.specs.inside.Columns.{columnsMax, Columns, Posed}
 use Rattle.responses.specs.Figures.{worstLoad, bestLoad, latest, earliest}
 use Rattle.responses.proofs.Sums.{term-max}
 use Rattle.responses.proofs.Responses.{responses}

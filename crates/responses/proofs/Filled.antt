@@ -10,7 +10,7 @@ use Rattle.rows.specs.Rows.{maxTasks, inRange, allRows}
 use Rattle.rows.specs.declared.Row.{Row}
 use Rattle.responses.specs.declared.Figures.{Figures}
 use Rattle.responses.specs.Figures.{figuresUnder}
-use Rattle.responses.specs.Columns.{rowsFrom, rowsAbove, Posed}
+use Rattle.responses.specs.inside.Columns.{rowsFrom, rowsAbove, Posed}
 use Rattle.responses.proofs.Gathered.{bare, rows-kept, rows-more, held-times, held-figures}
 
 -- the first n places of the columns hold the times of the rows

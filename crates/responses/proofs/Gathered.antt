@@ -21,8 +21,9 @@ use Rattle.responses.specs.declared.Figures.{Figures}
 use Rattle.responses.specs.Interference.{Load, interference}
 use Rattle.responses.specs.Figures.{worstLoad, bestLoad, maxAbove, noFigures, figuresUnder, figuresOf}
 use Rattle.responses.specs.Claims.{FiguresSay}
-use Rattle.responses.specs.Columns.{rowAbove, rowsFrom, rowsAbove}
-use Rattle.responses.specs.Gathered.{noneAbove, stored, refused, fits, addRow, addRows, rowsIn, Sound, figuresIn}
+use Rattle.responses.specs.inside.Columns.{rowAbove, rowsFrom, rowsAbove}
+use Rattle.responses.specs.inside.Gathered.{noneAbove, stored, refused, fits, addRow}
+use Rattle.responses.specs.inside.Gathered.{addRows, rowsIn, Sound, figuresIn}
 use Rattle.responses.proofs.Same.{Same, figures-same, figures-permuted}
 use Rattle.responses.proofs.Responses.{posed-times, figured}
 

@@ -5,8 +5,8 @@ ghost use Rattle.rows.specs.Rows.{maxTicks, inRange};
 ghost use Rattle.responses.specs.Interference.{ceiling, interference, leastFixed, largestFixed};
 ghost use Rattle.responses.specs.Figures.{marginAt, noFigures, lateFigures, figuresUnder};
 ghost use Rattle.responses.specs.Claims.{FiguresSay};
-ghost use Rattle.responses.specs.Columns.{loads, rowsAbove, baseMax, Columns, Posed};
-ghost use Rattle.responses.specs.Gathered.{noneAbove, addRow, addRows, Sound, figuresIn};
+ghost use Rattle.responses.specs.inside.Columns.{loads, rowsAbove, baseMax, Columns, Posed};
+ghost use Rattle.responses.specs.inside.Gathered.{noneAbove, addRow, addRows, Sound, figuresIn};
 use rows::Row;
 
 pub struct Figures {

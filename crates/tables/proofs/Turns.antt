@@ -17,7 +17,7 @@ use Rattle.text.specs.declared.Line.the-variants as L
 use Rattle.rows.specs.Rows.{maxTask, maxTasks, row, noRow, tasksOf}
 use Rattle.rows.specs.declared.Row.{Row}
 use Rattle.rows.proofs.Limits.{limits}
-use Rattle.rows.specs.Arrays.{padded}
+use Rattle.rows.specs.inside.Arrays.{padded}
 use Rattle.rows.proofs.Tasks.{tasks-length, tasks-last}
 use Rattle.rows.proofs.Arrays.{padded-front, padded-next}
 use Rattle.tables.specs.declared.Reading.{Reading}

@@ -14,7 +14,7 @@ use Rattle.tables.specs.declared.sections.RowsRead.{RowsRead}
 use Rattle.tables.specs.declared.sections.RankRead.{RankRead}
 use Rattle.tables.specs.declared.sections.RanksRead.{RanksRead}
 use Rattle.tables.specs.Tables.{fieldCount, turnedDown, Fields, rowOf, rowsFrom, ranksFrom}
-use Rattle.rows.specs.Arrays.{padded}
+use Rattle.rows.specs.inside.Arrays.{padded}
 
 -- ---- one row, one rank
 abbrev pub stoppedRow : ℕ → ℕ → RowRead

@@ -9,7 +9,8 @@ use lib.ListN.{length, take, drop, length-append, length-take, length-drop, take
 use lib.Seq.{take-at, take-append-seam, drop-append-add, drop-drop}
 use Rattle.io.specs.Counts.{Counts}
 use Rattle.text.specs.Text.{joined}
-use Rattle.text.specs.Puts.{put, Put, Wrote}
+use Rattle.text.specs.Buffers.{Wrote}
+use Rattle.text.specs.inside.Puts.{put, Put}
 
 -- the first of two texts has room where both have
 room-first : (at : ℕ) (t u o : List ℕ) → at + length (t ++ u) ≤ length o → at + length t ≤ length o

@@ -34,8 +34,8 @@ use denote.Triple.Walked.{needs}
 use Rattle.rows.specs.Rows.{maxTasks}
 use Rattle.rows.specs.declared.Row.{Row}
 use Rattle.orders.specs.declared.Answer.{Answer}
-use Rattle.orders.specs.Numbers.{numbersRoom, rowsIn}
-use Rattle.orders.specs.Search.{Table, Lent, Answered}
+use Rattle.orders.specs.inside.Numbers.{numbersRoom, rowsIn}
+use Rattle.orders.specs.inside.Search.{Table, Lent, Answered}
 use Rattle.rows.proofs.Row as T
 use Rattle.orders.proofs.Answer as L
 use Rattle.orders.proofs.Answer.Laws as L′

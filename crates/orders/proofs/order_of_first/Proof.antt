@@ -23,7 +23,7 @@ use Rattle.rows.proofs.Lend.{Front, Others, lends-front, front-back}
 use Rattle.rows.proofs.Row as T
 use Rattle.rows.proofs.Row.Laws as T′
 use Rattle.orders.specs.declared.Answer.{Answer}
-use Rattle.orders.specs.Search.{Table, Lent, Answered}
+use Rattle.orders.specs.inside.Search.{Table, Lent, Answered}
 use Rattle.orders.proofs.Answer as L
 use Rattle.orders.proofs.Answer.Laws as L′
 use Rattle.orders.proofs.order_of as order-of

@@ -10,13 +10,13 @@ use lib.Pow.{pow-pos}
 use borrow.Author.Needs.{needs}
 use Rattle.rows.specs.declared.Row.{Row}
 use Rattle.rows.specs.declared.Order.{Order}
-use Rattle.rows.specs.Arrays.{ranking}
+use Rattle.rows.specs.inside.Arrays.{ranking}
 use Rattle.orders.specs.declared.Answer.{Answer}
 use Rattle.orders.specs.Orders.{theOrder, orderOf}
-use Rattle.orders.specs.Sets.{isSome, orderAt, Fresh, Settled}
+use Rattle.orders.specs.inside.Sets.{isSome, orderAt, Fresh, Settled}
 use Rattle.orders.specs.Stability.{stable}
-use Rattle.orders.specs.Numbers.{rowsIn}
-use Rattle.orders.specs.Search.{tasksIn, Lent, Chained, chainTasks, Answered}
+use Rattle.orders.specs.inside.Numbers.{rowsIn}
+use Rattle.orders.specs.inside.Search.{tasksIn, Lent, Chained, chainTasks, Answered}
 use Rattle.orders.proofs.Searched.{small, a-set}
 use Rattle.orders.proofs.Record.{begun}
 use Rattle.orders.proofs.Listed.{chain}

@@ -11,8 +11,8 @@ use lib.ListN.{length, take}
 use Rattle.rows.specs.Rows.{maxTasks, inRange}
 use Rattle.rows.specs.declared.Row.{Row}
 use Rattle.responses.specs.Figures.{isStable}
-use Rattle.orders.specs.Sets.{members}
-use Rattle.orders.specs.Numbers.{rowIn, rowsIn}
+use Rattle.orders.specs.inside.Sets.{members}
+use Rattle.orders.specs.inside.Numbers.{rowIn, rowsIn}
 use Rattle.orders.proofs.Sets.{bit-le}
 use Rattle.orders.proofs.Numbered.{row-is}
 use Rattle.orders.proofs.Searched.{a-row, row-ranged}

@@ -13,7 +13,7 @@ use Rattle.rows.proofs.Walk.{nothing, Triple, Vals, onEntry, Meets, tripleOf, e
 use Rattle.rows.proofs.Walk.{stay-dropped, walkOf, goes-dropped, Walks, ends-at, walked, walk-meets, yes}
 use denote.Struct.Laws as LL
 use Rattle.responses.specs.Claims.{FiguresSay}
-use Rattle.responses.specs.Gathered.{noneAbove, addRows, Sound, figuresIn}
+use Rattle.responses.specs.inside.Gathered.{noneAbove, addRows, Sound, figuresIn}
 use Rattle.rows.specs.declared.Row.{Row}
 use Rattle.responses.specs.declared.Above.{Above}
 use Rattle.responses.specs.declared.Figures.{Figures}

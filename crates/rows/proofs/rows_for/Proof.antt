@@ -12,7 +12,7 @@ use lib.ListN.{List·getD-eq-default}
 use lib.Seq.{take-suc, take-suc-set, getD-take, length-take-le}
 use Rattle.rows.specs.declared.Row.{Row}
 use Rattle.rows.specs.Rows.{maxTasks, noRow, tasksOf, positionOf, rowFor, rowsFor}
-use Rattle.rows.specs.Arrays.{padded}
+use Rattle.rows.specs.inside.Arrays.{padded}
 use Rattle.rows.proofs.Tasks.{tasks-last, row-at, for-length}
 use Rattle.rows.proofs.Arrays.{padded-next, padded-nothing}
 use Rattle.rows.proofs.rows_for.Statement.{statement}

@@ -5,7 +5,7 @@ use Prim.Native.Nat.{_^_, _<_}
 use native.Mathlib.Omega.{arith}
 use borrow.Author.Needs.{needs}
 use denote.Ref.{now}
-use Rattle.text.specs.Puts.{Wrote}
+use Rattle.text.specs.Buffers.{Wrote}
 use Rattle.plans.proofs.Lengths.{refusal-length}
 use Rattle.plans.proofs.Outcomes.{print-refused, print-front}
 use Rattle.plans.proofs.Plan.printed.Statement.{statement}

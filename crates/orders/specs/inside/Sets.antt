@@ -1,4 +1,5 @@
--- Sets of a table's rows as numbers, bit i for row i, and the record of sets: a byte for each.
+-- A promise between functions: sets of a table's rows as numbers, bit i for row i, and the record of sets, a byte for
+-- each.
 use mathlib.Core.Path.{_≡_}
 use mathlib.Core.Bool.{Bool, true, false, _&&_}
 use mathlib.Core.List.{List, [], _∷_, _++_}

@@ -1,4 +1,4 @@
--- What the constructor of a row answers.
+-- A promise between functions: what the constructor of a row answers.
 use Rattle.basics.specs.Basics.{pick}
 use Rattle.rows.specs.declared.Row.{Row}
 use Rattle.rows.specs.declared.Checked.{Checked}

@@ -1,4 +1,4 @@
--- Columns of at most `maxAbove` rows, filled row by row.
+-- A promise between functions: columns of at most `maxAbove` rows, filled row by row.
 use mathlib.Core.Path.{_≡_}
 use mathlib.Core.Bool.{Bool, true, false, _&&_}
 use mathlib.Core.List.{List, [], _∷_}
@@ -11,7 +11,7 @@ use Rattle.responses.specs.declared.Above.{Above}
 use Rattle.responses.specs.declared.Figures.{Figures}
 use Rattle.basics.specs.Basics.{pick}
 use Rattle.responses.specs.Figures.{maxAbove, noFigures, figuresUnder}
-use Rattle.responses.specs.Columns.{rowsAbove}
+use Rattle.responses.specs.inside.Columns.{rowsAbove}
 
 abbrev pub noneAbove : Above
 noneAbove = record {

@@ -1,4 +1,4 @@
--- Rows as numbers, six for each: task, period, worst, best, alpha, beta.
+-- A promise between functions: rows as numbers, six for each: task, period, worst, best, alpha, beta.
 use mathlib.Core.Path.{_≡_}
 use mathlib.Core.List.{List, [], _∷_}
 use Prim.Native.Nat.{ℕ, zero, suc, _+_, _*_}

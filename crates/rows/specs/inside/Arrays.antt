@@ -1,4 +1,4 @@
--- Rows and tasks by value: lists at the front of arrays that have room for a table's rows.
+-- A promise between functions: rows and tasks by value, lists at the front of arrays that have room for a table's rows.
 use mathlib.Core.List.{List, _++_}
 use Prim.Native.Nat.{ℕ, _-_}
 use lib.ListN.{length, take, replicate}

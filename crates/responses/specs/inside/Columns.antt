@@ -1,4 +1,4 @@
--- The rows above a task as columns of numbers.
+-- A promise between functions: the rows above a task as columns of numbers.
 use mathlib.Core.Path.{_≡_}
 use mathlib.Core.Bool.{true}
 use mathlib.Core.List.{List, [], _∷_}

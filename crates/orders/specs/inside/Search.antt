@@ -1,4 +1,4 @@
--- What the search promises: the order chosen by stability, of the first n rows of an array.
+-- A promise between functions: the search finds the order chosen by stability, of the first n rows of an array.
 use mathlib.Core.Path.{_≡_}
 use mathlib.Core.Bool.{Bool, true, false}
 use mathlib.Core.List.{List, [], _∷_, _++_}
@@ -6,10 +6,10 @@ use mathlib.Core.Option.{Option, none, some}
 use Prim.Native.Nat.{ℕ, zero, suc, _-_, _/_, _%_, _^_, _≤_, _<_}
 use lib.ListN.{length, getD, take}
 use Rattle.rows.specs.Rows.{maxTasks, inRange, allRows, rowAt, tasksOf, distinctRows}
-use Rattle.rows.specs.Arrays.{ranking}
+use Rattle.rows.specs.inside.Arrays.{ranking}
 use Rattle.rows.specs.declared.Row.{Row}
 use Rattle.orders.specs.Orders.{Chosen}
-use Rattle.orders.specs.Sets.{isSome, fits, goes, LowestIs, Says, Known, Recorded}
+use Rattle.orders.specs.inside.Sets.{isSome, fits, goes, LowestIs, Says, Known, Recorded}
 use Rattle.orders.specs.Stability.{stable, chosenOrder}
 use Rattle.orders.specs.declared.Answer.{Answer}
 

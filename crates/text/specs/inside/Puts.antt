@@ -1,4 +1,4 @@
--- What a writer promises of the buffer that is lent to it: its text at a place, every other byte as it was.
+-- A promise between functions: a writer puts its text at an offset of a lent buffer, and every other byte is as it was.
 use mathlib.Core.Path.{_≡_}
 use mathlib.Core.List.{List, _++_}
 use Prim.Native.Nat.{ℕ, _+_}
@@ -12,8 +12,3 @@ put at text buffer = take at buffer ++ text ++ drop (at + length text) buffer
 pub record Put (text : List ℕ) (at : ℕ) (buffer buffer′ : List ℕ) (end : ℕ) : Type 0 where
   pub ends : end ≡ at + length text
   pub holds : buffer′ ≡ put at text buffer
-
--- a writer from the start: it says how long the text is
-pub record Wrote (text buffer buffer′ : List ℕ) (long : ℕ) : Type 0 where
-  pub long-is : long ≡ length text
-  pub holds : buffer′ ≡ text ++ drop (length text) buffer

@@ -1,4 +1,4 @@
--- What a program prints of a call's answer.
+-- A promise between functions: what a program prints of a call's answer.
 use mathlib.Core.List.{List}
 use Prim.Native.Nat.{ℕ, zero, suc}
 use lib.ListN.{take}

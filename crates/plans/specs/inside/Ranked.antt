@@ -1,9 +1,9 @@
--- What the code answers of an order: its ranks' text, put at a place, or its first late rank.
+-- A promise between functions: what comes of an order's ranks, their text, put at an offset, or the first late rank.
 use mathlib.Core.Path.{_≡_}
 use mathlib.Core.List.{List}
 use Prim.Native.Nat.{ℕ}
 use Rattle.text.specs.Text.{joined}
-use Rattle.text.specs.Puts.{Put}
+use Rattle.text.specs.inside.Puts.{Put}
 use Rattle.rows.specs.declared.Row.{Row}
 use Rattle.plans.specs.declared.by_rank.RanksPut.{RanksPut}
 use Rattle.plans.specs.Entries.{entries, firstLate}
