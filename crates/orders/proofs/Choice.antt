@@ -1,5 +1,5 @@
 -- The set-by-set choice: what it finds is a possible order that passes, and it finds one where there is one,
--- which is then first by any place that rises along the set. Each by induction on the number of rows.
+-- which is then first by any position that rises along the set. Each by induction on the number of rows.
 use mathlib.Core.Path.{_≡_, refl, ap, ap₂, sym, _∙_, subst}
 use mathlib.Core.Bool.{Bool, true, false, _&&_, _||_, or-true, and-true, and-assoc}
 use mathlib.Core.List.{List, [], _∷_, _++_, append-nil}
@@ -14,7 +14,7 @@ use lib.Seq.{append-snoc}
 use Rattle.rows.specs.declared.Row.{Row}
 use Rattle.basics.proofs.Tests.{test-of, and-left, and-right, and-both}
 use Rattle.orders.specs.Orders as O
-use Rattle.orders.specs.Orders.{Taken, here, later, Possible, nothing, placesUp, notAfter, tried}
+use Rattle.orders.specs.Orders.{Taken, here, later, Possible, nothing, positionsUp, notAfter, tried}
 use Rattle.orders.proofs.Possible.{swapped, taken-length, possible-self, with-lowest, Lowest, lowest-of}
 
 pub answer-of : (o : Option (List Row)) → ((os : List Row) × (o ≡ some os)) ⊎ (o ≡ none)
@@ -40,12 +40,12 @@ module _ (r : Row) (next : Option (List Row)) where
 pub same-some : {xs ys : List Row} → some xs ≡ some ys → xs ≡ ys
 same-some e = cc
 
--- the lowest row's place comes first
-pub places-lowest :
-    (place : Row → ℕ) (os : List Row) (r : Row) →
-    placesUp place (os ++ (r ∷ [])) ≡ place r ∷ placesUp place os
-places-lowest place [] r = refl
-places-lowest place (x ∷ os) r = ap (λ (l : List ℕ). l ++ (place x ∷ [])) (places-lowest place os r)
+-- the lowest row's position comes first
+pub positions-lowest :
+    (position : Row → ℕ) (os : List Row) (r : Row) →
+    positionsUp position (os ++ (r ∷ [])) ≡ position r ∷ positionsUp position os
+positions-lowest position [] r = refl
+positions-lowest position (x ∷ os) r = ap (λ (l : List ℕ). l ++ (position x ∷ [])) (positions-lowest position os r)
 
 pub earlier-first : (x y : ℕ) (xs ys : List ℕ) → x < y → notAfter (x ∷ xs) (y ∷ ys) ≡ true
 earlier-first x y xs ys l = ap (λ (b : Bool). b || (eqb x y && notAfter xs ys)) (lt-ltb x y l)
@@ -56,19 +56,20 @@ same-first x xs ys h = ap₂ (λ (a b : Bool). ltb x x || (a && b)) (eq-eqb x x 
 pub compare : {xs ys xs′ ys′ : List ℕ} → xs ≡ xs′ → ys ≡ ys′ → notAfter xs′ ys′ ≡ true → notAfter xs ys ≡ true
 compare p q h = ap₂ notAfter p q ∙ h
 
--- places rise strictly along a set
+-- positions rise strictly along a set
 abbrev pub Rising : (Row → ℕ) → List Row → Type 0
-Rising place [] = Unit {0}
-Rising place (x ∷ rs) = ((r : Row) (rest : List Row) → Taken r rs rest → place x < place r) × Rising place rs
+Rising position [] = Unit {0}
+Rising position (x ∷ rs) =
+    ((r : Row) (rest : List Row) → Taken r rs rest → position x < position r) × Rising position rs
 
 pub rising-rest :
-    (place : Row → ℕ) {r : Row} {rs rest : List Row} →
+    (position : Row → ℕ) {r : Row} {rs rest : List Row} →
     Taken r rs rest →
-    Rising place rs →
-    Rising place rest
-rising-rest place here up = up .1
-rising-rest place (later t) up =
-    ((λ y more s. up .0 y (swapped t s .between) (swapped t s .second)), rising-rest place t (up .1))
+    Rising position rs →
+    Rising position rest
+rising-rest position here up = up .1
+rising-rest position (later t) up =
+    ((λ y more s. up .0 y (swapped t s .between) (swapped t s .second)), rising-rest position t (up .1))
 
 module _ (test : Row → List Row → List Row → Bool) where
   abbrev passesBetween : List Row → List Row → List Row → Bool
@@ -124,16 +125,16 @@ module _ (test : Row → List Row → List Row → Bool) where
         }
 
     -- a row that goes lowest: the one chosen is it, or stands earlier
-    module _ (place : Row → ℕ) where
+    module _ (position : Row → ℕ) where
       pub record Earlier (before rs : List Row) (r : Row) : Type 0 where
         pub lowest : Row
         pub above : List Row
         pub found : O.lowestOf test order before rs below ≡ some (above ++ (lowest ∷ []))
-        pub earlier : place lowest < place r
+        pub earlier : position lowest < position r
 
       pub picked-first :
           {r : Row} {rs rest : List Row} (before os : List Row) →
-          Rising place rs →
+          Rising position rs →
           Taken r rs rest →
           Goes r (before ++ rest) os →
           (O.lowestOf test order before rs below ≡ some (os ++ (r ∷ []))) ⊎ Earlier before rs r
@@ -233,16 +234,16 @@ module _ (test : Row → List Row → List Row → Bool) where
         subst (λ (l : List Row). Sound l rs below) (sym (p .order-is))
         (sound-lowest below (p .taken) (p .goes .fits) ih)
 
-    module _ (place : Row → ℕ) where
+    module _ (position : Row → ℕ) where
       pub record First (n : ℕ) (rs below ps : List Row) : Type 0 where
         pub order : List Row
         pub found : O.orderFrom test n rs below ≡ some order
-        pub not-after : notAfter (placesUp place order) (placesUp place ps) ≡ true
+        pub not-after : notAfter (positionsUp position order) (positionsUp position ps) ≡ true
 
       pub complete :
           (n : ℕ) (rs below ps : List Row) →
           length rs ≡ n →
-          Rising place rs →
+          Rising position rs →
           Possible ps rs →
           passesBetween [] ps below ≡ true →
           First n rs below ps
@@ -252,24 +253,25 @@ module _ (test : Row → List Row → List Row → Bool) where
           let r = l .lowest in
           let both = lowest-sound below l h in
           let short : length (l .rest) ≡ n = omega (arith, taken-length (l .taken)) in
-          let ih = complete n (l .rest) (r ∷ below) (l .above) short (rising-rest place (l .taken) up) (l .possible)
+          let ih = complete n (l .rest) (r ∷ below) (l .above) short (rising-rest position (l .taken) up) (l .possible)
           (both .1) in
-          let places : placesUp place ps ≡ place r ∷ placesUp place (l .above) =
-          ap (placesUp place) (l .order-is) ∙ places-lowest place (l .above) r in
+          let positions : positionsUp position ps ≡ position r ∷ positionsUp position (l .above) =
+          ap (positionsUp position) (l .order-is) ∙ positions-lowest position (l .above) r in
           let goes : Goes (O.orderFrom test n) below r (l .rest) (ih .order) =
           record { fits = both .0; above = ih .found } in
           ⊎-elim
           (λ f. record {
             order = ih .order ++ (r ∷ []);
             found = f;
-            not-after = compare (places-lowest place (ih .order) r) places
-                (same-first (place r) (placesUp place (ih .order)) (placesUp place (l .above)) (ih .not-after));
+            not-after = compare (positions-lowest position (ih .order) r) positions
+                (same-first (position r) (positionsUp position (ih .order)) (positionsUp position (l .above))
+                (ih .not-after));
           })
           (λ f. record {
             order = f .above ++ (f .lowest ∷ []);
             found = f .found;
-            not-after = compare (places-lowest place (f .above) (f .lowest)) places
-                (earlier-first (place (f .lowest)) (place r) (placesUp place (f .above)) (placesUp place (l .above))
-                (f .earlier));
+            not-after = compare (positions-lowest position (f .above) (f .lowest)) positions
+                (earlier-first (position (f .lowest)) (position r) (positionsUp position (f .above))
+                (positionsUp position (l .above)) (f .earlier));
           })
-          (picked-first (O.orderFrom test n) below place [] (ih .order) up (l .taken) goes)
+          (picked-first (O.orderFrom test n) below position [] (ih .order) up (l .taken) goes)

@@ -47,7 +47,7 @@ module _ (rows : List Row) (sets : List ℕ) where
       let above = chainTasks rows sets k (m - 2 ^ i) in
       omega (arith, length-append above (rowAt rows i .task ∷ []), chain-length k (m - 2 ^ i))
 
-  -- the lowest row's task goes below those of the rest, in an array's next place
+  -- the lowest row's task goes below those of the rest, next in the array
   pub chain-lowest :
       (m k : ℕ) (tasks filled : List ℕ) (r : Row) →
       0 < k →

@@ -51,7 +51,7 @@ put-next ns zs rows i each put k h = elim (ℕ-discrete k i) [
   | no ne ↦ put .others k ne ∙ each k (omega (arith, h, ne))
 ]
 
--- ---- numbers written one after another, from place at + d on
+-- ---- numbers written one after another, from index at + d on
 abbrev written : List ℕ → ℕ → ℕ → List ℕ → List ℕ
 written ns at d [] = ns
 written ns at d (v ∷ vs) = written (set ns (at + d) v) at (suc d) vs

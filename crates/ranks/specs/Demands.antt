@@ -15,7 +15,7 @@ use Rattle.tables.specs.Reasons.{Stage, at-end, Reaches, Refused}
 use Rattle.tables.specs.Claims.{Read}
 use Rattle.responses.specs.Figures.{isLate}
 use Rattle.responses.specs.Claims.{Figured}
-use Rattle.orders.specs.Orders.{Possible, placeIn, placesUp, notAfter, Chosen}
+use Rattle.orders.specs.Orders.{Possible, positionIn, positionsUp, notAfter, Chosen}
 use Rattle.orders.specs.Stability.{stable, orderStable}
 use Rattle.boards.specs.Claims.{LastsInRange, Kept, NoneLate}
 use Rattle.boards.specs.Runs.{BoardRuns}
@@ -73,7 +73,7 @@ pub record ByRule (rows order : List Row) : Type 0 where
   pub is-stable : orderStable order ≡ true
   pub not-after :
       (os : List Row) → Possible os rows → orderStable os ≡ true
-      → notAfter (placesUp (placeIn rows) order) (placesUp (placeIn rows) os) ≡ true
+      → notAfter (positionsUp (positionIn rows) order) (positionsUp (positionIn rows) os) ≡ true
 
 -- an accepted table: "no order" exactly where every order fails; else the plan of the order that the rule chooses
 pub record TablePlan (room board : ℕ) (rows : List Row) (w : Outcome) : Type 0 where

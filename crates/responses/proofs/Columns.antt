@@ -17,7 +17,7 @@ use Rattle.responses.specs.Figures.{worstLoad, bestLoad, latest, earlies
 use Rattle.responses.proofs.Sums.{term-max}
 use Rattle.responses.proofs.Responses.{responses}
 
--- from place i on there is the task at i, and what stands after it
+-- from index i on there is the task at i, and what stands after it
 pub loads-step : (n i : ℕ) (ps cs : List ℕ) → i < n
     → loadsFrom i (n - i) ps cs ≡ load (getD ps i 0) (getD cs i 0) ∷ loadsFrom (i + 1) (n - (i + 1)) ps cs
 unfolding loadsFrom
@@ -79,7 +79,7 @@ module _ (n : ℕ) (ps ws bs : List ℕ) where
   pub best-loads : loads n ps bs ≡ map bestLoad (rowsAbove n ps ws bs)
   best-loads = rows-loads bestLoad bs ps ws bs (λ j. refl) n 0
 
--- the times of the row at place j
+-- the times of the row at index j
 times-from : (ps ws bs : List ℕ) (n i j : ℕ) → j < n → allRows timesInRange (rowsFrom i n ps ws bs) ≡ true
     → Times (rowAbove (getD ps (i + j) 0) (getD ws (i + j) 0) (getD bs (i + j) 0))
 unfolding rowsFrom

@@ -13,7 +13,7 @@ use Rattle.responses.specs.Figures.{figuresUnder}
 use Rattle.responses.specs.inside.Columns.{rowsFrom, rowsAbove, Posed}
 use Rattle.responses.proofs.Gathered.{bare, rows-kept, rows-more, held-times, held-figures}
 
--- the first n places of the columns hold the times of the rows
+-- the first n numbers of each column are the times of the rows
 pub record Filled (rs : List Row) (ps ws bs : List ℕ) (n : ℕ) : Type 0 where
   pub periods-long : length ps ≡ maxTasks
   pub worsts-long : length ws ≡ maxTasks

@@ -54,7 +54,7 @@ module _ (t : Row) {xs ys : List Row} (s : Same xs ys) where
   figures-same =
       ap₂ (λ (w e : ℕ). pick (eqb w 0) lateFigures (figuresAt w e (marginAt t w e))) latest-same earliest-same
 
--- ---- the same rows in another sequence: whatever is made row by row, by steps that can change places
+-- ---- the same rows in another sequence: whatever is made row by row, by steps that can be swapped
 module _ {A : Type 0} (F : List Row → A) (step : Row → A → A)
     (is : (r : Row) (rs : List Row) → F (r ∷ rs) ≡ step r (F rs))
     (swap : (r q : Row) (a : A) → step r (step q a) ≡ step q (step r a)) where

@@ -1,5 +1,5 @@
 -- Writing one text after another is writing both: what a writer's proof cites for each of its calls.
--- A text put at a place splits the buffer in three, and the next text starts where the first ends.
+-- A text put at an offset splits the buffer in three, and the next text starts where the first ends.
 use mathlib.Core.Path.{_≡_, refl, sym, ap, ap₂, _∙_}
 use mathlib.Core.List.{List, [], _∷_, _++_, append-assoc, append-nil}
 use Prim.Native.Nat.{ℕ, _+_, _≤_}

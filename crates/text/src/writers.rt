@@ -1,4 +1,4 @@
-// Text out: each writer puts its text at a place of a lent buffer and says where the text ends.
+// Text out: each writer puts its text at an offset of a lent buffer and says where the text ends.
 ghost use mathlib.Core.Path.{_≡_};
 ghost use Prim.Native.Nat.{_+_, _≤_};
 ghost use lib.IntN.{natAbs};

@@ -8,7 +8,7 @@ use Rattle.rows.specs.Rows.{maxTicks, timesInRange, inRange, allRows}
 use Rattle.rows.specs.declared.Row.{Row}
 use Rattle.responses.specs.Interference.{Load, load}
 
--- n tasks of two columns, from place i on
+-- n tasks of two columns, from index i on
 unfoldable pub loadsFrom : ℕ → ℕ → List ℕ → List ℕ → List Load
 loadsFrom i zero ps cs = []
 loadsFrom i (suc n) ps cs = load (getD ps i 0) (getD cs i 0) ∷ loadsFrom (suc i) n ps cs

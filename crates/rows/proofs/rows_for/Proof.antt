@@ -61,7 +61,7 @@ module _ (ts : List ℕ) (rs found : List Row) (k : ℕ) (so : Found ts rs found
     held = ap₂ (λ l i. set l i r) (so .held) (sym many) ∙ padded-next noRow r before (omega (arith, many)) ∙ next;
   }
 
-  -- a task that has no row leaves its place as it is
+  -- a task that has no row leaves the array as it is
   found-none : noRow ≡ r → Found ts rs found (suc k)
   found-none e = record { held = so .held ∙ padded-nothing noRow r before (omega (arith, many)) e ∙ next }
 
