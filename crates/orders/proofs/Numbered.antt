@@ -8,16 +8,16 @@ use lib.ListN.{length, getD, take, set, length-set}
 use lib.Seq.{getD-take, length-take-le, ext-getD, getD-set-same, getD-set-other}
 use Rattle.rows.specs.Rows.{maxTasks, noRow, rowAt}
 use Rattle.rows.specs.declared.Row.{Row}
-use Rattle.orders.specs.inside.Numbers.{rowIn, rowsFrom, rowsIn, RowPut}
+use Rattle.orders.specs.inside.Numbers.{rowNumbers, rowIn, rowsInFrom, rowsIn, RowPut}
 
 -- ---- the rows read off
-from-length : (ns : List ℕ) (i k : ℕ) → length (rowsFrom ns i k) ≡ k
-unfolding rowsFrom
+from-length : (ns : List ℕ) (i k : ℕ) → length (rowsInFrom ns i k) ≡ k
+unfolding rowsInFrom
 from-length ns i zero = refl
 from-length ns i (suc k) = ap suc (from-length ns (suc i) k)
 
-from-at : (ns : List ℕ) (i k j : ℕ) → j < k → rowAt (rowsFrom ns i k) j ≡ rowIn ns (i + j)
-unfolding rowsFrom
+from-at : (ns : List ℕ) (i k j : ℕ) → j < k → rowAt (rowsInFrom ns i k) j ≡ rowIn ns (i + j)
+unfolding rowsInFrom
 from-at ns i zero j h = absurd (omega arith)
 from-at ns i (suc k) zero h = ap (rowIn ns) (omega arith)
 from-at ns i (suc k) (suc j) h = from-at ns (suc i) k j (omega arith) ∙ ap (rowIn ns) (omega arith)
@@ -85,16 +85,16 @@ written-there ns at d (v ∷ vs) (suc k) fits l =
 abbrev after-task : Row → List ℕ
 after-task r = r .period ∷ r .worst ∷ r .best ∷ r .alpha ∷ r .beta ∷ []
 
-pub row-put : (ns : List ℕ) (i : ℕ) (r : Row) → 6 * i + 5 < length ns
-    → RowPut ns i r (written (set ns (6 * i) (r .task)) (6 * i) 1 (after-task r))
+pub row-put : (ns : List ℕ) (i : ℕ) (r : Row) → rowNumbers * i + 5 < length ns
+    → RowPut ns i r (written (set ns (rowNumbers * i) (r .task)) (rowNumbers * i) 1 (after-task r))
 row-put ns i r fits =
-    let at = 6 * i in
+    let at = rowNumbers * i in
     let ms = set ns at (r .task) in
     let vs = after-task r in
     let long = length-set ns at (r .task) in
     let there : (k : ℕ) → k < 5 → getD (written ms at 1 vs) (at + (1 + k)) 0 ≡ getD vs k 0 =
     λ k l. written-there ms at 1 vs k (omega (arith, long)) l in
-    let others : (j : ℕ) → ((k : ℕ) → k < 6 → j ≡ at + k → ⊥) → getD (written ms at 1 vs) j 0 ≡ getD ns j 0 =
+    let others : (j : ℕ) → ((k : ℕ) → k < rowNumbers → j ≡ at + k → ⊥) → getD (written ms at 1 vs) j 0 ≡ getD ns j 0 =
     λ j out. written-others ms at 1 vs j (λ k l m. out k m)
     ∙ getD-set-other ns at j (r .task) 0 (λ q. out 0 (omega arith) (omega (arith, q))) in
     record {
@@ -107,12 +107,12 @@ row-put ns i r fits =
         there 4 (omega arith),
       );
       others = λ k ne. rw (
-        others (6 * k) (λ d l q. ne (omega (arith, q))),
-        others (6 * k + 1) (λ d l q. ne (omega (arith, q))),
-        others (6 * k + 2) (λ d l q. ne (omega (arith, q))),
-        others (6 * k + 3) (λ d l q. ne (omega (arith, q))),
-        others (6 * k + 4) (λ d l q. ne (omega (arith, q))),
-        others (6 * k + 5) (λ d l q. ne (omega (arith, q))),
+        others (rowNumbers * k) (λ d l q. ne (omega (arith, q))),
+        others (rowNumbers * k + 1) (λ d l q. ne (omega (arith, q))),
+        others (rowNumbers * k + 2) (λ d l q. ne (omega (arith, q))),
+        others (rowNumbers * k + 3) (λ d l q. ne (omega (arith, q))),
+        others (rowNumbers * k + 4) (λ d l q. ne (omega (arith, q))),
+        others (rowNumbers * k + 5) (λ d l q. ne (omega (arith, q))),
       );
       long = written-long ms at 1 vs ∙ long;
     }

@@ -11,7 +11,7 @@ use Rattle.rows.specs.Rows.{maxTicks, timesInRange, allRows}
 use Rattle.rows.specs.declared.Row.{Row}
 use Rattle.rows.proofs.Limits.{Times, times, in-range-times, head-passes, tail-passes}
 use Rattle.responses.specs.Interference.{ceiling, Load, load, interference, leastFixed, largestFixed}
-use Rattle.responses.specs.inside.Columns.{loadsFrom, loads, rowAbove, rowsFrom, rowsAbove}
+use Rattle.responses.specs.inside.Columns.{loadsFrom, loads, rowAbove, rowsAboveFrom, rowsAbove}
 use Rattle.responses.specs.inside.Columns.{columnsMax, Columns, Posed}
 use Rattle.responses.specs.Figures.{worstLoad, bestLoad, latest, earliest}
 use Rattle.responses.proofs.Sums.{term-max}
@@ -67,8 +67,8 @@ module _ (n : ℕ) (ps cs : List ℕ) (k : Columns n ps cs) where
 -- the loads of the rows are two of the columns
 rows-loads : (f : Row → Load) (cs ps ws bs : List ℕ)
     → ((j : ℕ) → f (rowAbove (getD ps j 0) (getD ws j 0) (getD bs j 0)) ≡ load (getD ps j 0) (getD cs j 0))
-    → (n i : ℕ) → loadsFrom i n ps cs ≡ map f (rowsFrom i n ps ws bs)
-unfolding loadsFrom rowsFrom
+    → (n i : ℕ) → loadsFrom i n ps cs ≡ map f (rowsAboveFrom i n ps ws bs)
+unfolding loadsFrom rowsAboveFrom
 rows-loads f cs ps ws bs h zero i = refl
 rows-loads f cs ps ws bs h (suc n) i = ap₂ _∷_ (sym (h i)) (rows-loads f cs ps ws bs h n (suc i))
 
@@ -80,17 +80,18 @@ module _ (n : ℕ) (ps ws bs : List ℕ) where
   best-loads = rows-loads bestLoad bs ps ws bs (λ j. refl) n 0
 
 -- the times of the row at index j
-times-from : (ps ws bs : List ℕ) (n i j : ℕ) → j < n → allRows timesInRange (rowsFrom i n ps ws bs) ≡ true
+times-from : (ps ws bs : List ℕ) (n i j : ℕ) → j < n → allRows timesInRange (rowsAboveFrom i n ps ws bs) ≡ true
     → Times (rowAbove (getD ps (i + j) 0) (getD ws (i + j) 0) (getD bs (i + j) 0))
-unfolding rowsFrom
+unfolding rowsAboveFrom
 times-from ps ws bs zero i j l h = absurd (omega arith)
 times-from ps ws bs (suc n) i zero l h =
     let r = rowAbove (getD ps i 0) (getD ws i 0) (getD bs i 0) in
-    rw (add-zero i) (times r (head-passes timesInRange r (rowsFrom (suc i) n ps ws bs) h))
+    rw (add-zero i) (times r (head-passes timesInRange r (rowsAboveFrom (suc i) n ps ws bs) h))
 times-from ps ws bs (suc n) i (suc j) l h =
     let r = rowAbove (getD ps i 0) (getD ws i 0) (getD bs i 0) in
     let e : i + suc j ≡ suc i + j = omega arith in
-    rw e (times-from ps ws bs n (suc i) j (omega arith) (tail-passes timesInRange r (rowsFrom (suc i) n ps ws bs) h))
+    let rest = tail-passes timesInRange r (rowsAboveFrom (suc i) n ps ws bs) h in
+    rw e (times-from ps ws bs n (suc i) j (omega arith) rest)
 
 module _ {t : Row} {n : ℕ} {ps ws bs : List ℕ} (p : Posed t n ps ws bs) where
   times-at : (j : ℕ) → j < n → Times (rowAbove (getD ps j 0) (getD ws j 0) (getD bs j 0))

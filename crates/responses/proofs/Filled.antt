@@ -10,7 +10,7 @@ use Rattle.rows.specs.Rows.{maxTasks, inRange, allRows}
 use Rattle.rows.specs.declared.Row.{Row}
 use Rattle.responses.specs.declared.Figures.{Figures}
 use Rattle.responses.specs.Figures.{figuresUnder}
-use Rattle.responses.specs.inside.Columns.{rowsFrom, rowsAbove, Posed}
+use Rattle.responses.specs.inside.Columns.{rowsAboveFrom, rowsAbove, Posed}
 use Rattle.responses.proofs.Gathered.{bare, rows-kept, rows-more, held-times, held-figures}
 
 -- the first n numbers of each column are the times of the rows
@@ -22,7 +22,7 @@ pub record Filled (rs : List Row) (ps ws bs : List ℕ) (n : ℕ) : Type 0 where
 
 pub filled-none : (ps ws bs : List ℕ) → length ps ≡ maxTasks → length ws ≡ maxTasks → length bs ≡ maxTasks
     → Filled [] ps ws bs 0
-unfolding rowsFrom
+unfolding rowsAboveFrom
 filled-none ps ws bs p w b = record { periods-long = p; worsts-long = w; bests-long = b; rows-are = refl }
 
 module _ {rs : List Row} {ps ws bs : List ℕ} {n : ℕ} (f : Filled rs ps ws bs n) where

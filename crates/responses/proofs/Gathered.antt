@@ -21,28 +21,28 @@ use Rattle.responses.specs.declared.Figures.{Figures}
 use Rattle.responses.specs.Interference.{Load, interference}
 use Rattle.responses.specs.Figures.{worstLoad, bestLoad, maxAbove, noFigures, figuresUnder, figuresOf}
 use Rattle.responses.specs.Claims.{FiguresSay}
-use Rattle.responses.specs.inside.Columns.{rowAbove, rowsFrom, rowsAbove}
+use Rattle.responses.specs.inside.Columns.{rowAbove, rowsAboveFrom, rowsAbove}
 use Rattle.responses.specs.inside.Gathered.{noneAbove, stored, refused, fits, addRow}
-use Rattle.responses.specs.inside.Gathered.{addRows, rowsIn, Sound, figuresIn}
+use Rattle.responses.specs.inside.Gathered.{addRows, rowsHeld, Sound, figuresIn}
 use Rattle.responses.proofs.Same.{Same, figures-same, figures-permuted}
 use Rattle.responses.proofs.Responses.{posed-times, figured}
 
 -- ---- answers, as the code makes them: b is what it found of the row's range
 module _ (t : Row) (a : Above) (b : Bool) (e : b ≡ inRange t) where
-  chosen : (c : Bool) → (b && a .posed) ≡ c → figuresIn t a ≡ pick c (figuresUnder t (rowsIn a)) noFigures
+  chosen : (c : Bool) → (b && a .posed) ≡ c → figuresIn t a ≡ pick c (figuresUnder t (rowsHeld a)) noFigures
   chosen c h =
-      ap (λ (d : Bool). pick d (figuresUnder t (rowsIn a)) noFigures) (ap (λ (d : Bool). d && a .posed) (sym e) ∙ h)
+      ap (λ (d : Bool). pick d (figuresUnder t (rowsHeld a)) noFigures) (ap (λ (d : Bool). d && a .posed) (sym e) ∙ h)
 
-  pub posed-answer : (x : Figures) → (b && a .posed) ≡ true → x ≡ figuresUnder t (rowsIn a) → x ≡ figuresIn t a
+  pub posed-answer : (x : Figures) → (b && a .posed) ≡ true → x ≡ figuresUnder t (rowsHeld a) → x ≡ figuresIn t a
   posed-answer x h k = k ∙ sym (chosen true h)
 
   pub no-answer : (x : Figures) → (b && a .posed) ≡ false → x ≡ noFigures → x ≡ figuresIn t a
   no-answer x h k = k ∙ sym (chosen false h)
 
 -- ---- a row stored after n others
-rows-end : (ps ws bs : List ℕ) (n i : ℕ) → rowsFrom i (suc n) ps ws bs
-    ≡ rowsFrom i n ps ws bs ++ (rowAbove (getD ps (i + n) 0) (getD ws (i + n) 0) (getD bs (i + n) 0) ∷ [])
-unfolding rowsFrom
+rows-end : (ps ws bs : List ℕ) (n i : ℕ) → rowsAboveFrom i (suc n) ps ws bs
+    ≡ rowsAboveFrom i n ps ws bs ++ (rowAbove (getD ps (i + n) 0) (getD ws (i + n) 0) (getD bs (i + n) 0) ∷ [])
+unfolding rowsAboveFrom
 rows-end ps ws bs zero i = rw (add-zero i)
 rows-end ps ws bs (suc n) i =
     let e : i + suc n ≡ suc i + n = omega arith in
@@ -50,8 +50,8 @@ rows-end ps ws bs (suc n) i =
 
 module _ (p w b : ℕ) (ps ws bs : List ℕ) where
   pub rows-kept : (n i j : ℕ) → i + n ≤ j
-      → rowsFrom i n (set ps j p) (set ws j w) (set bs j b) ≡ rowsFrom i n ps ws bs
-  unfolding rowsFrom
+      → rowsAboveFrom i n (set ps j p) (set ws j w) (set bs j b) ≡ rowsAboveFrom i n ps ws bs
+  unfolding rowsAboveFrom
   rows-kept zero i j h = refl
   rows-kept (suc n) i j h =
       let other : i ≡ j → ⊥ = λ e. omega arith in
@@ -105,7 +105,7 @@ room-refused a m = record {
   few = m .few;
 }
 
-rows-stored : (a : Above) (r : Row) → Room a → a .count < maxAbove → rowsIn (stored a r) ≡ rowsIn a ++ (bare r ∷ [])
+rows-stored : (a : Above) (r : Row) → Room a → a .count < maxAbove → rowsHeld (stored a r) ≡ rowsHeld a ++ (bare r ∷ [])
 rows-stored a r m h =
     let n = a .count in
     rw (add-one n)
@@ -118,7 +118,7 @@ record Holds (a : Above) (ys : List Row) (z : Above) : Type 0 where
   in-range : allRows inRange ys ≡ true
   counted : z .count ≡ a .count + length ys
   few : z .count ≤ maxAbove
-  rows-are : rowsIn z ≡ rowsIn a ++ map bare ys
+  rows-are : rowsHeld z ≡ rowsHeld a ++ map bare ys
 
 holds-none : (a : Above) → Room a → a .posed ≡ true → Holds a [] a
 holds-none a m h = record {
@@ -126,7 +126,7 @@ holds-none a m h = record {
   in-range = refl;
   counted = omega arith;
   few = m .few;
-  rows-are = sym (append-nil (rowsIn a));
+  rows-are = sym (append-nil (rowsHeld a));
 }
 
 holds-stored : (a : Above) (r : Row) (rs : List Row) (z : Above) → Room a → fits a r ≡ true → Holds (stored a r) rs z
@@ -144,7 +144,7 @@ holds-stored a r rs z m e h =
       counted = omega (arith, h .counted);
       few = h .few;
       rows-are = h .rows-are
-          ∙ (ap (λ (xs : List Row). xs ++ map bare rs) q ∙ append-assoc (rowsIn a) (bare r ∷ []) (map bare rs));
+          ∙ (ap (λ (xs : List Row). xs ++ map bare rs) q ∙ append-assoc (rowsHeld a) (bare r ∷ []) (map bare rs));
     }
 
 holds : (ys : List Row) (a : Above) → Room a → addRows a ys .posed ≡ true → Holds a ys (addRows a ys)
@@ -213,8 +213,8 @@ held-times ys e ok = ap (allRows timesInRange) e ∙ bare-times ys ∙ all-times
 pub held-figures : (t : Row) {xs : List Row} (ys : List Row) → xs ≡ map bare ys → figuresUnder t xs ≡ figuresUnder t ys
 held-figures t ys e = ap (figuresUnder t) e ∙ figures-same t (bare-same ys)
 
-rows-held : (ys : List Row) → addRows noneAbove ys .posed ≡ true → rowsIn (addRows noneAbove ys) ≡ map bare ys
-unfolding rowsFrom
+rows-held : (ys : List Row) → addRows noneAbove ys .posed ≡ true → rowsHeld (addRows noneAbove ys) ≡ map bare ys
+unfolding rowsAboveFrom
 rows-held ys e = holds ys noneAbove room-none e .rows-are
 
 pub gathered-sound : (ys : List Row) → Sound (addRows noneAbove ys)

@@ -21,12 +21,12 @@ rowIn ns i =
     (getD ns (at + 5) 0)
 
 -- k rows from row i on, and as many rows as a table can have
-unfoldable pub rowsFrom : List ℕ → ℕ → ℕ → List Row
-rowsFrom ns i zero = []
-rowsFrom ns i (suc k) = rowIn ns i ∷ rowsFrom ns (suc i) k
+unfoldable pub rowsInFrom : List ℕ → ℕ → ℕ → List Row
+rowsInFrom ns i zero = []
+rowsInFrom ns i (suc k) = rowIn ns i ∷ rowsInFrom ns (suc i) k
 
 abbrev pub rowsIn : List ℕ → List Row
-rowsIn ns = rowsFrom ns 0 maxTasks
+rowsIn ns = rowsInFrom ns 0 maxTasks
 
 -- row i is r, the others are as they were, and there are as many numbers
 pub record RowPut (ns : List ℕ) (i : ℕ) (r : Row) (ns′ : List ℕ) : Type 0 where

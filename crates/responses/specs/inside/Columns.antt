@@ -20,13 +20,14 @@ loads n ps cs = loadsFrom 0 n ps cs
 abbrev pub rowAbove : ℕ → ℕ → ℕ → Row
 rowAbove p w b = record { task = 0; period = p; worst = w; best = b; alpha = 0; beta = 0 }
 
-unfoldable pub rowsFrom : ℕ → ℕ → List ℕ → List ℕ → List ℕ → List Row
-rowsFrom i zero ps ws bs = []
-rowsFrom i (suc n) ps ws bs =
-    rowAbove (getD ps i 0) (getD ws i 0) (getD bs i 0) ∷ rowsFrom (suc i) n ps ws bs
+-- the n rows above that three columns hold, from index i on
+unfoldable pub rowsAboveFrom : ℕ → ℕ → List ℕ → List ℕ → List ℕ → List Row
+rowsAboveFrom i zero ps ws bs = []
+rowsAboveFrom i (suc n) ps ws bs =
+    rowAbove (getD ps i 0) (getD ws i 0) (getD bs i 0) ∷ rowsAboveFrom (suc i) n ps ws bs
 
 abbrev pub rowsAbove : ℕ → List ℕ → List ℕ → List ℕ → List Row
-rowsAbove n ps ws bs = rowsFrom 0 n ps ws bs
+rowsAbove n ps ws bs = rowsAboveFrom 0 n ps ws bs
 
 -- the most tasks that columns hold: with them no sum overflows
 abbrev pub columnsMax : ℕ

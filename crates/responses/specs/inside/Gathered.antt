@@ -46,13 +46,14 @@ abbrev pub addRows : Above → List Row → Above
 addRows a [] = a
 addRows a (r ∷ rs) = addRows (addRow a r) rs
 
-abbrev pub rowsIn : Above → List Row
-rowsIn a = rowsAbove (a .count) (a .periods) (a .worsts) (a .bests)
+-- the rows that columns hold
+abbrev pub rowsHeld : Above → List Row
+rowsHeld a = rowsAbove (a .count) (a .periods) (a .worsts) (a .bests)
 
 -- columns that are posed hold rows whose times are in range
 pub record Sound (a : Above) : Type 0 where
   pub few : a .posed ≡ true → a .count ≤ maxAbove
-  pub times-in-range : a .posed ≡ true → allRows timesInRange (rowsIn a) ≡ true
+  pub times-in-range : a .posed ≡ true → allRows timesInRange (rowsHeld a) ≡ true
 
 abbrev pub figuresIn : Row → Above → Figures
-figuresIn t a = pick (inRange t && a .posed) (figuresUnder t (rowsIn a)) noFigures
+figuresIn t a = pick (inRange t && a .posed) (figuresUnder t (rowsHeld a)) noFigures
