@@ -1,7 +1,7 @@
 -- The order chosen: why it is possible, passes and is first by the rule, for every test by sets; stability is one; and
 -- how a record of sets finds it.
 pub mod Possible
-pub mod Choice
+pub mod Choosing
 pub mod Rule
 pub mod Stable
 pub mod Tasks

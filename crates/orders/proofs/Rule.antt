@@ -17,8 +17,8 @@ use Rattle.basics.proofs.Tests.{test-of, false-of, and-left, and-right}
 use Rattle.orders.specs.Orders as O
 use Rattle.orders.specs.Orders.{Taken, here, later, Possible, positionIn, positionsUp, notAfter}
 use Rattle.orders.proofs.Possible.{taken-length, possible-length, lowest-of}
-use Rattle.orders.proofs.Choice.{answer-of, Rising, rising-rest, same-some, positions-lowest, compare}
-use Rattle.orders.proofs.Choice.{Sound, sound, First, complete}
+use Rattle.orders.proofs.Choosing.{some-or-none, Rising, rising-rest, same-some, positions-lowest, compare}
+use Rattle.orders.proofs.Choosing.{Sound, sound, First, complete}
 
 -- ---- positions in a table
 abbrev position-if : Bool → ℕ → ℕ
@@ -152,7 +152,7 @@ module _ (test : Row → List Row → List Row → Bool) (by-sets : O.BySets tes
   unfolding O.overSet
   chosen table d = record {
     none-passes = λ h os p. false-of (O.passes test os) (λ s. not-some (sym h ∙ first-of os p s .found));
-    none-only = λ h. elim (answer-of (O.orderOf test table)) [
+    none-only = λ h. elim (some-or-none (O.orderOf test table)) [
       | inl a ↦ absurd (true≢false (sym (good (a .0) (a .1) .passing) ∙ h (a .0) (good (a .0) (a .1) .possible)))
       | inr e ↦ e
     ];

@@ -44,17 +44,17 @@ pub struct Entry {
 }
 
 // What a call returns. Number: 0, or the refusal; place: its line or rank; long: bytes written.
-pub struct Plan {
+pub struct Answer {
     pub number: u8,
     pub place: u32,
     pub long: u32,
 }
 
-impl Plan {
+impl Answer {
     pub fn refused(number: u8, place: u32) -> Self
         ensures { λ r. ⌜ r ≡ result (refuses number place) ⌝ }
     {
-        Plan {
+        Answer {
             number,
             place,
             long: 0,
@@ -113,7 +113,7 @@ fn put_refusal(out: &mut [u8], number: u8, place: u32) -> usize
 
 // The plan of the first n rows as an order, highest rank first: refusal 7 where one is late, 9 where it does not fit.
 // A plan is written whole in a buffer of the call's own, so that a refusal leaves out as it was.
-pub fn plan_order(out: &mut [u8], board: u16, rows: [Row; MAX_TASKS], n: usize) -> Plan
+pub fn plan_order(out: &mut [u8], board: u16, rows: [Row; MAX_TASKS], n: usize) -> Answer
     requires { ⌜ (n ≤ maxTasks) × (allRows inRange (take n rows) ≡ true) ⌝ }
     ensures { λ r. ⌜ Written (ifInTime (length (now (out .entry))) board (take n rows))
         (now (out .entry)) (now (out .exit)) r ⌝ }
@@ -123,16 +123,16 @@ pub fn plan_order(out: &mut [u8], board: u16, rows: [Row; MAX_TASKS], n: usize) 
     let ranks = by_rank::put_order(&mut text, at, rows, n);
     let late = ranks.late;
     if late != 0 {
-        return Plan::refused(7, late);
+        return Answer::refused(7, late);
     }
     let long = ranks.end;
     let room = out.len();
     if room < long {
-        return Plan::refused(9, 0);
+        return Answer::refused(9, 0);
     }
     put_bytes(out, 0, &text[..long]);
     let written = long as u32;
-    Plan {
+    Answer {
         number: 0,
         place: 0,
         long: written,

@@ -20,11 +20,11 @@ use Rattle.tables.specs.declared.Reading.{Reading}
 use Rattle.tables.specs.Tables.{Answer, readTable}
 use Rattle.tables.specs.Readings.{reading}
 use Rattle.tables.proofs.Reasons.{read}
-use Rattle.orders.specs.declared.Answer as Found
+use Rattle.orders.specs.declared.Choice.{Choice}
 use Rattle.orders.specs.inside.Sets.{isSome}
 use Rattle.orders.specs.Stability.{chosenOrder}
 use Rattle.orders.specs.Orders.{Possible}
-use Rattle.orders.specs.inside.Search.{tasksIn, answerOf, Answered}
+use Rattle.orders.specs.inside.Search.{tasksIn, choiceOf, Chooses}
 use Rattle.orders.proofs.Possible.{possible-length}
 use Rattle.orders.proofs.Scan.{some-of}
 use Rattle.orders.proofs.Tasks.{rows-for}
@@ -48,7 +48,7 @@ front-of zs order n e many = ap₂ take (sym many) e ∙ padded-front noRow orde
 
 -- ---- the planner: what the search found
 module _ (text : List ℕ) (r : Reading) (is : r ≡ reading (readTable false text)) (ok : Accepts false text)
-    (a : Found.Answer) (found : Answered (take (r .table .count) (r .table .rows)) a) where
+    (a : Choice) (found : Chooses (take (r .table .count) (r .table .rows)) a) where
   abbrev answer : Answer
   answer = readTable false text
 
@@ -58,11 +58,11 @@ module _ (text : List ℕ) (r : Reading) (is : r ≡ reading (readTable false te
   front : take n (r .table .rows) ≡ answer .rows
   front = rows-front false text r is
 
-  found-as : a ≡ answerOf (chosenOrder (answer .rows))
-  found-as = found .answer ∙ ap (λ (l : List Row). answerOf (chosenOrder l)) front
+  found-as : a ≡ choiceOf (chosenOrder (answer .rows))
+  found-as = found .choice-is ∙ ap (λ (l : List Row). choiceOf (chosenOrder l)) front
 
   pub found-is : a .found ≡ isSome (chosenOrder (answer .rows))
-  found-is = ap (λ (x : Found.Answer). x .found) found-as
+  found-is = ap (λ (x : Choice). x .found) found-as
 
   no-order : (o : Option (List Row)) → false ≡ isSome o → o ≡ none
   no-order none e = refl
@@ -83,7 +83,7 @@ module _ (text : List ℕ) (r : Reading) (is : r ≡ reading (readTable false te
 
     order-is : a .order ≡ ranking (tasksOf order)
     order-is =
-        ap (λ (x : Found.Answer). x .order) found-as
+        ap (λ (x : Choice). x .order) found-as
         ∙ ap (λ (o : Option (List Row)). ranking (tasksIn o)) (some-order .1)
 
     possible : Possible order (answer .rows)

@@ -22,7 +22,7 @@ use Rattle.tables.proofs.Reasons.{read}
 use Rattle.responses.specs.Figures.{isLate, margin, isStable}
 use Rattle.orders.specs.Orders.{Chosen}
 use Rattle.orders.specs.Stability.{stable, chosenOrder}
-use Rattle.orders.proofs.Choice.{answer-of}
+use Rattle.orders.proofs.Choosing.{some-or-none}
 use Rattle.orders.proofs.Possible.{possible-length, possible-passes}
 use Rattle.orders.proofs.Stable.{stable-at, chosen}
 use Rattle.boards.specs.Claims.{NoneLate}
@@ -156,7 +156,7 @@ module _ (text : List ℕ) where
 
       -- the order by the rule is the one chosen
       by-rule : (order : List Row) → ByRule (answer .rows) order → chosenOrder (answer .rows) ≡ some order
-      by-rule order r = elim (answer-of (chosenOrder (answer .rows))) [
+      by-rule order r = elim (some-or-none (chosenOrder (answer .rows))) [
         | inr o ↦ absurd (true-not-false _ (r .is-stable) (choice ok .none-passes o order (r .possible)))
         | inl o ↦ (
             let os = o .0 in

@@ -20,7 +20,7 @@ use Rattle.orders.specs.Stability.{stable, orderStable}
 use Rattle.boards.specs.Claims.{LastsInRange, Kept, NoneLate}
 use Rattle.boards.specs.Runs.{BoardRuns}
 use Rattle.plans.specs.declared.Entry.{Entry}
-use Rattle.plans.specs.declared.Plan.{Plan}
+use Rattle.plans.specs.declared.Answer.{Answer}
 use Rattle.plans.specs.Entries.{entry, entries, noEntry}
 use Rattle.plans.specs.Plans.{planText, planRoom}
 use Rattle.plans.specs.Outcomes.{Outcome, writes, refuses, Written}
@@ -132,12 +132,12 @@ pub record ReviewDemands (text : List ℕ) (room : ℕ) (w : Outcome) : Type 0 w
 
 -- ---- what the public calls promise, of the bytes of their buffer before and after them and of what they return: they
 -- come from one outcome, which meets the demands; and no other outcome meets them
-pub record PlanSays (text buffer buffer′ : List ℕ) (r : Plan) : Type 0 where
+pub record PlanSays (text buffer buffer′ : List ℕ) (r : Answer) : Type 0 where
   pub answer : Written (planned text (length buffer)) buffer buffer′ r
   pub demands : PlanDemands text (length buffer) (planned text (length buffer))
   pub no-other : (w : Outcome) → PlanDemands text (length buffer) w → w ≡ planned text (length buffer)
 
-pub record ReviewSays (text buffer buffer′ : List ℕ) (r : Plan) : Type 0 where
+pub record ReviewSays (text buffer buffer′ : List ℕ) (r : Answer) : Type 0 where
   pub answer : Written (reviewed text (length buffer)) buffer buffer′ r
   pub demands : ReviewDemands text (length buffer) (reviewed text (length buffer))
   pub no-other : (w : Outcome) → ReviewDemands text (length buffer) w → w ≡ reviewed text (length buffer)

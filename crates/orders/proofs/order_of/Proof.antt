@@ -33,12 +33,12 @@ use denote.Struct.Laws as LL
 use denote.Triple.Walked.{needs}
 use Rattle.rows.specs.Rows.{maxTasks}
 use Rattle.rows.specs.declared.Row.{Row}
-use Rattle.orders.specs.declared.Answer.{Answer}
+use Rattle.orders.specs.declared.Choice.{Choice}
 use Rattle.orders.specs.inside.Numbers.{numbersRoom, rowsIn}
-use Rattle.orders.specs.inside.Search.{Table, Lent, Answered}
+use Rattle.orders.specs.inside.Search.{Table, Lent, Chooses}
 use Rattle.rows.proofs.Row as T
-use Rattle.orders.proofs.Answer as L
-use Rattle.orders.proofs.Answer.Laws as L′
+use Rattle.orders.proofs.Choice as L
+use Rattle.orders.proofs.Choice.Laws as L′
 use Rattle.orders.proofs.numbers.put_rows as put-rows
 use Rattle.orders.proofs.numbers.put_rows.Symbol as put-rows-def
 use Rattle.orders.proofs.numbers.put_rows.Symbol.{name as #put-rows}
@@ -135,7 +135,7 @@ module _ {M : Type 1} (𝓤 : URA M) (H : Heap 𝓤) (A : Atoms 𝓤) (W : Given
       nothing ! $ owned ! usize (Is usize) (uint-makes 𝓤 H A W w64) n _ (refl, fits) $ fjoin ! $
       move ! (1 ∷ 0 ∷ []) $ fjoin ! $ done !
 
-  exits : (x : Answer) (u : Val) → Answered (s .now) x
+  exits : (x : Choice) (u : Val) → Chooses (s .now) x
       → ent 𝓤 (⋆ 𝓤 H A (‵ (L.the-row .own x (u ∷ [])) ∷ ‵ (flft κ q) ∷ [])) (Post u)
   exits x u e =
       qed W (‵ (L.the-row .own x (u ∷ [])) ∷ ‵ (flft κ q) ∷ []) ∵
@@ -195,7 +195,7 @@ module _ {M : Type 1} (𝓤 : URA M) (H : Heap 𝓤) (A : Atoms 𝓤) (W : Given
         use2 W (raw (OrderIn 𝓤 H A mem run .pre (to-order-in l₃ β ε (ws .1 .0))))
         (goes-order-in l₃ β ε (ws .1 .0) (lent-front (s .now) (rowsIn (ws .1 .0)) table e) (p .0 .1 .0)) $
         calls-told ! fm order-in.ended (order-in.clauses 𝓤 H A mem run) known-order-in (to-order-in l₃ β ε (ws .1 .0))
-        (‵ (flft (β ∷ []) fullShare) ⊛ ‵ ftrue) refl (λ (x : Answer). Answered (take n (rowsIn (ws .1 .0))) x)
+        (‵ (flft (β ∷ []) fullShare) ⊛ ‵ ftrue) refl (λ (x : Choice). Chooses (take n (rowsIn (ws .1 .0))) x)
         (λ r e. refl) (and-then ! (load ! (from ! (stop !)) (look ! 4 refl))
         (and-then ! (load ! (from ! (stop !)) (look ! 11 refl)) (no-more !))) (λ u x e′ ix.
         land ! (from ! (stop !)) (init ! 16 refl (LL.lawful L.the-type L′.the-laws 𝓤 H A W .typed x (u ∷ []) ix .0)) $
@@ -208,7 +208,7 @@ module _ {M : Type 1} (𝓤 : URA M) (H : Heap 𝓤) (A : Atoms 𝓤) (W : Given
         move ! (16 ∷ 17 ∷ []) $ free1 ! $ move ! (14 ∷ 15 ∷ []) $ free1 ! $ move ! (12 ∷ 13 ∷ []) $ free1 ! $
         move ! (0 ∷ 11 ∷ []) $ free1 ! $ move ! (8 ∷ 9 ∷ []) $ free1 ! $ move ! (6 ∷ 7 ∷ []) $ free1 ! $
         move ! (4 ∷ 5 ∷ []) $ free1 ! $ free0 ! $ keep ! (1 ∷ 3 ∷ []) $
-        by ! (exits x u (subst (λ (ys : List Row). Answered ys x) e e′))))))))))))))))
+        by ! (exits x u (subst (λ (ys : List Row). Chooses ys x) e e′))))))))))))))))
 
 module _ {M : Type 1} (𝓤 : URA M) (H : Heap 𝓤) (A : Atoms 𝓤) (W : Given 𝓤 H A) (mem : Memory → SProp 𝓤)
     (run : Routine → Fun 𝓤) where

@@ -22,10 +22,10 @@ use Rattle.rows.specs.declared.Row.{Row}
 use Rattle.rows.proofs.Lend.{Front, Others, lends-front, front-back}
 use Rattle.rows.proofs.Row as T
 use Rattle.rows.proofs.Row.Laws as T′
-use Rattle.orders.specs.declared.Answer.{Answer}
-use Rattle.orders.specs.inside.Search.{Table, Lent, Answered}
-use Rattle.orders.proofs.Answer as L
-use Rattle.orders.proofs.Answer.Laws as L′
+use Rattle.orders.specs.declared.Choice.{Choice}
+use Rattle.orders.specs.inside.Search.{Table, Lent, Chooses}
+use Rattle.orders.proofs.Choice as L
+use Rattle.orders.proofs.Choice.Laws as L′
 use Rattle.orders.proofs.order_of as order-of
 use Rattle.orders.proofs.order_of.Symbol as order-of-def
 use Rattle.orders.proofs.order_of.Symbol.{name as #order-of}
@@ -76,7 +76,7 @@ module _ {M : Type 1} (𝓤 : URA M) (H : Heap 𝓤) (A : Atoms 𝓤) (W : Given
       says ! table $ nothing ! $ move ! (1 ∷ 0 ∷ []) $ fjoin ! $
       nothing ! $ move ! (2 ∷ 0 ∷ []) $ join ! $ join ! $ done !
 
-  exits : (x : Answer) (u : Val) → Answered (take n xs) x → ent 𝓤 (sem 𝓤 H A (L.the-row .own x (u ∷ []))) (Post u)
+  exits : (x : Choice) (u : Val) → Chooses (take n xs) x → ent 𝓤 (sem 𝓤 H A (L.the-row .own x (u ∷ []))) (Post u)
   exits x u e =
       qed W (‵ (L.the-row .own x (u ∷ [])) ∷ []) ∵
       suffices ! _ (ends-at 𝓤 H A order-of-first.ended stayed (order-of-first.clauses 𝓤 H A mem run) W
@@ -114,7 +114,7 @@ module _ {M : Type 1} (𝓤 : URA M) (H : Heap 𝓤) (A : Atoms 𝓤) (W : Given
         move ! (0 ∷ 2 ∷ []) $
         use2 W (raw (OrderOf 𝓤 H A mem run .pre (to (α ∷ []) l₃ γ))) (goes (α ∷ []) l₃ γ (lent .table)) $
         calls-told ! fm order-of.ended (order-of.clauses 𝓤 H A mem run) known (to (α ∷ []) l₃ γ)
-        (‵ (flft (α ∷ []) fullShare) ⊛ ‵ ftrue) refl (λ (x : Answer). Answered (take n xs) x) (λ r e. refl)
+        (‵ (flft (α ∷ []) fullShare) ⊛ ‵ ftrue) refl (λ (x : Choice). Chooses (take n xs) x) (λ r e. refl)
         (and-then ! (load ! (from ! (stop !)) (look ! 2 refl)) (no-more !)) (λ u x e is.
         land ! (from ! (stop !)) (init ! 12 refl (LL.lawful L.the-type L′.the-laws 𝓤 H A W .typed x (u ∷ []) is .0)) $
         -- the lifetime ends, and the rows' room is had again

@@ -11,7 +11,7 @@ use Rattle.rows.specs.declared.Row.{Row}
 use Rattle.orders.specs.Orders.{Chosen}
 use Rattle.orders.specs.inside.Sets.{isSome, fits, goes, LowestIs, Says, Known, Recorded}
 use Rattle.orders.specs.Stability.{stable, chosenOrder}
-use Rattle.orders.specs.declared.Answer.{Answer}
+use Rattle.orders.specs.declared.Choice.{Choice}
 
 -- the tasks of an order, where there is one
 abbrev pub tasksIn : Option (List Row) → List ℕ
@@ -63,11 +63,11 @@ chainTasks rows sets (suc k) m =
     let i = getD sets m 0 in
     chainTasks rows sets k (m - 2 ^ i) ++ (rowAt rows i .task ∷ [])
 
--- an order, or none, as a search answers it
-abbrev pub answerOf : Option (List Row) → Answer
-answerOf o = record { found = isSome o; order = ranking (tasksIn o) }
+-- an order, or none, as the code has it
+abbrev pub choiceOf : Option (List Row) → Choice
+choiceOf o = record { found = isSome o; order = ranking (tasksIn o) }
 
--- the answer is the order chosen, which is as `Chosen` says
-pub record Answered (table : List Row) (r : Answer) : Type 0 where
-  pub answer : r ≡ answerOf (chosenOrder table)
+-- the choice is the order chosen, which is as `Chosen` says
+pub record Chooses (table : List Row) (r : Choice) : Type 0 where
+  pub choice-is : r ≡ choiceOf (chosenOrder table)
   pub chosen : Chosen stable table

@@ -17,9 +17,9 @@ use Rattle.orders.specs.Orders as O
 use Rattle.orders.specs.Orders.{Taken, here, later, Possible, nothing, positionsUp, notAfter, tried}
 use Rattle.orders.proofs.Possible.{swapped, taken-length, possible-self, with-lowest, Lowest, lowest-of}
 
-pub answer-of : (o : Option (List Row)) → ((os : List Row) × (o ≡ some os)) ⊎ (o ≡ none)
-answer-of none = inr refl
-answer-of (some os) = inl (os, refl)
+pub some-or-none : (o : Option (List Row)) → ((os : List Row) × (o ≡ some os)) ⊎ (o ≡ none)
+some-or-none none = inr refl
+some-or-none (some os) = inl (os, refl)
 
 -- ---- one row tried
 module _ (r : Row) (next : Option (List Row)) where
@@ -100,7 +100,7 @@ module _ (test : Row → List Row → List Row → Bool) where
         let pass : tried b up r next ≡ next → Picked before (r ∷ rs) os =
         λ e. pass-on r rs (picked-of (before ++ (r ∷ [])) rs os (sym e ∙ h)) in
         elim (test-of b) [
-          | inl p ↦ elim (answer-of up) [
+          | inl p ↦ elim (some-or-none up) [
             | inl a ↦ record {
               lowest = r;
               rest = rs;
@@ -153,7 +153,7 @@ module _ (test : Row → List Row → List Row → Bool) where
           (λ f. inr (record { lowest = f .lowest; above = f .above; found = e ∙ f .found; earlier = f .earlier }))
           ih in
           elim (test-of b) [
-            | inl p ↦ elim (answer-of o) [
+            | inl p ↦ elim (some-or-none o) [
               | inl a ↦ inr (record {
                 lowest = x;
                 above = a .0;

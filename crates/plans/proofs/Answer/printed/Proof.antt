@@ -1,5 +1,5 @@
--- `Plan::printed` leaves the text to print at the buffer's start. By the number: the lines of a refusal, or what stands
--- in the buffer, as long as the answer says and the buffer is.
+-- `Answer::printed` leaves the text to print at the buffer's start. By the number: the lines of a refusal, or what
+-- stands in the buffer, as long as the answer says and the buffer is.
 use mathlib.Core.Path.{sym, subst}
 use Prim.Native.Nat.{_^_, _<_}
 use native.Mathlib.Omega.{arith}
@@ -8,8 +8,8 @@ use denote.Ref.{now}
 use Rattle.text.specs.Buffers.{Wrote}
 use Rattle.plans.proofs.Lengths.{refusal-length}
 use Rattle.plans.proofs.Outcomes.{print-refused, print-front}
-use Rattle.plans.proofs.Plan.printed.Statement.{statement}
-use Rattle.plans.proofs.Plan.printed.Tie as tie
+use Rattle.plans.proofs.Answer.printed.Statement.{statement}
+use Rattle.plans.proofs.Answer.printed.Tie as tie
 
 put-refusal-requires : tie.Need-put-refusal-requires
 put-refusal-requires c κs =
