@@ -12,8 +12,8 @@ ghost use Rattle.rows.specs.inside.Arrays.{ranking};
 ghost use Rattle.orders.specs.inside.Sets.{fits, Fresh, Settled};
 ghost use Rattle.orders.specs.Stability.{stable};
 ghost use Rattle.orders.specs.inside.Numbers.{rowsIn};
-ghost use Rattle.orders.specs.inside.Search.{Lent, Searching, MayGo, Told};
-ghost use Rattle.orders.specs.inside.Search.{Chained, chainTasks, Table, Chooses};
+ghost use Rattle.orders.specs.inside.Search.{Lent, Searching, MayGo, LowestFound};
+ghost use Rattle.orders.specs.inside.Search.{Chained, chainTasks, TableRows, Chooses};
 use numbers::NUMBERS;
 use numbers::put_rows;
 use numbers::row_at;
@@ -86,7 +86,7 @@ fn may_go(numbers: &[u64; NUMBERS], n: usize, m: usize, i: usize, sets: &[u8]) -
 // The first row of the table that goes lowest in set m.
 fn lowest(numbers: &[u64; NUMBERS], n: usize, m: usize, sets: &mut [u8]) -> u8
     requires { ⌜ Searching (rowsIn (now numbers)) n m (now sets) × (1 ≤ m) ⌝ }
-    ensures { λ r. ⌜ Told (rowsIn (now (numbers .entry))) n m (now (sets .exit)) r ⌝ }
+    ensures { λ r. ⌜ LowestFound (rowsIn (now (numbers .entry))) n m (now (sets .exit)) r ⌝ }
 {
     let mut i: usize = 0;
     while i < n {
@@ -190,7 +190,7 @@ fn order_in(numbers: &[u64; NUMBERS], n: usize) -> Choice
 
 // The order of a table's rows by the rule.
 pub fn order_of(rows: &[Row]) -> Choice
-    requires { ⌜ Table (now rows) ⌝ }
+    requires { ⌜ TableRows (now rows) ⌝ }
     ensures { λ r. ⌜ Chooses (now (rows .entry)) r ⌝ }
 {
     let n = rows.len();

@@ -17,8 +17,8 @@ use Rattle.rows.specs.declared.Row.{Row}
 use Rattle.rows.proofs.Limits.{at-passes, front-passes}
 use Rattle.responses.specs.declared.Figures.{Figures}
 use Rattle.responses.specs.Figures.{isLate, latest, earliest, margin, lateFigures, figuresAt, figuresUnder}
-use Rattle.responses.specs.inside.Columns.{rowsAbove, Posed}
-use Rattle.responses.proofs.Filled.{Filled, filled-none, filled-more, filled-posed, filled-figures}
+use Rattle.responses.specs.inside.Columns.{rowsAbove, UnderColumns}
+use Rattle.responses.proofs.Filled.{Filled, filled-none, filled-more, filled-under, filled-figures}
 use Rattle.plans.specs.declared.Entry.{Entry}
 use Rattle.plans.specs.Entries.{entry, entriesFrom, entries, lateFrom, firstLate}
 use Rattle.plans.specs.Plans.{rankText, rankTexts, rankRoom}
@@ -102,8 +102,8 @@ module _ {n : ℕ} {rows : List Row} {at : ℕ} {o : List ℕ} where
           ∙ front-passes inRange i (take n rows) (t .in-range)
 
       -- the next row may be asked for its figures under the columns
-      pub posed : Posed r i ps ws bs
-      posed = filled-posed (t .above) (omega (arith, t .few)) above-in-range r here-in-range
+      pub under-columns : UnderColumns r i ps ws bs
+      under-columns = filled-under (t .above) (omega (arith, t .few)) above-in-range r here-in-range
 
       module _ (x : Figures) (is : x ≡ figuresUnder r (rowsAbove i ps ws bs)) where
         figures-are : x ≡ figuresUnder r (take i rows)

@@ -12,7 +12,7 @@ use Rattle.rows.specs.declared.Row.{Row}
 use Rattle.rows.proofs.Limits.{Times, times, in-range-times, head-passes, tail-passes}
 use Rattle.responses.specs.Interference.{ceiling, Load, load, interference, leastFixed, largestFixed}
 use Rattle.responses.specs.inside.Columns.{loadsFrom, loads, rowAbove, rowsAboveFrom, rowsAbove}
-use Rattle.responses.specs.inside.Columns.{columnsMax, Columns, Posed}
+use Rattle.responses.specs.inside.Columns.{columnsMax, Columns, UnderColumns}
 use Rattle.responses.specs.Figures.{worstLoad, bestLoad, latest, earliest}
 use Rattle.responses.proofs.Sums.{term-max}
 use Rattle.responses.proofs.Responses.{responses}
@@ -93,7 +93,7 @@ times-from ps ws bs (suc n) i (suc j) l h =
     let rest = tail-passes timesInRange r (rowsAboveFrom (suc i) n ps ws bs) h in
     rw e (times-from ps ws bs n (suc i) j (omega arith) rest)
 
-module _ {t : Row} {n : ℕ} {ps ws bs : List ℕ} (p : Posed t n ps ws bs) where
+module _ {t : Row} {n : ℕ} {ps ws bs : List ℕ} (p : UnderColumns t n ps ws bs) where
   times-at : (j : ℕ) → j < n → Times (rowAbove (getD ps j 0) (getD ws j 0) (getD bs j 0))
   times-at j l = let e : 0 + j ≡ j = omega arith in rw e at (times-from ps ws bs n 0 j l (p .times-in-range))
 
@@ -131,7 +131,8 @@ module _ (t : Row) (n : ℕ) (ps ws bs : List ℕ) where
     pub earliest-is : (e : ℕ) → e ≡ largestFixed (t .best) w (loads n ps bs)
         → (e ≡ earliest t (rowsAbove n ps ws bs)) × (e ≤ w)
 
-  pub found : (w : ℕ) → Posed t n ps ws bs → w ≡ leastFixed (t .worst) (t .period) (loads n ps ws) → 1 ≤ w → Found w
+  pub found : (w : ℕ) → UnderColumns t n ps ws bs → w ≡ leastFixed (t .worst) (t .period) (loads n ps ws) → 1 ≤ w
+      → Found w
   found w p e k =
       let above = rowsAbove n ps ws bs in
       let i = latest-found w e in

@@ -10,7 +10,7 @@ use Rattle.rows.specs.Rows.{maxTasks, inRange, allRows}
 use Rattle.rows.specs.declared.Row.{Row}
 use Rattle.responses.specs.declared.Figures.{Figures}
 use Rattle.responses.specs.Figures.{figuresUnder}
-use Rattle.responses.specs.inside.Columns.{rowsAboveFrom, rowsAbove, Posed}
+use Rattle.responses.specs.inside.Columns.{rowsAboveFrom, rowsAbove, UnderColumns}
 use Rattle.responses.proofs.Gathered.{bare, rows-kept, rows-more, held-times, held-figures}
 
 -- the first n numbers of each column are the times of the rows
@@ -48,8 +48,8 @@ module _ {rs : List Row} {ps ws bs : List ℕ} {n : ℕ} (f : Filled rs ps ws bs
     rows-are = rows-kept (r .period) (r .worst) (r .best) ps ws bs n 0 n (omega arith) ∙ f .rows-are;
   }
 
-  pub filled-posed : n ≤ maxTasks → allRows inRange rs ≡ true → (r : Row) → inRange r ≡ true → Posed r n ps ws bs
-  filled-posed few ok r h = record {
+  pub filled-under : n ≤ maxTasks → allRows inRange rs ≡ true → (r : Row) → inRange r ≡ true → UnderColumns r n ps ws bs
+  filled-under few ok r h = record {
     in-range = h;
     few = omega arith;
     periods-held = omega (arith, f .periods-long);

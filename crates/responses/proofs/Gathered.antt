@@ -1,4 +1,5 @@
--- Rows gathered into columns are posed exactly where all are in range and few; the columns then hold their times.
+-- Rows gathered into columns are in the limits exactly where all are in range and few; the columns then hold their
+-- times.
 use mathlib.Core.Path.{_≡_, refl, ap, ap₂, sym, _∙_, subst}
 use mathlib.Core.Bool.{Bool, true, false, _&&_, false≢true}
 use mathlib.Core.Logic.{inl, inr}
@@ -25,18 +26,19 @@ use Rattle.responses.specs.inside.Columns.{rowAbove, rowsAboveFrom, rows
 use Rattle.responses.specs.inside.Gathered.{noneAbove, stored, refused, fits, addRow}
 use Rattle.responses.specs.inside.Gathered.{addRows, rowsHeld, Sound, figuresIn}
 use Rattle.responses.proofs.Same.{Same, figures-same, figures-permuted}
-use Rattle.responses.proofs.Responses.{posed-times, figured}
+use Rattle.responses.proofs.Responses.{limits-times, figured}
 
 -- ---- answers, as the code makes them: b is what it found of the row's range
 module _ (t : Row) (a : Above) (b : Bool) (e : b ≡ inRange t) where
-  chosen : (c : Bool) → (b && a .posed) ≡ c → figuresIn t a ≡ pick c (figuresUnder t (rowsHeld a)) noFigures
+  chosen : (c : Bool) → (b && a .in_limits) ≡ c → figuresIn t a ≡ pick c (figuresUnder t (rowsHeld a)) noFigures
   chosen c h =
-      ap (λ (d : Bool). pick d (figuresUnder t (rowsHeld a)) noFigures) (ap (λ (d : Bool). d && a .posed) (sym e) ∙ h)
+      ap (λ (d : Bool). pick d (figuresUnder t (rowsHeld a)) noFigures)
+      (ap (λ (d : Bool). d && a .in_limits) (sym e) ∙ h)
 
-  pub posed-answer : (x : Figures) → (b && a .posed) ≡ true → x ≡ figuresUnder t (rowsHeld a) → x ≡ figuresIn t a
-  posed-answer x h k = k ∙ sym (chosen true h)
+  pub some-answer : (x : Figures) → (b && a .in_limits) ≡ true → x ≡ figuresUnder t (rowsHeld a) → x ≡ figuresIn t a
+  some-answer x h k = k ∙ sym (chosen true h)
 
-  pub no-answer : (x : Figures) → (b && a .posed) ≡ false → x ≡ noFigures → x ≡ figuresIn t a
+  pub no-answer : (x : Figures) → (b && a .in_limits) ≡ false → x ≡ noFigures → x ≡ figuresIn t a
   no-answer x h k = k ∙ sym (chosen false h)
 
 -- ---- a row stored after n others
@@ -114,15 +116,15 @@ rows-stored a r m h =
 
 -- ---- columns z that hold what a holds, and then rows in range
 record Holds (a : Above) (ys : List Row) (z : Above) : Type 0 where
-  was-posed : a .posed ≡ true
+  was-in-limits : a .in_limits ≡ true
   in-range : allRows inRange ys ≡ true
   counted : z .count ≡ a .count + length ys
   few : z .count ≤ maxAbove
   rows-are : rowsHeld z ≡ rowsHeld a ++ map bare ys
 
-holds-none : (a : Above) → Room a → a .posed ≡ true → Holds a [] a
+holds-none : (a : Above) → Room a → a .in_limits ≡ true → Holds a [] a
 holds-none a m h = record {
-  was-posed = h;
+  was-in-limits = h;
   in-range = refl;
   counted = omega arith;
   few = m .few;
@@ -132,50 +134,50 @@ holds-none a m h = record {
 holds-stored : (a : Above) (r : Row) (rs : List Row) (z : Above) → Room a → fits a r ≡ true → Holds (stored a r) rs z
     → Holds a (r ∷ rs) z
 holds-stored a r rs z m e h =
-    let posed = a .posed in
+    let so-far = a .in_limits in
     let ranged = inRange r in
     let room = ltb (a .count) maxAbove in
-    let e₂ = and-left (posed && ranged) room e in
-    let l = ltb-true (a .count) maxAbove (and-right (posed && ranged) room e) in
+    let e₂ = and-left (so-far && ranged) room e in
+    let l = ltb-true (a .count) maxAbove (and-right (so-far && ranged) room e) in
     let q = rows-stored a r m l in
     record {
-      was-posed = and-left posed ranged e₂;
-      in-range = rw (and-right posed ranged e₂, h .in-range);
+      was-in-limits = and-left so-far ranged e₂;
+      in-range = rw (and-right so-far ranged e₂, h .in-range);
       counted = omega (arith, h .counted);
       few = h .few;
       rows-are = h .rows-are
           ∙ (ap (λ (xs : List Row). xs ++ map bare rs) q ∙ append-assoc (rowsHeld a) (bare r ∷ []) (map bare rs));
     }
 
-holds : (ys : List Row) (a : Above) → Room a → addRows a ys .posed ≡ true → Holds a ys (addRows a ys)
+holds : (ys : List Row) (a : Above) → Room a → addRows a ys .in_limits ≡ true → Holds a ys (addRows a ys)
 holds [] a m h = holds-none a m h
 holds (r ∷ rs) a m h = elim (test-of (fits a r)) [
   | inl e ↦ (
       let q = ap (λ (b : Above). addRows b rs) (add-stored a r e) in
-      let l = ltb-true (a .count) maxAbove (and-right (a .posed && inRange r) (ltb (a .count) maxAbove) e) in
-      let ih = holds rs (stored a r) (room-stored a r m l) (subst (λ (z : Above). z .posed ≡ true) q h) in
+      let l = ltb-true (a .count) maxAbove (and-right (a .in_limits && inRange r) (ltb (a .count) maxAbove) e) in
+      let ih = holds rs (stored a r) (room-stored a r m l) (subst (λ (z : Above). z .in_limits ≡ true) q h) in
       subst (λ (z : Above). Holds a (r ∷ rs) z) (sym q) (holds-stored a r rs (addRows (stored a r) rs) m e ih))
   | inr e ↦ (
       let q = ap (λ (b : Above). addRows b rs) (add-refused a r e) in
       absurd (false≢true (holds rs (refused a) (room-refused a m)
-      (subst (λ (z : Above). z .posed ≡ true) q h) .was-posed)))
+      (subst (λ (z : Above). z .in_limits ≡ true) q h) .was-in-limits)))
 ]
 
--- rows in range that have room are posed
-posed-if : (ys : List Row) (a : Above) → a .posed ≡ true → allRows inRange ys ≡ true → a .count + length ys ≤ maxAbove
-    → addRows a ys .posed ≡ true
-posed-if [] a h g l = h
-posed-if (r ∷ rs) a h g l =
+-- rows in range that have room are in the limits
+in-limits-if : (ys : List Row) (a : Above) → a .in_limits ≡ true → allRows inRange ys ≡ true
+    → a .count + length ys ≤ maxAbove → addRows a ys .in_limits ≡ true
+in-limits-if [] a h g l = h
+in-limits-if (r ∷ rs) a h g l =
     let e : fits a r ≡ true = rw (h, head-passes inRange r rs g, lt-ltb (a .count) maxAbove (omega arith)) in
-    let q = ap (λ (b : Above). addRows b rs .posed) (add-stored a r e) in
-    q ∙ posed-if rs (stored a r) h (tail-passes inRange r rs g) (omega arith)
+    let q = ap (λ (b : Above). addRows b rs .in_limits) (add-stored a r e) in
+    q ∙ in-limits-if rs (stored a r) h (tail-passes inRange r rs g) (omega arith)
 
 -- ---- from none
 room-none : Room noneAbove
 room-none = record { periods-long = refl; worsts-long = refl; bests-long = refl; few = omega arith }
 
-posed-is : (ys : List Row) → addRows noneAbove ys .posed ≡ (allRows inRange ys && leb (length ys) maxAbove)
-posed-is ys = elim (test-of (addRows noneAbove ys .posed)) [
+in-limits-is : (ys : List Row) → addRows noneAbove ys .in_limits ≡ (allRows inRange ys && leb (length ys) maxAbove)
+in-limits-is ys = elim (test-of (addRows noneAbove ys .in_limits)) [
   | inl e ↦ (
       let h = holds ys noneAbove room-none e in
       let l : length ys ≤ maxAbove = omega (arith, h .counted, h .few) in
@@ -183,7 +185,7 @@ posed-is ys = elim (test-of (addRows noneAbove ys .posed)) [
   | inr e ↦ elim (test-of (allRows inRange ys && leb (length ys) maxAbove)) [
     | inl g ↦ (
         let few = leb-true (length ys) maxAbove (and-right (allRows inRange ys) (leb (length ys) maxAbove) g) in
-        let p = posed-if ys noneAbove refl (and-left (allRows inRange ys) (leb (length ys) maxAbove) g)
+        let p = in-limits-if ys noneAbove refl (and-left (allRows inRange ys) (leb (length ys) maxAbove) g)
         (omega arith) in
         absurd (false≢true (sym e ∙ p)))
     | inr g ↦ e ∙ sym g
@@ -213,7 +215,7 @@ held-times ys e ok = ap (allRows timesInRange) e ∙ bare-times ys ∙ all-times
 pub held-figures : (t : Row) {xs : List Row} (ys : List Row) → xs ≡ map bare ys → figuresUnder t xs ≡ figuresUnder t ys
 held-figures t ys e = ap (figuresUnder t) e ∙ figures-same t (bare-same ys)
 
-rows-held : (ys : List Row) → addRows noneAbove ys .posed ≡ true → rowsHeld (addRows noneAbove ys) ≡ map bare ys
+rows-held : (ys : List Row) → addRows noneAbove ys .in_limits ≡ true → rowsHeld (addRows noneAbove ys) ≡ map bare ys
 unfolding rowsAboveFrom
 rows-held ys e = holds ys noneAbove room-none e .rows-are
 
@@ -231,11 +233,11 @@ no-figures false b x e = refl
 pub gathered-figures : (t : Row) (ys : List Row) → figuresIn t (addRows noneAbove ys) ≡ figuresOf t ys
 gathered-figures t ys =
     let z = addRows noneAbove ys in
-    elim (test-of (z .posed)) [
+    elim (test-of (z .in_limits)) [
       | inl e ↦ (
-          ap₂ (λ (b : Bool) (x : Figures). pick (inRange t && b) x noFigures) (posed-is ys)
+          ap₂ (λ (b : Bool) (x : Figures). pick (inRange t && b) x noFigures) (in-limits-is ys)
           (held-figures t ys (rows-held ys e)))
-      | inr e ↦ no-figures (inRange t) _ _ e ∙ sym (no-figures (inRange t) _ _ (sym (posed-is ys) ∙ e))
+      | inr e ↦ no-figures (inRange t) _ _ e ∙ sym (no-figures (inRange t) _ _ (sym (in-limits-is ys) ∙ e))
     ]
 
 pub gathered-say : (t : Row) (ys : List Row) (x : Figures) → x ≡ figuresIn t (addRows noneAbove ys)
@@ -244,6 +246,6 @@ gathered-say t ys x e =
     let f = e ∙ gathered-figures t ys in
     record {
       answer = f;
-      by-formulas = λ h. let p = posed-times t ys h in figured t ys (p .0) (p .1);
+      by-formulas = λ h. let p = limits-times t ys h in figured t ys (p .0) (p .1);
       any-sequence = λ zs p. f ∙ figures-permuted t p;
     }

@@ -101,8 +101,8 @@ by-set t above others p = same-figures t (same-permuted p)
 pub figures-permuted : (t : Row) {xs ys : List Row} → Perm xs ys → figuresOf t xs ≡ figuresOf t ys
 figures-permuted t {xs} {ys} p =
     let few : Bool → ℕ → Bool = λ b n. inRange t && (b && leb n maxAbove) in
-    let posed = ap₂ few (all-permuted inRange p) (length-permuted p) in
-    ap₂ (λ (b : Bool) (x : Figures). pick b x noFigures) posed (figures-same t (same-permuted p))
+    let limits = ap₂ few (all-permuted inRange p) (length-permuted p) in
+    ap₂ (λ (b : Bool) (x : Figures). pick b x noFigures) limits (figures-same t (same-permuted p))
 
 -- ---- more interference: a task that is not late under ys is not late under xs, and W is no larger
 pub latest-mono : (t : Row) (xs ys : List Row) → 1 ≤ t .worst → ((x : ℕ) → worstIn x xs ≤ worstIn x ys)

@@ -35,7 +35,7 @@ use Rattle.rows.specs.Rows.{maxTasks}
 use Rattle.rows.specs.declared.Row.{Row}
 use Rattle.orders.specs.declared.Choice.{Choice}
 use Rattle.orders.specs.inside.Numbers.{numbersRoom, rowsIn}
-use Rattle.orders.specs.inside.Search.{Table, Lent, Chooses}
+use Rattle.orders.specs.inside.Search.{TableRows, Lent, Chooses}
 use Rattle.rows.proofs.Row as T
 use Rattle.orders.proofs.Choice as L
 use Rattle.orders.proofs.Choice.Laws as L′
@@ -56,8 +56,8 @@ abbrev stayed : Stays (order-of.ended .signature .params) (order-of.ended .kept)
 stayed = (stay-dropped (shrSliceOf (0 ∷ []) tt (plain (λ _. T.the-row))) yes, tt)
 
 -- an array that begins with a table's rows
-lent-front : (ys hs : List Row) → Table ys → take (length ys) hs ≡ ys → Lent hs (length ys)
-lent-front ys hs table e = record { held = table .few; counted = ap length e; table = subst Table (sym e) table }
+lent-front : (ys hs : List Row) → TableRows ys → take (length ys) hs ≡ ys → Lent hs (length ys)
+lent-front ys hs table e = record { held = table .few; counted = ap length e; table = subst TableRows (sym e) table }
 
 -- the local array: its type, its value at first, and room for the numbers of all rows
 abbrev Numbers : RattleType
@@ -113,7 +113,7 @@ module _ {M : Type 1} (𝓤 : URA M) (H : Heap 𝓤) (A : Atoms 𝓤) (W : Given
   to-put-rows l α δ =
       (((κ, (α ∷ [], tt)), (q, (fullShare, tt)), tt, (s, (held l δ zeros, tt)), (v ∷ [], (vptr l 0 ∷ [], tt))), tt)
 
-  goes-put-rows : (l α : ℕ) (δ : GName) → Table (s .now)
+  goes-put-rows : (l α : ℕ) (δ : GName) → TableRows (s .now)
       → ent 𝓤 (⋆ 𝓤 H A ((‵ (flft (α ∷ []) fullShare) ⊛ (‵ (flft κ q) ⊛ ‵ ftrue)) ∷ ‵ Owns ∷ ‵ (Mut l α δ) ∷ []))
       (PutRows 𝓤 H A mem run .pre (to-put-rows l α δ))
   goes-put-rows l α δ table =
@@ -146,7 +146,7 @@ module _ {M : Type 1} (𝓤 : URA M) (H : Heap 𝓤) (A : Atoms 𝓤) (W : Given
   module _ (C : Calls 𝓤 H) (Λ : Loops 𝓤 H) (fm : FmC 𝓤 H (W .laws) C)
       (known-put-rows : Triple 𝓤 (C #put-rows) (PutRows 𝓤 H A mem run))
       (known-order-in : Triple 𝓤 (C #order-in) (OrderIn 𝓤 H A mem run)) where
-    walk : Is (ShrSlice (named 0) κ T.the-row) s (v ∷ []) → Table (s .now)
+    walk : Is (ShrSlice (named 0) κ T.the-row) s (v ∷ []) → TableRows (s .now)
         → ent 𝓤 (onEntry 𝓤 H A order-of.signature (κ, tt) (q, tt) (s, tt) at)
         (WpFn 𝓤 H C Λ code.function (v ∷ []) Post)
     walk p table =

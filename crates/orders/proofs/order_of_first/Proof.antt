@@ -23,7 +23,7 @@ use Rattle.rows.proofs.Lend.{Front, Others, lends-front, front-back}
 use Rattle.rows.proofs.Row as T
 use Rattle.rows.proofs.Row.Laws as T′
 use Rattle.orders.specs.declared.Choice.{Choice}
-use Rattle.orders.specs.inside.Search.{Table, Lent, Chooses}
+use Rattle.orders.specs.inside.Search.{TableRows, Lent, Chooses}
 use Rattle.orders.proofs.Choice as L
 use Rattle.orders.proofs.Choice.Laws as L′
 use Rattle.orders.proofs.order_of as order-of
@@ -68,7 +68,7 @@ module _ {M : Type 1} (𝓤 : URA M) (H : Heap 𝓤) (A : Atoms 𝓤) (W : Given
   abbrev to : Lft → ℕ → GName → OrderOf 𝓤 H A mem run .Ghost
   to κ l γ = (((κ, tt), (fullShare, tt), tt, (s l γ, tt), (v l ∷ [], tt)), tt)
 
-  goes : (κ : Lft) (l : ℕ) (γ : GName) → Table (take n xs)
+  goes : (κ : Lft) (l : ℕ) (γ : GName) → TableRows (take n xs)
       → ent 𝓤 (⋆ 𝓤 H A (‵ (ShrSlice (named 0) κ T.the-row .own (s l γ) (v l ∷ [])) ∷ ‵ (flft κ fullShare) ∷ []))
       (OrderOf 𝓤 H A mem run .pre (to κ l γ))
   goes κ l γ table =

@@ -17,7 +17,7 @@ use Rattle.orders.proofs.Sets.{bit-le}
 use Rattle.orders.proofs.Numbered.{row-is}
 use Rattle.orders.proofs.Searched.{a-row, row-ranged}
 use Rattle.orders.proofs.Gathering.{Gathering, gathering-none, gathering-next}
-use Rattle.orders.proofs.Gathering.{gathered-posed, gathered-stable}
+use Rattle.orders.proofs.Gathering.{gathered-under, gathered-stable}
 use Rattle.orders.proofs.stable_under.Statement.{statement}
 use Rattle.orders.proofs.stable_under.Tie as tie
 
@@ -124,7 +124,7 @@ figures-under-requires c κs =
     let row = c .before .before .before .row-at2 in
     let end = c .before .before .before .before in
     let s = end .before .before .before in
-    gathered-posed (end .before .loop .inv) (small s) (omega (arith, s .pre .0 .counted, end .loop-test .left))
+    gathered-under (end .before .loop .inv) (small s) (omega (arith, s .pre .0 .counted, end .loop-test .left))
     (s .pre .0 .table .in-range) (row .result) (ap inRange (row .ensures) ∙ ranged s (s .args .i) (s .pre .1))
 
 returns : tie.Need-returns Inv-loop μ-loop

@@ -18,8 +18,8 @@ abbrev pub tasksIn : Option (List Row) → List ℕ
 tasksIn none = []
 tasksIn (some os) = tasksOf os
 
--- rows that a table can hold
-pub record Table (table : List Row) : Type 0 where
+-- rows that a table can have
+pub record TableRows (table : List Row) : Type 0 where
   pub few : length table ≤ maxTasks
   pub in-range : allRows inRange table ≡ true
   pub distinct : distinctRows table ≡ true
@@ -28,7 +28,7 @@ pub record Table (table : List Row) : Type 0 where
 pub record Lent (rows : List Row) (n : ℕ) : Type 0 where
   pub held : n ≤ maxTasks
   pub counted : length (take n rows) ≡ n
-  pub table : Table (take n rows)
+  pub table : TableRows (take n rows)
 
 -- the search is at set m, and what the record knows is so
 pub record Searching (rows : List Row) (n m : ℕ) (sets : List ℕ) : Type 0 where
@@ -36,8 +36,8 @@ pub record Searching (rows : List Row) (n m : ℕ) (sets : List ℕ) : Type 0 wh
   pub set : m < 2 ^ n
   pub recorded : Recorded stable (take n rows) sets
 
--- what the search tells of set m: a byte for the record, which has the rest of the set if the byte is a row
-pub record Told (rows : List Row) (n m : ℕ) (sets : List ℕ) (v : ℕ) : Type 0 where
+-- what was found to be lowest in set m: a byte for the record, which has the rest of the set if the byte is a row
+pub record LowestFound (rows : List Row) (n m : ℕ) (sets : List ℕ) (v : ℕ) : Type 0 where
   pub recorded : Recorded stable (take n rows) sets
   pub says : Says stable (take n rows) m v
   pub rest : LowestIs stable (take n rows) m v → Known stable (take n rows) sets (m - 2 ^ v)

@@ -47,7 +47,7 @@ pub record Columns (n : ℕ) (ps cs : List ℕ) : Type 0 where
   pub cost-period : (i : ℕ) → i < n → getD cs i 0 ≤ getD ps i 0
 
 -- a row in range, and columns of rows whose times are in range
-pub record Posed (t : Row) (n : ℕ) (ps ws bs : List ℕ) : Type 0 where
+pub record UnderColumns (t : Row) (n : ℕ) (ps ws bs : List ℕ) : Type 0 where
   pub in-range : inRange t ≡ true
   pub few : n ≤ columnsMax
   pub periods-held : n ≤ length ps

@@ -19,7 +19,7 @@ noneAbove = record {
   worsts = replicate maxAbove 0;
   bests = replicate maxAbove 0;
   count = 0;
-  posed = true;
+  in_limits = true;
 }
 
 -- one more row, stored or refused
@@ -29,15 +29,15 @@ stored a r = record {
   worsts = set (a .worsts) (a .count) (r .worst);
   bests = set (a .bests) (a .count) (r .best);
   count = a .count + 1;
-  posed = a .posed;
+  in_limits = a .in_limits;
 }
 
 abbrev pub refused : Above → Above
-refused a = record { periods = a .periods; worsts = a .worsts; bests = a .bests; count = a .count; posed = false }
+refused a = record { periods = a .periods; worsts = a .worsts; bests = a .bests; count = a .count; in_limits = false }
 
 -- it is stored if all so far were in range and so is this, and there is room
 abbrev pub fits : Above → Row → Bool
-fits a r = a .posed && inRange r && ltb (a .count) maxAbove
+fits a r = a .in_limits && inRange r && ltb (a .count) maxAbove
 
 abbrev pub addRow : Above → Row → Above
 addRow a r = pick (fits a r) (stored a r) (refused a)
@@ -50,10 +50,10 @@ addRows a (r ∷ rs) = addRows (addRow a r) rs
 abbrev pub rowsHeld : Above → List Row
 rowsHeld a = rowsAbove (a .count) (a .periods) (a .worsts) (a .bests)
 
--- columns that are posed hold rows whose times are in range
+-- columns of rows in the limits hold rows whose times are in range
 pub record Sound (a : Above) : Type 0 where
-  pub few : a .posed ≡ true → a .count ≤ maxAbove
-  pub times-in-range : a .posed ≡ true → allRows timesInRange (rowsHeld a) ≡ true
+  pub few : a .in_limits ≡ true → a .count ≤ maxAbove
+  pub times-in-range : a .in_limits ≡ true → allRows timesInRange (rowsHeld a) ≡ true
 
 abbrev pub figuresIn : Row → Above → Figures
-figuresIn t a = pick (inRange t && a .posed) (figuresUnder t (rowsHeld a)) noFigures
+figuresIn t a = pick (inRange t && a .in_limits) (figuresUnder t (rowsHeld a)) noFigures

@@ -15,7 +15,7 @@ room : (c : tie.Then1) → c .before .before .before .args .self .count < maxAbo
 room c =
     let s = c .before .before .before in
     ltb-true (s .args .self .count) maxAbove
-    (and-right (s .args .self .posed && c .before .before .in-range .result) (ltb (s .args .self .count) maxAbove)
+    (and-right (s .args .self .in_limits && c .before .before .in-range .result) (ltb (s .args .self .count) maxAbove)
     (c .if1 .taken))
 
 in-range-requires : tie.Need-in-range-requires
