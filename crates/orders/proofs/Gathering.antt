@@ -19,7 +19,7 @@ use Rattle.rows.proofs.Limits.{head-passes, tail-passes}
 use Rattle.responses.specs.declared.Figures.{Figures}
 use Rattle.responses.specs.inside.Columns.{rowsAbove, UnderColumns}
 use Rattle.responses.specs.Figures.{figuresUnder, isStable}
-use Rattle.responses.proofs.Filled.{Filled, filled-none, filled-more, filled-over, filled-under, filled-figures}
+use Rattle.responses.proofs.Filling.{Filled, filled-none, filled-more, filled-over, filled-under, filled-figures}
 use Rattle.responses.proofs.Responses.{stable-is}
 use Rattle.orders.specs.inside.Sets.{keep, members}
 use Rattle.orders.proofs.Sets.{halved-after, before-next}

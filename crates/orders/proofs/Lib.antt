@@ -3,12 +3,12 @@
 pub mod Possible
 pub mod Choosing
 pub mod Rule
-pub mod Stable
+pub mod Stability
 pub mod Tasks
 pub mod Sets
 pub mod Scan
 pub mod Record
-pub mod Listed
-pub mod Numbered
+pub mod Chains
+pub mod RowNumbers
 pub mod Gathering
-pub mod Searched
+pub mod LentRows

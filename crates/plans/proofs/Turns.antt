@@ -18,11 +18,11 @@ use Rattle.rows.proofs.Limits.{at-passes, front-passes}
 use Rattle.responses.specs.declared.Figures.{Figures}
 use Rattle.responses.specs.Figures.{isLate, latest, earliest, margin, lateFigures, figuresAt, figuresUnder}
 use Rattle.responses.specs.inside.Columns.{rowsAbove, UnderColumns}
-use Rattle.responses.proofs.Filled.{Filled, filled-none, filled-more, filled-under, filled-figures}
+use Rattle.responses.proofs.Filling.{Filled, filled-none, filled-more, filled-under, filled-figures}
 use Rattle.plans.specs.declared.Entry.{Entry}
 use Rattle.plans.specs.Entries.{entry, entriesFrom, entries, lateFrom, firstLate}
 use Rattle.plans.specs.Plans.{rankText, rankTexts, rankRoom}
-use Rattle.plans.specs.inside.Ranked.{Ranked}
+use Rattle.plans.specs.inside.Ranks.{PutsRanks}
 use Rattle.plans.proofs.Entries.{InLimits, entries-length, entry-limits}
 use Rattle.plans.proofs.Lengths.{rank-length}
 use Rattle.plans.proofs.Ranks.{rank-put}
@@ -118,7 +118,7 @@ module _ {n : ℕ} {rows : List Row} {at : ℕ} {o : List ℕ} where
 
         -- the row is late: it is the first
         pub found-late : x .late ≡ true → (k end : ℕ) → k ≡ suc i
-            → Ranked (take n rows) at o o₁ (record { late = k; end = end })
+            → PutsRanks (take n rows) at o o₁ (record { late = k; end = end })
         found-late e k end s =
             let now : isLate r (take i rows) ≡ true = sym late-here ∙ e in
             let first : firstLate (take n rows) ≡ suc i = t .late-is ∙ left ∙ rw (now, lateFrom) in
@@ -173,7 +173,7 @@ module _ {n : ℕ} {rows : List Row} {at : ℕ} {o : List ℕ} where
               }
 
     -- all ranks are passed: none is late
-    pub finished : n ≤ i → Ranked (take n rows) at o o₁ (record { late = 0; end = m })
+    pub finished : n ≤ i → PutsRanks (take n rows) at o o₁ (record { late = 0; end = m })
     finished h =
         let all-passed : i ≡ n = omega (arith, t .reached) in
         let none : firstLate (take n rows) ≡ 0 =

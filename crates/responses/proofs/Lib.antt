@@ -3,8 +3,8 @@ pub mod Sums
 pub mod Fixed
 pub mod Margins
 pub mod Responses
-pub mod Same
+pub mod Sequences
 pub mod As03
 pub mod Columns
-pub mod Gathered
-pub mod Filled
+pub mod RowsAbove
+pub mod Filling

@@ -6,7 +6,7 @@ ghost use Rattle.responses.specs.Interference.{ceiling, interference, le
 ghost use Rattle.responses.specs.Figures.{marginAt, noFigures, lateFigures, figuresUnder};
 ghost use Rattle.responses.specs.Claims.{FiguresSay};
 ghost use Rattle.responses.specs.inside.Columns.{loads, rowsAbove, baseMax, Columns, UnderColumns};
-ghost use Rattle.responses.specs.inside.Gathered.{noneAbove, addRow, addRows, Sound, figuresIn};
+ghost use Rattle.responses.specs.inside.RowsAbove.{noneAbove, addRow, addRows, Sound, figuresIn};
 use rows::Row;
 
 pub struct Figures {

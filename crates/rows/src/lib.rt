@@ -2,7 +2,7 @@ ghost use mathlib.Core.Path.{_≡_};
 ghost use Prim.Native.Nat.{_≤_};
 ghost use lib.ListN.{take};
 ghost use Rattle.rows.specs.Rows.{maxTasks, inRange, row, noRow, positionOf, rowsFor};
-ghost use Rattle.rows.specs.inside.Checked.{checked};
+ghost use Rattle.rows.specs.inside.Constructor.{checked};
 ghost use Rattle.rows.specs.inside.Arrays.{padded, ranked};
 use basics::within;
 

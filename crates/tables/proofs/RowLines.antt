@@ -15,7 +15,7 @@ use Rattle.text.specs.Lines.{refusal, place, onNumber}
 use Rattle.text.specs.declared.Line.{Line}
 use Rattle.text.specs.declared.Line.the-variants as L
 use Rattle.rows.specs.Rows.{minTask, maxTask, row, inRange, hasTask}
-use Rattle.rows.specs.inside.Checked.{checked}
+use Rattle.rows.specs.inside.Constructor.{checked}
 use Rattle.rows.specs.declared.Checked.{Checked}
 use Rattle.rows.specs.declared.Row.{Row}
 use Rattle.tables.specs.declared.progress.Numbers.{Numbers}

@@ -17,11 +17,11 @@ use Rattle.orders.specs.inside.Sets.{isSome, orderAt, Fresh, Settled}
 use Rattle.orders.specs.Stability.{stable}
 use Rattle.orders.specs.inside.Numbers.{rowsIn}
 use Rattle.orders.specs.inside.Search.{tasksIn, Lent, Chained, chainTasks, Chooses}
-use Rattle.orders.proofs.Searched.{small, a-set}
+use Rattle.orders.proofs.LentRows.{small, a-set}
 use Rattle.orders.proofs.Record.{begun}
-use Rattle.orders.proofs.Listed.{chain}
+use Rattle.orders.proofs.Chains.{chain}
 use Rattle.orders.proofs.Scan.{at-whole}
-use Rattle.orders.proofs.Stable.{chosen}
+use Rattle.orders.proofs.Stability.{chosen}
 use Rattle.orders.proofs.order_with.Statement.{statement}
 use Rattle.orders.proofs.order_with.Tie as tie
 

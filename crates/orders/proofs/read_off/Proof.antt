@@ -2,7 +2,7 @@
 use borrow.Author.Needs.{needs}
 use Rattle.orders.specs.inside.Numbers.{rowsIn}
 use Rattle.orders.specs.inside.Search.{chainTasks}
-use Rattle.orders.proofs.Listed.{chain-length, chain-order}
+use Rattle.orders.proofs.Chains.{chain-length, chain-order}
 use Rattle.orders.proofs.read_off.Statement.{statement}
 use Rattle.orders.proofs.read_off.Tie as tie
 

@@ -14,8 +14,8 @@ use Rattle.responses.specs.Figures.{isStable}
 use Rattle.orders.specs.inside.Sets.{members}
 use Rattle.orders.specs.inside.Numbers.{rowIn, rowsIn}
 use Rattle.orders.proofs.Sets.{bit-le}
-use Rattle.orders.proofs.Numbered.{row-is}
-use Rattle.orders.proofs.Searched.{a-row, row-ranged}
+use Rattle.orders.proofs.RowNumbers.{row-is}
+use Rattle.orders.proofs.LentRows.{a-row, row-ranged}
 use Rattle.orders.proofs.Gathering.{Gathering, gathering-none, gathering-next}
 use Rattle.orders.proofs.Gathering.{gathered-under, gathered-stable}
 use Rattle.orders.proofs.stable_under.Statement.{statement}

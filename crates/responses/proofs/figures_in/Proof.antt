@@ -2,7 +2,7 @@ use mathlib.Core.Path.{sym, _∙_}
 use native.Mathlib.Omega.{arith}
 use borrow.Author.Needs.{needs}
 use Rattle.basics.proofs.Tests.{and-left, and-right}
-use Rattle.responses.proofs.Gathered.{some-answer, no-answer}
+use Rattle.responses.proofs.RowsAbove.{some-answer, no-answer}
 use Rattle.responses.proofs.figures_in.Statement.{statement}
 use Rattle.responses.proofs.figures_in.Tie as tie
 

@@ -30,7 +30,7 @@ use types.Run.{Below}
 use Rattle.rows.proofs.Calls.{Asks, calls-told}
 use denote.Struct.Laws as LL
 use Rattle.responses.specs.inside.Columns.{rowAbove}
-use Rattle.responses.specs.inside.Gathered.{noneAbove, addRow, addRows}
+use Rattle.responses.specs.inside.RowsAbove.{noneAbove, addRow, addRows}
 use Rattle.rows.specs.declared.Row.{Row}
 use Rattle.responses.specs.declared.Above.{Above}
 use Rattle.rows.proofs.Row as T

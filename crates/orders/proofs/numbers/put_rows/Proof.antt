@@ -35,7 +35,7 @@ use denote.Triple.Walked.{needs, stay-ref, goes-ref}
 use Rattle.rows.specs.Rows.{maxTasks, noRow, rowAt}
 use Rattle.rows.specs.declared.Row.{Row}
 use Rattle.orders.specs.inside.Numbers.{numbersRoom, rowIn, rowsIn, RowPut}
-use Rattle.orders.proofs.Numbered.{rows-are, put-next}
+use Rattle.orders.proofs.RowNumbers.{rows-are, put-next}
 use Rattle.rows.proofs.Row as T
 use Rattle.rows.proofs.Row.Laws as T′
 use Rattle.orders.proofs.numbers.put_row as put-row

@@ -11,7 +11,7 @@ use Rattle.rows.specs.declared.Row.{Row}
 use Rattle.responses.specs.declared.Figures.{Figures}
 use Rattle.responses.specs.Figures.{figuresUnder}
 use Rattle.responses.specs.inside.Columns.{rowsAboveFrom, rowsAbove, UnderColumns}
-use Rattle.responses.proofs.Gathered.{bare, rows-kept, rows-more, held-times, held-figures}
+use Rattle.responses.proofs.RowsAbove.{bare, rows-kept, rows-more, held-times, held-figures}
 
 -- the first n numbers of each column are the times of the rows
 pub record Filled (rs : List Row) (ps ws bs : List ℕ) (n : ℕ) : Type 0 where

@@ -21,7 +21,7 @@ use Rattle.orders.specs.Stability.{stable}
 use Rattle.orders.specs.inside.Search.{tasksIn, Lent, Chained, chainTasks}
 use Rattle.orders.proofs.Possible.{taken-length}
 use Rattle.orders.proofs.Sets.{less-row, taken-at, no-members, all-members, some-member}
-use Rattle.orders.proofs.Searched.{small, a-set}
+use Rattle.orders.proofs.LentRows.{small, a-set}
 use Rattle.orders.proofs.Scan.{at-empty}
 use Rattle.orders.proofs.Record.{says-lowest}
 

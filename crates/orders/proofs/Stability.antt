@@ -11,7 +11,7 @@ use Rattle.basics.proofs.Tests.{and-left, and-right}
 use Rattle.rows.specs.Rows.{distinctRows, noRow}
 use Rattle.rows.specs.declared.Row.{Row}
 use Rattle.responses.specs.Figures.{isStable}
-use Rattle.responses.proofs.Same.{Same, same-figures}
+use Rattle.responses.proofs.Sequences.{Same, same-figures}
 use Rattle.orders.specs.Orders.{Taken, here, later, Possible, nothing, first, BySets, passesBetween, Chosen}
 use Rattle.orders.specs.Stability.{stable, orderStable}
 use Rattle.orders.proofs.Rule as Rule

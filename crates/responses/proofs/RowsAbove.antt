@@ -23,9 +23,9 @@ use Rattle.responses.specs.Interference.{Load, interference}
 use Rattle.responses.specs.Figures.{worstLoad, bestLoad, maxAbove, noFigures, figuresUnder, figuresOf}
 use Rattle.responses.specs.Claims.{FiguresSay}
 use Rattle.responses.specs.inside.Columns.{rowAbove, rowsAboveFrom, rowsAbove}
-use Rattle.responses.specs.inside.Gathered.{noneAbove, stored, refused, fits, addRow}
-use Rattle.responses.specs.inside.Gathered.{addRows, rowsHeld, Sound, figuresIn}
-use Rattle.responses.proofs.Same.{Same, figures-same, figures-permuted}
+use Rattle.responses.specs.inside.RowsAbove.{noneAbove, stored, refused, fits, addRow}
+use Rattle.responses.specs.inside.RowsAbove.{addRows, rowsHeld, Sound, figuresIn}
+use Rattle.responses.proofs.Sequences.{Same, figures-same, figures-permuted}
 use Rattle.responses.proofs.Responses.{limits-times, figured}
 
 -- ---- answers, as the code makes them: b is what it found of the row's range

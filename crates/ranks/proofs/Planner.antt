@@ -24,7 +24,7 @@ use Rattle.orders.specs.Orders.{Chosen}
 use Rattle.orders.specs.Stability.{stable, chosenOrder}
 use Rattle.orders.proofs.Choosing.{some-or-none}
 use Rattle.orders.proofs.Possible.{possible-length, possible-passes}
-use Rattle.orders.proofs.Stable.{stable-at, chosen}
+use Rattle.orders.proofs.Stability.{stable-at, chosen}
 use Rattle.boards.specs.Claims.{NoneLate}
 use Rattle.plans.specs.Entries.{entries}
 use Rattle.plans.specs.Plans.{planText, planRoom}
@@ -37,7 +37,7 @@ use Rattle.ranks.specs.Demands.{EveryOrderFails, ByRule, TablePlan, Plan
 use Rattle.ranks.proofs.Outcomes.{same-refusal, not-both, zero-or-more, on-accepted, on-refused}
 use Rattle.ranks.proofs.Outcomes.{nine-is, written-is, listed-more}
 use Rattle.ranks.proofs.Texts.{Accepts, failing, refused-low, telling, tells-only, refused-exactly}
-use Rattle.ranks.proofs.Promised.{promised}
+use Rattle.ranks.proofs.Promises.{promised}
 
 module _ (text : List ℕ) where
   abbrev answer : Answer

@@ -12,7 +12,7 @@ use Rattle.rows.proofs.Limits.{at-passes}
 use Rattle.orders.specs.inside.Sets.{unknown}
 use Rattle.orders.specs.inside.Numbers.{rowIn, rowsIn}
 use Rattle.orders.specs.inside.Search.{Lent}
-use Rattle.orders.proofs.Numbered.{row-is}
+use Rattle.orders.proofs.RowNumbers.{row-is}
 
 module _ {rows : List Row} {n : ℕ} (l : Lent rows n) where
   pub small : length (take n rows) < unknown

@@ -12,7 +12,7 @@ use Rattle.rows.proofs.Limits.{all-times, at-passes, front-passes}
 use Rattle.responses.specs.Claims.{Figured}
 use Rattle.responses.proofs.Responses.{figured}
 use Rattle.boards.specs.Claims.{LastsInRange, Kept, latestAt, earliestAt, NoneLate}
-use Rattle.boards.proofs.Kept as Boards
+use Rattle.boards.proofs.Bounds as Boards
 use Rattle.boards.proofs.Runs.{board-runs}
 use Rattle.plans.specs.Entries.{entry, noEntry}
 use Rattle.plans.proofs.Entries.{entries-length, entry-at}

@@ -34,13 +34,13 @@ use Rattle.plans.proofs.Outcomes.{timely-outcome}
 use Rattle.ranks.specs.Calls.{ifOrdered, planned, givenOrder, reviewed}
 use Rattle.ranks.proofs.Texts.{Accepts}
 use Rattle.ranks.proofs.Outcomes.{on-accepted}
-use Rattle.ranks.proofs.Planned as Planned
-use Rattle.ranks.proofs.Reviewed as Reviewed
+use Rattle.ranks.proofs.Planner as Planner
+use Rattle.ranks.proofs.Reviewer as Reviewer
 use Rattle.ranks.proofs.Readings.{count-is, rows-front, few, board-is}
 
 in-time-plan : (room board : ℕ) (order : List Row) → NoneLate order
     → ifInTime room board order ≡ planOf room board order
-in-time-plan room board order h = timely-outcome room board order (Reviewed.none-late-first order h)
+in-time-plan room board order h = timely-outcome room board order (Reviewer.none-late-first order h)
 
 -- rows at the front of an array
 front-of : (zs order : List Row) (n : ℕ) → zs ≡ padded noRow order → length order ≡ n → take n zs ≡ order
@@ -87,7 +87,7 @@ module _ (text : List ℕ) (r : Reading) (is : r ≡ reading (readTable false te
         ∙ ap (λ (o : Option (List Row)). ranking (tasksIn o)) (some-order .1)
 
     possible : Possible order (answer .rows)
-    possible = Planned.choice text ok .is-possible order (some-order .1)
+    possible = Planner.choice text ok .is-possible order (some-order .1)
 
     as-many : length order ≡ n
     as-many = possible-length possible ∙ sym (count-is false text r is)
@@ -108,16 +108,16 @@ module _ (text : List ℕ) (r : Reading) (is : r ≡ reading (readTable false te
         → take n zs ≡ order
     order-rows zs e =
         let tasks = ap ranked order-is ∙ ranked-are (tasksOf order) in
-        let rows = ap₂ rowsFor tasks front ∙ rows-for (Planned.sound text ok .rows-distinct) possible in
+        let rows = ap₂ rowsFor tasks front ∙ rows-for (Planner.sound text ok .rows-distinct) possible in
         front-of zs order n (e ∙ ap (padded noRow) rows) as-many
 
     pub order-ranged : allRows inRange order ≡ true
-    order-ranged = Planned.order-in-range text ok order (some-order .1)
+    order-ranged = Planner.order-in-range text ok order (some-order .1)
 
     pub ordered-plan : (room : ℕ) → ifInTime room (r .table .board) order ≡ planned text room
     unfolding ifOrdered
     ordered-plan room =
-        in-time-plan room (r .table .board) order (Planned.in-time text ok order (some-order .1))
+        in-time-plan room (r .table .board) order (Planner.in-time text ok order (some-order .1))
         ∙ ap (λ (b : ℕ). planOf room b order) (board-is false text r is ok)
         ∙ sym (on-accepted answer (ifOrdered room (answer .board) (chosenOrder (answer .rows))) ok
         ∙ ap (ifOrdered room (answer .board)) (some-order .1))
@@ -158,7 +158,7 @@ module _ (text : List ℕ) (r : Reading) (is : r ≡ reading (readTable true tex
       front-of zs (givenOrder text) (r .table .count) (e ∙ ap (padded noRow) rows) many
 
   pub given-ranged : allRows inRange (givenOrder text) ≡ true
-  given-ranged = Reviewed.order-in-range text ok
+  given-ranged = Reviewer.order-in-range text ok
 
   pub given-plan : (room : ℕ) → ifInTime room (r .table .board) (givenOrder text) ≡ reviewed text room
   given-plan room =

@@ -31,7 +31,7 @@ use Rattle.ranks.specs.Demands.{Promised, reviewerRefusals, Given, First
 use Rattle.ranks.proofs.Outcomes.{same-refusal, not-both, zero-or-more, on-accepted, on-refused}
 use Rattle.ranks.proofs.Outcomes.{nine-is, written-is, listed-more}
 use Rattle.ranks.proofs.Texts.{Accepts, failing, refused-low, telling, tells-only, refused-exactly}
-use Rattle.ranks.proofs.Promised.{promised}
+use Rattle.ranks.proofs.Promises.{promised}
 
 pub none-late-first : (order : List Row) → NoneLate order → firstLate order ≡ 0
 none-late-first order h = elim (zero-or-more (firstLate order)) [

@@ -10,6 +10,6 @@ use Rattle.plans.specs.Entries.{entries, firstLate}
 use Rattle.plans.specs.Plans.{rankTexts}
 
 -- where a rank is late, the end and the bytes from the offset on are left open
-pub record Ranked (order : List Row) (at : ℕ) (buffer buffer′ : List ℕ) (r : RanksPut) : Type 0 where
+pub record PutsRanks (order : List Row) (at : ℕ) (buffer buffer′ : List ℕ) (r : RanksPut) : Type 0 where
   pub late-is : r .late ≡ firstLate order
   pub text-put : firstLate order ≡ 0 → Put (joined (rankTexts 1 (entries order))) at buffer buffer′ (r .end)
