@@ -14,14 +14,14 @@ use Rattle.rows.specs.Rows.{timesInRange, allRows}
 use Rattle.rows.specs.declared.Row.{Row}
 use Rattle.rows.proofs.Limits.{times}
 use Rattle.responses.specs.declared.Figures.{Figures}
-use Rattle.responses.specs.Fixed.{largest}
+use Rattle.responses.specs.Extremes.{largest}
 use Rattle.responses.specs.Interference.{ceiling, largestFixed}
 use Rattle.basics.specs.Basics.{pick}
 use Rattle.basics.proofs.Tests.{test-of}
 use Rattle.responses.specs.Figures.{worstLoad, bestLoad, worstIn, bestIn}
 use Rattle.responses.specs.Figures as F
 use Rattle.responses.proofs.Margins.{not-below-zero}
-use Rattle.responses.proofs.Fixed.{demand-mono, least-is, least-none, largest-is}
+use Rattle.responses.proofs.FixedPoints.{demand-mono, least-is, least-none, largest-is}
 use Rattle.responses.proofs.Responses.{responses, limits-times}
 
 -- ---- document 03

@@ -1,6 +1,6 @@
 -- Laws of interference, fixed points and figures, and of rows as columns.
 pub mod Sums
-pub mod Fixed
+pub mod FixedPoints
 pub mod Margins
 pub mod Responses
 pub mod Sequences

@@ -23,7 +23,7 @@ use Rattle.responses.specs.Figures.{marginAt, margin, lateFigures, figur
 use Rattle.responses.specs.Claims.{spent, Figured, Demand-2}
 use Rattle.responses.proofs.Sums.{rounds-up}
 use Rattle.responses.proofs.Margins.{sub-is, not-below-zero}
-use Rattle.responses.proofs.Fixed.{least-fixed, least-least, largest-fixed, largest-above}
+use Rattle.responses.proofs.FixedPoints.{least-fixed, least-least, largest-fixed, largest-above}
 
 best-in-worst : (x : ℕ) (rs : List Row) → allRows timesInRange rs ≡ true → bestIn x rs ≤ worstIn x rs
 best-in-worst x [] h = omega arith

@@ -16,13 +16,13 @@ use Rattle.basics.specs.Basics.{pick}
 use Rattle.rows.specs.Rows.{inRange, allRows}
 use Rattle.rows.specs.declared.Row.{Row}
 use Rattle.responses.specs.declared.Figures.{Figures}
-use Rattle.responses.specs.Fixed.{smallest, largest}
+use Rattle.responses.specs.Extremes.{smallest, largest}
 use Rattle.responses.specs.Interference.{ceiling, Load, interference}
 use Rattle.responses.specs.Figures.{worstLoad, bestLoad, worstIn, bestIn, latest, earliest, marginAt}
 use Rattle.responses.specs.Figures.{lateFigures, noFigures}
 use Rattle.responses.specs.Figures.{figuresAt, figuresUnder, maxAbove, figuresOf}
 use Rattle.responses.specs.Claims.{SameFigures, BySet}
-use Rattle.responses.proofs.Fixed.{fixed-below, demand-mono, least-fixed, least-least}
+use Rattle.responses.proofs.FixedPoints.{fixed-below, demand-mono, least-fixed, least-least}
 
 pub record Same (xs ys : List Row) : Type 0 where
   pub worst-same : (x : ℕ) → worstIn x xs ≡ worstIn x ys

@@ -8,7 +8,7 @@ use native.Mathlib.Decide.{ℕ-discrete}
 use native.Mathlib.Omega.{arith}
 use borrow.Author.Tests.{eqb-true, eq-eqb}
 use Rattle.basics.proofs.Tests.{test-of}
-use Rattle.responses.specs.Fixed.{firstFrom, smallest, largest}
+use Rattle.responses.specs.Extremes.{firstFrom, smallest, largest}
 use Rattle.responses.specs.Interference.{Load, interference, isFixed, leastFixed, largestFixed}
 use Rattle.responses.proofs.Sums.{interference-mono}
 
