@@ -6,7 +6,7 @@ ghost use Rattle.rows.specs.inside.Constructor.{checked};
 ghost use Rattle.rows.specs.inside.Arrays.{padded, ranked};
 use basics::within;
 
-// The most rows of a table.
+// The most rows of a table. This and `maxTasks` in specs/Rows.antt are the two to change: every room follows from them.
 pub const MAX_TASKS: usize = 12;
 
 // A task's row. Times are in ticks, alpha in thousandths, beta in thousandths of a tick.

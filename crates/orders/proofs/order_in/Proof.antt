@@ -1,9 +1,12 @@
 -- `order_in` meets its contract: the record of sets, for few rows or for many, has room for their sets, and has none of
 -- them yet.
+use mathlib.Core.Path.{sym}
 use Prim.Native.Nat.{ℕ, _^_}
+use lib.ListN.{length-replicate}
 use lib.Pow.{pow-mono}
 use borrow.Author.Needs.{needs}
 use Rattle.rows.specs.Rows.{maxTasks}
+use Rattle.orders.specs.inside.Sets.{unknown}
 use Rattle.orders.proofs.Record.{fresh}
 use Rattle.orders.proofs.order_in.Statement.{statement}
 use Rattle.orders.proofs.order_in.Tie as tie
@@ -24,7 +27,7 @@ returns : tie.Need-returns
 returns c = search needs
 
 slice-aggregate-order-with-2 : tie.Need-slice-aggregate-order-with-2
-slice-aggregate-order-with-2 c = search needs
+slice-aggregate-order-with-2 c = sym (length-replicate {A = ℕ} (2 ^ maxTasks) unknown)
 
 order-with-requires-2 : tie.Need-order-with-requires-2
 order-with-requires-2 c κs =
