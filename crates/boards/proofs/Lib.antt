@@ -7,6 +7,6 @@ pub mod Backlog
 pub mod Traces
 pub mod Ranks
 pub mod Windows
-pub mod Kept
+pub mod Bounds
 pub mod Runs
 pub mod Witnesses

@@ -80,20 +80,20 @@ module _ (runs : ℕ → ℕ) where
       let last = lt-ltb (runs (s + d)) n (h (s + d) (omega arith) (omega arith)) in
       rw (add-suc s d, last) (omega (arith, above-all n s d (λ u a b. h u a (omega arith))))
 
--- ---- the last place up to t at which f is not above g
+-- ---- the last tick up to t at which f is not above g
 pub record Last (f g : ℕ → ℕ) (t : ℕ) : Type 0 where
-  pub place : ℕ
-  pub reached : place ≤ t
-  pub under : f place ≤ g place
-  pub over : (u : ℕ) → place < u → u ≤ t → g u < f u
+  pub tick : ℕ
+  pub reached : tick ≤ t
+  pub under : f tick ≤ g tick
+  pub over : (u : ℕ) → tick < u → u ≤ t → g u < f u
 
 pub last-under : (f g : ℕ → ℕ) → f 0 ≤ g 0 → (t : ℕ) → Last f g t
-last-under f g z zero = record { place = 0; reached = omega arith; under = z; over = λ u a b. omega arith }
+last-under f g z zero = record { tick = 0; reached = omega arith; under = z; over = λ u a b. omega arith }
 last-under f g z (suc t) = elim (le-or-lt (f (suc t)) (g (suc t))) [
-  | inl h ↦ record { place = suc t; reached = omega arith; under = h; over = λ u a b. omega arith }
+  | inl h ↦ record { tick = suc t; reached = omega arith; under = h; over = λ u a b. omega arith }
   | inr h ↦ (let l = last-under f g z t in
       record {
-        place = l .place;
+        tick = l .tick;
         reached = omega (arith, l .reached);
         under = l .under;
         over = λ u a b. elim (le-or-lt u t) [
@@ -146,10 +146,10 @@ module _ (N : ℕ) (runs : ℕ → ℕ) (work : ℕ → ℕ → ℕ) (run : Run 
       let start = sum-le n (λ j. work j 0) (λ j. 0) (λ j b. le-of-eq (run .starts j (lt-of-lt-of-le b l))) in
       last-under (workAbove work n) (serviceAbove runs n) (omega (arith, sum-zero n)) t
 
-  pub busy : (n t : ℕ) (l : n ≤ N) (q : Last (workAbove work n) (serviceAbove runs n) t) (d : ℕ) → q .place + d ≤ t
-      → serviceAbove runs n (q .place) + d ≤ serviceAbove runs n (q .place + d)
+  pub busy : (n t : ℕ) (l : n ≤ N) (q : Last (workAbove work n) (serviceAbove runs n) t) (d : ℕ) → q .tick + d ≤ t
+      → serviceAbove runs n (q .tick) + d ≤ serviceAbove runs n (q .tick + d)
   busy n t l q d h =
-      above-all runs n (q .place) d (λ u a b. lt-of-not-le (λ idle.
+      above-all runs n (q .tick) d (λ u a b. lt-of-not-le (λ idle.
       omega (arith, quiet-after n u l idle, q .over (suc u) (omega arith) (omega arith))))
 
   -- where every window of w ticks has room for the work it brings, each has a quiet tick in it or at its end
@@ -157,7 +157,7 @@ module _ (N : ℕ) (runs : ℕ → ℕ) (work : ℕ → ℕ → ℕ) (run : Run 
       → (s : ℕ) × (s ≤ t) × (t < s + w) × Above n (λ j. work j s ≤ service runs j s)
   settled n t w l pos fits =
       let q = last-quiet n t l in
-      let s = q .place in
+      let s = q .tick in
       let close : t < s + w = lt-of-not-le (λ h.
       omega (arith, busy n t l q w h, fits s, q .under, q .over (s + w) (omega arith) h)) in
       (s, q .reached, close, quiet-each n s l (q .under))

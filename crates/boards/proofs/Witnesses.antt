@@ -10,7 +10,7 @@ use Rattle.basics.proofs.Tests.{true-not-false}
 use Rattle.rows.specs.Rows.{timesInRange, allRows, rowAt}
 use Rattle.rows.specs.declared.Row.{Row}
 use Rattle.rows.proofs.Limits.{times, at-passes}
-use Rattle.responses.specs.Fixed.{smallest}
+use Rattle.responses.specs.Extremes.{smallest}
 use Rattle.boards.specs.Claims.{LastsInRange, NoneLate}
 use Rattle.boards.specs.Runs.{boardGoesTo}
 use Rattle.boards.specs.Witnesses.{exampleOrder, atOnce, lasting, RunsMet}

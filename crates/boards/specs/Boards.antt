@@ -50,7 +50,8 @@ afterWork ((j ∷ q) ∷ qs) = pick (leb (j .needs) 1) q (record { release = j .
 abbrev pub finishes : ℕ → ℕ → List (List Job) → List Done
 finishes i t [] = []
 finishes i t ([] ∷ qs) = finishes (suc i) t qs
-finishes i t ((j ∷ q) ∷ qs) = pick (leb (j .needs) 1) (record { rank = i; release = j .release; finish = suc t } ∷ []) []
+finishes i t ((j ∷ q) ∷ qs) =
+    pick (leb (j .needs) 1) (record { rank = i; release = j .release; finish = suc t } ∷ []) []
 
 -- tick t: releases, then work
 abbrev pub afterTick : List Row → (ℕ → ℕ) → (ℕ → ℕ → ℕ) → ℕ → Board → Board

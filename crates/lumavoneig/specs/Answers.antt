@@ -5,14 +5,14 @@ use mathlib.Core.List.{List}
 use Prim.Native.Nat.{ℕ}
 use lib.Dec.{leb}
 use lib.ListN.{length, set}
-use Rattle.plans.specs.declared.Plan.{Plan}
+use Rattle.plans.specs.declared.Answer.{Answer}
 
-abbrev pub answered : Plan → List ℕ → List ℕ
+abbrev pub answered : Answer → List ℕ → List ℕ
 answered r answer =
     pick (leb 3 (length answer)) (set (set (set answer 0 (r .number)) 1 (r .place)) 2 (r .long)) answer
 
 -- the call's own promise holds of a result, and that result is the answer
-pub record Answers (Says : Plan → Type 0) (answer answer′ : List ℕ) : Type 0 where
-  pub result : Plan
+pub record Answers (Says : Answer → Type 0) (answer answer′ : List ℕ) : Type 0 where
+  pub result : Answer
   pub says : Says result
   pub answer-is : answer′ ≡ answered result answer

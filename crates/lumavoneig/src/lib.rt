@@ -2,16 +2,16 @@
 ghost use mathlib.Core.Path.{_≡_};
 ghost use Rattle.ranks.specs.Demands.{PlanSays, ReviewSays};
 ghost use Rattle.lumavoneig.specs.Answers.{answered, Answers};
-use plans::Plan;
+use plans::Answer;
 
 // The answer's three numbers, where the buffer has room for them.
-fn put_answer(plan: Plan, answer: &mut [u64])
-    ensures { λ _. ⌜ now (answer .exit) ≡ answered plan (now (answer .entry)) ⌝ }
+fn put_answer(returned: Answer, answer: &mut [u64])
+    ensures { λ _. ⌜ now (answer .exit) ≡ answered returned (now (answer .entry)) ⌝ }
 {
     if answer.len() >= 3 {
-        answer[0] = plan.number as u64;
-        answer[1] = plan.place as u64;
-        answer[2] = plan.long as u64;
+        answer[0] = returned.number as u64;
+        answer[1] = returned.place as u64;
+        answer[2] = returned.long as u64;
     }
 }
 
@@ -20,8 +20,8 @@ pub extern "C" fn lumavoneig_plan(text: &[u8], out: &mut [u8], answer: &mut [u64
     ensures { λ _. ⌜ Answers (λ r. PlanSays (now (text .entry)) (now (out .entry)) (now (out .exit)) r)
         (now (answer .entry)) (now (answer .exit)) ⌝ }
 {
-    let plan = ranks::write_plan(text, out);
-    put_answer(plan, answer);
+    let returned = ranks::write_plan(text, out);
+    put_answer(returned, answer);
 }
 
 #[no_mangle]
@@ -29,6 +29,6 @@ pub extern "C" fn lumavoneig_review(text: &[u8], out: &mut [u8], answer: &mut [u
     ensures { λ _. ⌜ Answers (λ r. ReviewSays (now (text .entry)) (now (out .entry)) (now (out .exit)) r)
         (now (answer .entry)) (now (answer .exit)) ⌝ }
 {
-    let plan = ranks::review_order(text, out);
-    put_answer(plan, answer);
+    let returned = ranks::review_order(text, out);
+    put_answer(returned, answer);
 }

@@ -17,11 +17,11 @@ use Rattle.rows.specs.Rows.{maxTasks, inRange, allRows, rowAt}
 use Rattle.rows.specs.declared.Row.{Row}
 use Rattle.rows.proofs.Limits.{head-passes, tail-passes}
 use Rattle.responses.specs.declared.Figures.{Figures}
-use Rattle.responses.specs.Columns.{rowsAbove, Posed}
+use Rattle.responses.specs.inside.Columns.{rowsAbove, UnderColumns}
 use Rattle.responses.specs.Figures.{figuresUnder, isStable}
-use Rattle.responses.proofs.Filled.{Filled, filled-none, filled-more, filled-over, filled-posed, filled-figures}
+use Rattle.responses.proofs.Filling.{Filled, filled-none, filled-more, filled-over, filled-under, filled-figures}
 use Rattle.responses.proofs.Responses.{stable-is}
-use Rattle.orders.specs.Sets.{keep, members}
+use Rattle.orders.specs.inside.Sets.{keep, members}
 use Rattle.orders.proofs.Sets.{halved-after, before-next}
 
 -- ---- the members of a set
@@ -86,8 +86,8 @@ module _ {table : List Row} {m : ℕ} {ps ws bs : List ℕ} {count rest j : ℕ}
         subst (λ (l : List Row). Filled (members m l) ps ws bs count)
         (ap (λ (k : ℕ). take k table) all ∙ take-length table) (g .filled)
 
-    pub gathered-posed : allRows inRange table ≡ true → (r : Row) → inRange r ≡ true → Posed r count ps ws bs
-    gathered-posed ok r h = filled-posed held (omega (arith, g .few, g .passed)) (members-pass inRange m table ok) r h
+    pub gathered-under : allRows inRange table ≡ true → (r : Row) → inRange r ≡ true → UnderColumns r count ps ws bs
+    gathered-under ok r h = filled-under held (omega (arith, g .few, g .passed)) (members-pass inRange m table ok) r h
 
     pub gathered-stable : (r : Row) (x : Figures) → x ≡ figuresUnder r (rowsAbove count ps ws bs)
         → x .stable ≡ isStable r (members m table)

@@ -13,8 +13,8 @@ use lib.ListN.{getD, set, length, length-set, replicate, length-replicate, getD-
 use lib.Seq.{getD-set-same, getD-set-other}
 use Rattle.rows.specs.declared.Row.{Row}
 use Rattle.orders.specs.Orders.{theOrder}
-use Rattle.orders.specs.Sets as S
-use Rattle.orders.specs.Sets.{hasBit, isSome, unknown, noOrder}
+use Rattle.orders.specs.inside.Sets as S
+use Rattle.orders.specs.inside.Sets.{hasBit, isSome, unknown, noOrder}
 use Rattle.orders.proofs.Scan.{at-empty}
 
 -- every byte says that its set isn't known

@@ -15,10 +15,10 @@ use Rattle.rows.specs.declared.Row.{Row}
 use Rattle.basics.proofs.Tests.{and-left, and-right}
 use Rattle.orders.specs.Orders as O
 use Rattle.orders.specs.Orders.{here, Possible, first, tried, theOrder}
-use Rattle.orders.specs.Sets as S
-use Rattle.orders.specs.Sets.{keep, members, others, hasBit, isSome}
+use Rattle.orders.specs.inside.Sets as S
+use Rattle.orders.specs.inside.Sets.{keep, members, others, hasBit, isSome}
 use Rattle.orders.proofs.Possible.{possible-self}
-use Rattle.orders.proofs.Choice.{tried-lowest}
+use Rattle.orders.proofs.Choosing.{tried-lowest}
 use Rattle.orders.proofs.Sets.{halved-after, less-row, taken-at, before-next, less-row-is, some-member}
 use Rattle.orders.proofs.Sets.{no-members, all-members, no-others}
 

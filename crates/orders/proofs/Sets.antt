@@ -14,7 +14,7 @@ use lib.Pow.{shr-shr, pow-pos}
 use Rattle.rows.specs.Rows.{rowAt}
 use Rattle.rows.specs.declared.Row.{Row}
 use Rattle.orders.specs.Orders.{Taken, here, later}
-use Rattle.orders.specs.Sets.{keep, withBit, members, others}
+use Rattle.orders.specs.inside.Sets.{keep, withBit, members, others}
 
 pub halved : (m i : ℕ) → m / 2 ^ suc i ≡ m / 2 / 2 ^ i
 halved m i = let e : 1 + i ≡ suc i = omega arith in sym (rw e at (shr-shr m 1 i))
@@ -27,7 +27,7 @@ bit-le m i h =
     let p : 1 ≤ m / 2 ^ i = omega arith in
     le-trans (omega (arith, mul-le-mul-right (2 ^ i) p)) (div-mul-le-self m (2 ^ i))
 
--- a has bit b at place i, c has the other, and elsewhere they agree
+-- a has bit b at position i, c has the other, and elsewhere they agree
 abbrev pub Differ : ℕ → ℕ → ℕ → ℕ → Type 0
 Differ b zero a c = (a % 2 ≡ b) × (c % 2 ≡ b → ⊥) × (a / 2 ≡ c / 2)
 Differ b (suc i) a c = (a % 2 ≡ c % 2) × Differ b i (a / 2) (c / 2)

@@ -1,6 +1,4 @@
--- Orders of a table's rows by any test of a row, the order chosen by stability, and what the search for it promises.
+-- Orders of a table's rows by any test of a row, and the order chosen by stability; inside, what the search promises.
 pub mod Orders
 pub mod Stability
-pub mod Sets
-pub mod Numbers
-pub mod Search
+pub mod inside

@@ -20,14 +20,14 @@ pub data Possible : List Row → List Row → Type 0 where
   first : {r : Row} {os rs rest : List Row} → Taken r rs rest → Possible os rest → Possible (r ∷ os) rs
 
 -- where a row's task stands in the table, counted from 0
-abbrev pub placeIn : List Row → Row → ℕ
-placeIn [] r = 0
-placeIn (x ∷ rs) r = elim (eqb (r .task) (x .task)) [ true ↦ 0 | false ↦ suc (placeIn rs r) ]
+abbrev pub positionIn : List Row → Row → ℕ
+positionIn [] r = 0
+positionIn (x ∷ rs) r = elim (eqb (r .task) (x .task)) [ true ↦ 0 | false ↦ suc (positionIn rs r) ]
 
--- the places of an order's rows, the lowest row first
-abbrev pub placesUp : (Row → ℕ) → List Row → List ℕ
-placesUp place [] = []
-placesUp place (r ∷ os) = placesUp place os ++ (place r ∷ [])
+-- the positions of an order's rows, the lowest row first
+abbrev pub positionsUp : (Row → ℕ) → List Row → List ℕ
+positionsUp position [] = []
+positionsUp position (r ∷ os) = positionsUp position os ++ (position r ∷ [])
 
 -- the rule's comparison: the lowest row earlier in the table; where it is the same, the second lowest, and so on upward
 abbrev pub notAfter : List ℕ → List ℕ → Bool
@@ -115,11 +115,11 @@ module _ (test : Row → List Row → List Row → Bool) where
         orderOf table ≡ some os →
         Possible ps table →
         passes ps ≡ true →
-        notAfter (placesUp (placeIn table) os) (placesUp (placeIn table) ps) ≡ true
+        notAfter (positionsUp (positionIn table) os) (positionsUp (positionIn table) ps) ≡ true
     pub one-only :
         (os ps : List Row) →
         Possible os table →
         Possible ps table →
-        notAfter (placesUp (placeIn table) os) (placesUp (placeIn table) ps) ≡ true →
-        notAfter (placesUp (placeIn table) ps) (placesUp (placeIn table) os) ≡ true →
+        notAfter (positionsUp (positionIn table) os) (positionsUp (positionIn table) ps) ≡ true →
+        notAfter (positionsUp (positionIn table) ps) (positionsUp (positionIn table) os) ≡ true →
         os ≡ ps

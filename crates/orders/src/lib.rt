@@ -8,12 +8,12 @@ ghost use mathlib.Core.List.{[], _++_};
 ghost use Prim.Native.Nat.{_/_, _%_, _^_, _≤_, _<_};
 ghost use lib.ListN.{length, take, drop};
 ghost use Rattle.rows.specs.Rows.{maxTasks};
-ghost use Rattle.rows.specs.Arrays.{ranking};
-ghost use Rattle.orders.specs.Sets.{fits, Fresh, Settled};
+ghost use Rattle.rows.specs.inside.Arrays.{ranking};
+ghost use Rattle.orders.specs.inside.Sets.{fits, Fresh, Settled};
 ghost use Rattle.orders.specs.Stability.{stable};
-ghost use Rattle.orders.specs.Numbers.{rowsIn};
-ghost use Rattle.orders.specs.Search.{Lent, Searching, MayGo, Told};
-ghost use Rattle.orders.specs.Search.{Chained, chainTasks, Table, Answered};
+ghost use Rattle.orders.specs.inside.Numbers.{rowsIn};
+ghost use Rattle.orders.specs.inside.Search.{Lent, Searching, MayGo, LowestFound};
+ghost use Rattle.orders.specs.inside.Search.{Chained, chainTasks, TableRows, Chooses};
 use numbers::NUMBERS;
 use numbers::put_rows;
 use numbers::row_at;
@@ -86,7 +86,7 @@ fn may_go(numbers: &[u64; NUMBERS], n: usize, m: usize, i: usize, sets: &[u8]) -
 // The first row of the table that goes lowest in set m.
 fn lowest(numbers: &[u64; NUMBERS], n: usize, m: usize, sets: &mut [u8]) -> u8
     requires { ⌜ Searching (rowsIn (now numbers)) n m (now sets) × (1 ≤ m) ⌝ }
-    ensures { λ r. ⌜ Told (rowsIn (now (numbers .entry))) n m (now (sets .exit)) r ⌝ }
+    ensures { λ r. ⌜ LowestFound (rowsIn (now (numbers .entry))) n m (now (sets .exit)) r ⌝ }
 {
     let mut i: usize = 0;
     while i < n {
@@ -153,32 +153,32 @@ fn read_off(numbers: &[u64; NUMBERS], n: usize, m: usize, sets: &[u8]) -> Order
     Order { tasks, count: n }
 }
 
-// An order that is stable, if there is one.
-pub struct Answer {
+// The order that is chosen, if there is one.
+pub struct Choice {
     pub found: bool,
     pub order: Order,
 }
 
 // The order of n rows by the rule, with a record of sets that has none yet.
-fn order_with(numbers: &[u64; NUMBERS], n: usize, sets: &mut [u8]) -> Answer
+fn order_with(numbers: &[u64; NUMBERS], n: usize, sets: &mut [u8]) -> Choice
     requires { ⌜ Lent (rowsIn (now numbers)) n × Fresh n (now sets) ⌝ }
-    ensures { λ r. ⌜ Answered (take n (rowsIn (now (numbers .entry)))) r ⌝ }
+    ensures { λ r. ⌜ Chooses (take n (rowsIn (now (numbers .entry)))) r ⌝ }
 {
     let all = power(n) - 1;
     if settled(numbers, n, all, sets) {
         let order = read_off(numbers, n, all, sets);
-        return Answer { found: true, order };
+        return Choice { found: true, order };
     }
-    Answer {
+    Choice {
         found: false,
         order: nothing(),
     }
 }
 
 // The order of n rows by the rule. Few rows have few sets, and a short record is soon filled.
-fn order_in(numbers: &[u64; NUMBERS], n: usize) -> Answer
+fn order_in(numbers: &[u64; NUMBERS], n: usize) -> Choice
     requires { ⌜ Lent (rowsIn (now numbers)) n ⌝ }
-    ensures { λ r. ⌜ Answered (take n (rowsIn (now (numbers .entry)))) r ⌝ }
+    ensures { λ r. ⌜ Chooses (take n (rowsIn (now (numbers .entry)))) r ⌝ }
 {
     if n <= FEW_TASKS {
         let mut few = [UNKNOWN; FEW_SETS];
@@ -189,9 +189,9 @@ fn order_in(numbers: &[u64; NUMBERS], n: usize) -> Answer
 }
 
 // The order of a table's rows by the rule.
-pub fn order_of(rows: &[Row]) -> Answer
-    requires { ⌜ Table (now rows) ⌝ }
-    ensures { λ r. ⌜ Answered (now (rows .entry)) r ⌝ }
+pub fn order_of(rows: &[Row]) -> Choice
+    requires { ⌜ TableRows (now rows) ⌝ }
+    ensures { λ r. ⌜ Chooses (now (rows .entry)) r ⌝ }
 {
     let n = rows.len();
     let mut numbers = [0u64; NUMBERS];
@@ -200,9 +200,9 @@ pub fn order_of(rows: &[Row]) -> Answer
 }
 
 // The order of the first n rows of an array, which are lent as a table.
-pub fn order_of_first(rows: [Row; MAX_TASKS], n: usize) -> Answer
+pub fn order_of_first(rows: [Row; MAX_TASKS], n: usize) -> Choice
     requires { ⌜ Lent rows n ⌝ }
-    ensures { λ r. ⌜ Answered (take n rows) r ⌝ }
+    ensures { λ r. ⌜ Chooses (take n rows) r ⌝ }
 {
     order_of(&rows[..n])
 }

@@ -4,7 +4,7 @@ ghost use mathlib.Core.Bool.{true};
 ghost use Prim.Native.Nat.{_*_, _≤_, _<_};
 ghost use lib.ListN.{length, take};
 ghost use Rattle.rows.specs.Rows.{maxTasks, inRange};
-ghost use Rattle.orders.specs.Numbers.{rowNumbers, rowIn, rowsIn, RowPut};
+ghost use Rattle.orders.specs.inside.Numbers.{numbersRoom, rowIn, rowsIn, RowPut};
 use rows::MAX_TASKS;
 use rows::Row;
 
@@ -32,7 +32,7 @@ pub fn row_at(numbers: &[u64; NUMBERS], i: usize) -> Row
 
 // Row i is put among the numbers.
 fn put_row(numbers: &mut [u64; NUMBERS], i: usize, row: Row)
-    requires { ⌜ (i < maxTasks) × (rowNumbers * maxTasks ≤ length (now numbers)) ⌝ }
+    requires { ⌜ (i < maxTasks) × (numbersRoom ≤ length (now numbers)) ⌝ }
     ensures { λ _. ⌜ RowPut (now (numbers .entry)) i row (now (numbers .exit)) ⌝ }
 {
     let at = ROW_NUMBERS * i;
@@ -46,7 +46,7 @@ fn put_row(numbers: &mut [u64; NUMBERS], i: usize, row: Row)
 
 // The rows of a lent table are put among the numbers, one after another.
 pub fn put_rows(rows: &[Row], numbers: &mut [u64; NUMBERS])
-    requires { ⌜ (length (now rows) ≤ maxTasks) × (rowNumbers * maxTasks ≤ length (now numbers)) ⌝ }
+    requires { ⌜ (length (now rows) ≤ maxTasks) × (numbersRoom ≤ length (now numbers)) ⌝ }
     ensures { λ _. ⌜ take (length (now (rows .entry))) (rowsIn (now (numbers .exit))) ≡ now (rows .entry) ⌝ }
 {
     let mut i = 0;

@@ -7,13 +7,13 @@ use native.Mathlib.Omega.{arith}
 use lib.ListN.{length, take, drop}
 use lib.Seq.{take-append-seam, drop-append-seam}
 use borrow.Author.Tests.{le-leb, lt-leb}
-use Rattle.text.specs.Puts.{Wrote}
+use Rattle.text.specs.Buffers.{Wrote}
 use Rattle.rows.specs.declared.Row.{Row}
-use Rattle.plans.specs.declared.Plan.{Plan}
+use Rattle.plans.specs.declared.Answer.{Answer}
 use Rattle.plans.specs.Entries.{firstLate}
 use Rattle.plans.specs.Plans.{refusalText}
 use Rattle.plans.specs.Outcomes.{Outcome, writes, refuses, fitted, planOf, ifInTime, result, Written, printed}
-use Rattle.plans.specs.Prints.{toPrint}
+use Rattle.plans.specs.inside.Prints.{toPrint}
 
 pub fits : (room : ℕ) (t : List ℕ) → length t ≤ room → fitted room t ≡ writes t
 unfolding fitted
@@ -36,16 +36,16 @@ unfolding ifInTime
 timely-outcome room board order e = rw (e, ifInTime)
 
 -- a refusal leaves the buffer as it was
-pub refused : {w : Outcome} {o : List ℕ} {r : Plan} {number place : ℕ} → w ≡ refuses number place
+pub refused : {w : Outcome} {o : List ℕ} {r : Answer} {number place : ℕ} → w ≡ refuses number place
     → r ≡ result (refuses number place) → Written w o o r
 refused e is = rw e record { returns = is; holds = refl }
 
 -- ---- what is printed
-written-text : {t o o′ : List ℕ} {r : Plan} → Written (writes t) o o′ r → Wrote t o o′ (r .long)
+written-text : {t o o′ : List ℕ} {r : Answer} → Written (writes t) o o′ r → Wrote t o o′ (r .long)
 written-text w = record { long-is = ap (λ p. p .long) (w .returns); holds = w .holds }
 
 -- of any answer and buffer: the lines of a refusal, or as much of the buffer as the answer says
-pub print-refused : (r : Plan) (o : List ℕ) → (r .number ≡ 0 → ⊥) → toPrint r o ≡ refusalText (r .number) (r .place)
+pub print-refused : (r : Answer) (o : List ℕ) → (r .number ≡ 0 → ⊥) → toPrint r o ≡ refusalText (r .number) (r .place)
 print-refused r o h = by-number (r .number) h
   where
     by-number : (n : ℕ) → (n ≡ 0 → ⊥)
@@ -58,7 +58,7 @@ front-over zero o = refl
 front-over (suc n) [] = refl
 front-over (suc n) (b ∷ o) = ap (λ l. b ∷ l) (front-over n o)
 
-pub print-front : (r : Plan) (o : List ℕ) (long : ℕ) → r .number ≡ 0 → long ≡ length (take (r .long) o)
+pub print-front : (r : Answer) (o : List ℕ) (long : ℕ) → r .number ≡ 0 → long ≡ length (take (r .long) o)
     → Wrote (toPrint r o) o o long
 print-front r o long e h =
     let is : take (r .long) o ≡ toPrint r o = sym (rw e) in
@@ -69,20 +69,20 @@ abbrev pub Numbered : Outcome → Type 0
 Numbered w = (place : ℕ) → w ≡ refuses 0 place → ⊥
 
 -- the text to print is the outcome's
-to-print : (w : Outcome) {o o′ : List ℕ} {r : Plan} → Numbered w → Written w o o′ r → toPrint r o′ ≡ printed w
+to-print : (w : Outcome) {o o′ : List ℕ} {r : Answer} → Numbered w → Written w o o′ r → toPrint r o′ ≡ printed w
 to-print (writes t) {o = o} n w =
     ap₂ toPrint (w .returns) (w .holds) ∙ take-append-seam t (drop (length t) o)
 to-print (refuses zero p) n w = absurd (n p refl)
 to-print (refuses (suc m) p) {o′ = o′} n w = ap (λ q. toPrint q o′) (w .returns)
 
 -- put over a buffer in which it, or nothing, was put, it is put over the buffer that was lent
-over-again : (w : Outcome) {o o′ : List ℕ} {r : Plan} → Written w o o′ r
+over-again : (w : Outcome) {o o′ : List ℕ} {r : Answer} → Written w o o′ r
     → printed w ++ drop (length (printed w)) o′ ≡ printed w ++ drop (length (printed w)) o
 over-again (writes t) {o = o} w =
     ap (λ l. t ++ l) (ap (drop (length t)) (w .holds) ∙ drop-append-seam t (drop (length t) o))
 over-again (refuses m p) w = ap (λ l. refusalText m p ++ drop (length (refusalText m p)) l) (w .holds)
 
-pub prints : (w : Outcome) {o o′ o″ : List ℕ} {r : Plan} {long : ℕ} → Numbered w → Written w o o′ r
+pub prints : (w : Outcome) {o o′ o″ : List ℕ} {r : Answer} {long : ℕ} → Numbered w → Written w o o′ r
     → Wrote (toPrint r o′) o′ o″ long → Wrote (printed w) o o″ long
 prints w {o′ = o′} {o″ = o″} {long = long} n p q =
     let s = subst (λ t. Wrote t o′ o″ long) (to-print w n p) q in

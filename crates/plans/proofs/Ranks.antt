@@ -5,7 +5,8 @@ use Prim.Native.Nat.{ℕ, suc, _+_, _≤_}
 use native.Mathlib.Omega.{arith}
 use lib.ListN.{length, length-append}
 use Rattle.text.specs.Text.{joined}
-use Rattle.text.specs.Puts.{Put, Wrote}
+use Rattle.text.specs.Buffers.{Wrote}
+use Rattle.text.specs.inside.Puts.{Put}
 use Rattle.text.proofs.Puts.{begins, next, ends, from-start}
 use Rattle.plans.specs.declared.Entry.{Entry}
 use Rattle.plans.specs.Plans.{rankText, rankTexts, headText, planText}

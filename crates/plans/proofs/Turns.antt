@@ -10,19 +10,19 @@ use lib.Seq.{append-snoc, take-suc, take-take, length-take-le, getD-take}
 use Rattle.basics.specs.Basics.{pick}
 use Rattle.basics.proofs.Fronts.{left-none, left-next}
 use Rattle.text.specs.Text.{joined}
-use Rattle.text.specs.Puts.{Put}
+use Rattle.text.specs.inside.Puts.{Put}
 use Rattle.text.proofs.Puts.{begins, next, ends}
 use Rattle.rows.specs.Rows.{maxTasks, inRange, allRows, noRow}
 use Rattle.rows.specs.declared.Row.{Row}
 use Rattle.rows.proofs.Limits.{at-passes, front-passes}
 use Rattle.responses.specs.declared.Figures.{Figures}
 use Rattle.responses.specs.Figures.{isLate, latest, earliest, margin, lateFigures, figuresAt, figuresUnder}
-use Rattle.responses.specs.Columns.{rowsAbove, Posed}
-use Rattle.responses.proofs.Filled.{Filled, filled-none, filled-more, filled-posed, filled-figures}
+use Rattle.responses.specs.inside.Columns.{rowsAbove, UnderColumns}
+use Rattle.responses.proofs.Filling.{Filled, filled-none, filled-more, filled-under, filled-figures}
 use Rattle.plans.specs.declared.Entry.{Entry}
 use Rattle.plans.specs.Entries.{entry, entriesFrom, entries, lateFrom, firstLate}
 use Rattle.plans.specs.Plans.{rankText, rankTexts, rankRoom}
-use Rattle.plans.specs.Ranked.{Ranked}
+use Rattle.plans.specs.inside.Ranks.{PutsRanks}
 use Rattle.plans.proofs.Entries.{InLimits, entries-length, entry-limits}
 use Rattle.plans.proofs.Lengths.{rank-length}
 use Rattle.plans.proofs.Ranks.{rank-put}
@@ -102,8 +102,8 @@ module _ {n : ℕ} {rows : List Row} {at : ℕ} {o : List ℕ} where
           ∙ front-passes inRange i (take n rows) (t .in-range)
 
       -- the next row may be asked for its figures under the columns
-      pub posed : Posed r i ps ws bs
-      posed = filled-posed (t .above) (omega (arith, t .few)) above-in-range r here-in-range
+      pub under-columns : UnderColumns r i ps ws bs
+      under-columns = filled-under (t .above) (omega (arith, t .few)) above-in-range r here-in-range
 
       module _ (x : Figures) (is : x ≡ figuresUnder r (rowsAbove i ps ws bs)) where
         figures-are : x ≡ figuresUnder r (take i rows)
@@ -118,7 +118,7 @@ module _ {n : ℕ} {rows : List Row} {at : ℕ} {o : List ℕ} where
 
         -- the row is late: it is the first
         pub found-late : x .late ≡ true → (k end : ℕ) → k ≡ suc i
-            → Ranked (take n rows) at o o₁ (record { late = k; end = end })
+            → PutsRanks (take n rows) at o o₁ (record { late = k; end = end })
         found-late e k end s =
             let now : isLate r (take i rows) ≡ true = sym late-here ∙ e in
             let first : firstLate (take n rows) ≡ suc i = t .late-is ∙ left ∙ rw (now, lateFrom) in
@@ -173,7 +173,7 @@ module _ {n : ℕ} {rows : List Row} {at : ℕ} {o : List ℕ} where
               }
 
     -- all ranks are passed: none is late
-    pub finished : n ≤ i → Ranked (take n rows) at o o₁ (record { late = 0; end = m })
+    pub finished : n ≤ i → PutsRanks (take n rows) at o o₁ (record { late = 0; end = m })
     finished h =
         let all-passed : i ≡ n = omega (arith, t .reached) in
         let none : firstLate (take n rows) ≡ 0 =

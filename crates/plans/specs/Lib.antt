@@ -1,6 +1,5 @@
--- Text out: an order's figures, a plan, a refusal; what a call comes to, and what follows from it.
+-- Text out: an order's figures, a plan, a refusal, what a call comes to; inside, what is put and printed on the way.
 pub mod Entries
 pub mod Plans
-pub mod Ranked
 pub mod Outcomes
-pub mod Prints
+pub mod inside

@@ -6,7 +6,7 @@ use Prim.Native.Nat.{ℕ, zero, suc}
 use lib.Dec.{leb}
 use lib.ListN.{length, drop}
 use Rattle.rows.specs.declared.Row.{Row}
-use Rattle.plans.specs.declared.Plan.{Plan}
+use Rattle.plans.specs.declared.Answer.{Answer}
 use Rattle.plans.specs.Entries.{entries, firstLate}
 use Rattle.plans.specs.Plans.{planText, refusalText}
 
@@ -27,7 +27,7 @@ planOf room board order = fitted room (planText board (entries order))
 unfoldable pub ifInTime : ℕ → ℕ → List Row → Outcome
 ifInTime room board order = elim (firstLate order) [ zero ↦ planOf room board order | suc k ↦ refuses 7 (suc k) ]
 
-abbrev pub result : Outcome → Plan
+abbrev pub result : Outcome → Answer
 result (writes text) = record { number = 0; place = 0; long = length text }
 result (refuses number place) = record { number = number; place = place; long = 0 }
 
@@ -41,7 +41,7 @@ after (writes text) buffer = over text buffer
 after (refuses number place) buffer = buffer
 
 -- a call's promise: what it returns, and the bytes of its buffer before and after it
-pub record Written (w : Outcome) (buffer buffer′ : List ℕ) (r : Plan) : Type 0 where
+pub record Written (w : Outcome) (buffer buffer′ : List ℕ) (r : Answer) : Type 0 where
   pub returns : r ≡ result w
   pub holds : buffer′ ≡ after w buffer
 

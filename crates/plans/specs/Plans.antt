@@ -1,8 +1,9 @@
 -- A plan's text from its entries, and a refusal's three lines.
 use mathlib.Core.List.{List, [], _∷_}
-use Prim.Native.Nat.{ℕ, suc}
+use Prim.Native.Nat.{ℕ, suc, _+_, _*_}
 use lib.ListN.{length}
 use Rattle.text.specs.Text.{bytes, decimal, signed, joined, keyLine}
+use Rattle.rows.specs.Rows.{maxTasks}
 use Rattle.plans.specs.declared.Entry.{Entry}
 
 -- the six lines of rank k
@@ -40,10 +41,12 @@ refusalText number place = joined (
     ∷ keyLine (bytes "line=") (decimal place)
     ∷ [])
 
--- the room that every plan has enough of
-abbrev pub planRoom : ℕ
-planRoom = 1024
+-- room for the lines before the ranks, or for a refusal's; for the lines of a rank; and for every plan
+abbrev pub headRoom : ℕ
+headRoom = 40
 
--- and every rank of it
 abbrev pub rankRoom : ℕ
 rankRoom = 82
+
+abbrev pub planRoom : ℕ
+planRoom = headRoom + maxTasks * rankRoom

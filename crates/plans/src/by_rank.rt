@@ -5,7 +5,7 @@ ghost use Prim.Native.Nat.{_+_, _*_, _≤_};
 ghost use lib.ListN.{length, take};
 ghost use Rattle.rows.specs.Rows.{maxTasks, inRange, allRows};
 ghost use Rattle.plans.specs.Plans.{rankRoom};
-ghost use Rattle.plans.specs.Ranked.{Ranked};
+ghost use Rattle.plans.specs.inside.Ranks.{PutsRanks};
 use responses::figures_under;
 use rows::MAX_TASKS;
 use rows::Row;
@@ -20,7 +20,7 @@ pub struct RanksPut {
 pub fn put_order(out: &mut [u8], at: usize, rows: [Row; MAX_TASKS], n: usize) -> RanksPut
     requires { ⌜ (n ≤ maxTasks) × (allRows inRange (take n rows) ≡ true) ⌝ }
     requires { ⌜ at + n * rankRoom ≤ length (now out) ⌝ }
-    ensures { λ r. ⌜ Ranked (take n rows) at (now (out .entry)) (now (out .exit)) r ⌝ }
+    ensures { λ r. ⌜ PutsRanks (take n rows) at (now (out .entry)) (now (out .exit)) r ⌝ }
 {
     let mut periods = [0u64; MAX_TASKS];
     let mut worsts = [0u64; MAX_TASKS];

@@ -7,19 +7,26 @@ ghost use mathlib.Core.Path.{_≡_};
 ghost use mathlib.Core.Bool.{true};
 ghost use Prim.Native.Nat.{_+_, _≤_};
 ghost use lib.ListN.{length, take, replicate};
-ghost use Rattle.text.specs.Puts.{Put, Wrote};
+ghost use Rattle.text.specs.Buffers.{Wrote};
+ghost use Rattle.text.specs.inside.Puts.{Put};
 ghost use Rattle.rows.specs.Rows.{maxTasks, inRange, allRows};
 ghost use Rattle.plans.specs.Plans.{rankText, headText, refusalText, planRoom};
 ghost use Rattle.plans.specs.Outcomes.{refuses, ifInTime, result, Written};
-ghost use Rattle.plans.specs.Prints.{toPrint};
+ghost use Rattle.plans.specs.inside.Prints.{toPrint};
 use rows::MAX_TASKS;
 use rows::Row;
 use text::put_bytes;
 use text::put_line;
 use text::put_signed_line;
 
+// Room for the lines before a plan's ranks, or for a refusal's.
+const HEAD_ROOM: usize = 40;
+
+// Room for the lines of a rank.
+const RANK_ROOM: usize = 82;
+
 // Room for every plan.
-pub const ROOM: usize = 1024;
+pub const ROOM: usize = HEAD_ROOM + MAX_TASKS * RANK_ROOM;
 
 pub fn buffer() -> [u8; ROOM]
     ensures { λ r. ⌜ r ≡ replicate planRoom 0 ⌝ }
@@ -37,17 +44,17 @@ pub struct Entry {
 }
 
 // What a call returns. Number: 0, or the refusal; place: its line or rank; long: bytes written.
-pub struct Plan {
+pub struct Answer {
     pub number: u8,
     pub place: u32,
     pub long: u32,
 }
 
-impl Plan {
+impl Answer {
     pub fn refused(number: u8, place: u32) -> Self
         ensures { λ r. ⌜ r ≡ result (refuses number place) ⌝ }
     {
-        Plan {
+        Answer {
             number,
             place,
             long: 0,
@@ -106,7 +113,7 @@ fn put_refusal(out: &mut [u8], number: u8, place: u32) -> usize
 
 // The plan of the first n rows as an order, highest rank first: refusal 7 where one is late, 9 where it does not fit.
 // A plan is written whole in a buffer of the call's own, so that a refusal leaves out as it was.
-pub fn plan_order(out: &mut [u8], board: u16, rows: [Row; MAX_TASKS], n: usize) -> Plan
+pub fn plan_order(out: &mut [u8], board: u16, rows: [Row; MAX_TASKS], n: usize) -> Answer
     requires { ⌜ (n ≤ maxTasks) × (allRows inRange (take n rows) ≡ true) ⌝ }
     ensures { λ r. ⌜ Written (ifInTime (length (now (out .entry))) board (take n rows))
         (now (out .entry)) (now (out .exit)) r ⌝ }
@@ -116,16 +123,16 @@ pub fn plan_order(out: &mut [u8], board: u16, rows: [Row; MAX_TASKS], n: usize) 
     let ranks = by_rank::put_order(&mut text, at, rows, n);
     let late = ranks.late;
     if late != 0 {
-        return Plan::refused(7, late);
+        return Answer::refused(7, late);
     }
     let long = ranks.end;
     let room = out.len();
     if room < long {
-        return Plan::refused(9, 0);
+        return Answer::refused(9, 0);
     }
     put_bytes(out, 0, &text[..long]);
     let written = long as u32;
-    Plan {
+    Answer {
         number: 0,
         place: 0,
         long: written,

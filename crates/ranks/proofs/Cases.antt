@@ -3,7 +3,7 @@ use mathlib.Core.Path.{refl}
 use Rattle.text.specs.Text.{digits, decimal, signed, keyLine}
 use Rattle.text.specs.Lines.{numberOf, lineAt}
 use Rattle.tables.specs.Tables.{fieldAt, rankAt, ranksFrom, fieldsFrom, rowsFrom, tasksFrom, boardFrom}
-use Rattle.responses.specs.Fixed.{smallest, largest}
+use Rattle.responses.specs.Extremes.{smallest, largest}
 use Rattle.orders.specs.Orders.{overSet}
 use Rattle.plans.specs.Plans.{rankText, headText, planText, refusalText}
 use Rattle.plans.specs.Outcomes.{fitted, ifInTime}

@@ -1,10 +1,10 @@
 -- The demands of every text, the starred cases, and what the calls plan.
 pub mod Outcomes
 pub mod Texts
-pub mod Promised
-pub mod Planned
-pub mod Reviewed
+pub mod Promises
+pub mod Planner
+pub mod Reviewer
 pub mod Cases
 pub mod Witnesses
 pub mod Readings
-pub mod Ordered
+pub mod Orders

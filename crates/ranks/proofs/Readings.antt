@@ -13,7 +13,7 @@ use Rattle.tables.specs.Tables.{Answer, readTable}
 use Rattle.tables.specs.Readings.{reading}
 use Rattle.tables.specs.Claims.{Accepted}
 use Rattle.tables.proofs.Reasons.{read}
-use Rattle.orders.specs.Search.{Table, Lent}
+use Rattle.orders.specs.inside.Search.{TableRows, Lent}
 use Rattle.plans.specs.Outcomes.{Outcome, refuses}
 use Rattle.ranks.specs.Calls.{onTable}
 use Rattle.ranks.proofs.Texts.{Accepts}
@@ -52,7 +52,7 @@ module _ (ranked : Bool) (text : List ℕ) (r : Reading) (is : r ≡ reading (re
     lent = record {
       held = few;
       counted = ap length rows-front ∙ sym count-is;
-      table = subst Table (sym rows-front)
+      table = subst TableRows (sym rows-front)
           (record { few = sound .few-rows; in-range = sound .rows-in-range; distinct = sound .rows-distinct });
     }
 

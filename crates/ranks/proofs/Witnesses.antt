@@ -10,7 +10,7 @@ use Rattle.text.specs.Text.{digits, decimal, signed, keyLine}
 use Rattle.text.specs.Lines.{numberOf, lineAt}
 use Rattle.tables.specs.Tables.{fieldAt, rankAt, ranksFrom, fieldsFrom, rowsFrom, tasksFrom, boardFrom}
 use Rattle.tables.specs.Tables.{Answer, readTable}
-use Rattle.responses.specs.Fixed.{smallest, largest}
+use Rattle.responses.specs.Extremes.{smallest, largest}
 use Rattle.orders.specs.Orders.{overSet}
 use Rattle.plans.specs.Entries.{entries}
 use Rattle.plans.specs.Plans.{rankText, headText, planText}
@@ -23,18 +23,18 @@ use Rattle.ranks.specs.Witnesses.{example, exampleRows, timelyText, late
 use Rattle.ranks.specs.Witnesses.{Met, Excluded}
 use Rattle.ranks.proofs.Outcomes.{same-refusal, not-both}
 use Rattle.ranks.proofs.Texts.{failing, telling, fails-only}
-use Rattle.ranks.proofs.Planned as Planned
-use Rattle.ranks.proofs.Reviewed as Reviewed
+use Rattle.ranks.proofs.Planner as Planner
+use Rattle.ranks.proofs.Reviewer as Reviewer
 
 pub met : Met
 unfolding digits decimal signed keyLine numberOf lineAt fieldAt rankAt ranksFrom fieldsFrom rowsFrom tasksFrom boardFrom
     smallest largest overSet rankText headText planText ifInTime onTable
 met =
     let late-told = telling true lateText refl in
-    let late = Reviewed.review-demands lateText 0 in
+    let late = Reviewer.review-demands lateText 0 in
     let late-given = late .given 7 exampleRows (11 ∷ 13 ∷ 12 ∷ []) late-told in
     let timely-told = telling true timelyText refl in
-    let timely = Reviewed.review-demands timelyText 0 in
+    let timely = Reviewer.review-demands timelyText 0 in
     let plan-long : length (planText 7 (entries exampleOrder)) ≡ 176 = refl in
     record {
       missing = failing false _ 0 refl;
@@ -45,9 +45,9 @@ met =
       repeated = failing false _ 4 refl;
       impossible = failing true _ 5 refl;
       tells = telling false example refl;
-      by-rule = Planned.rule-of example 0 refl exampleOrder refl;
+      by-rule = Planner.rule-of example 0 refl exampleOrder refl;
       short = omega (arith, plan-long);
-      every-order-fails = Planned.choice (table "beta=8000" "beta=8000" "beta=54999") refl .none-passes refl;
+      every-order-fails = Planner.choice (table "beta=8000" "beta=8000" "beta=54999") refl .none-passes refl;
       tells-late = late-told;
       given-late = late-given;
       first-late = late .accepted 7 exampleRows (11 ∷ 13 ∷ 12 ∷ []) late-told lateOrder late-given .seven 2 .0 refl;
@@ -75,12 +75,12 @@ excluded = record {
       let e = fails-only false example 2 77 (d .refused 2 77 .0 (refl, omega arith)) in
       let z : _≡_ {A = ℕ} 0 2 = sym example-accepted ∙ ap (λ (a : Answer). a .refused) e in
       omega arith;
-  empty-plan = λ room d. not-both (Planned.decided malformed room _ d ∙ malformed-only room);
+  empty-plan = λ room d. not-both (Planner.decided malformed room _ d ∙ malformed-only room);
   no-line = λ room d.
-      let z : _≡_ {A = ℕ} 0 1 = same-refusal (Planned.decided malformed room _ d ∙ malformed-only room) .1 in
+      let z : _≡_ {A = ℕ} 0 1 = same-refusal (Planner.decided malformed room _ d ∙ malformed-only room) .1 in
       omega arith;
-  seven-with-no-rank = λ text room d. Reviewed.seven-ranked text room (sym (Reviewed.decided text room _ d));
+  seven-with-no-rank = λ text room d. Reviewer.seven-ranked text room (sym (Reviewer.decided text room _ d));
   nine-for-late = λ room d.
-      let z : _≡_ {A = ℕ} 9 7 = same-refusal (Reviewed.decided lateText room _ d ∙ late-only room) .0 in
+      let z : _≡_ {A = ℕ} 9 7 = same-refusal (Reviewer.decided lateText room _ d ∙ late-only room) .0 in
       omega arith;
 }

@@ -103,7 +103,8 @@ starred =
     ∷ order (row11 7999 ∷ row12 8000 ∷ row13 57000 ∷ []) (11 ∷ 12 ∷ 13 ∷ [])
     ∷ refusal (table "beta=7999" "beta=7999" "beta=57000") 8 0
     ∷ plan (alone "worst=10" "beta=10000")
-    (lined ("plan=1" ∷ "board=7" ∷ "tasks=1" ∷ "rank=1" ∷ "task=1" ∷ "best=10" ∷ "worst=10" ∷ "jitter=0" ∷ "margin=0" ∷ []))
+    (lined ("plan=1" ∷ "board=7" ∷ "tasks=1" ∷ "rank=1" ∷ "task=1" ∷ "best=10" ∷ "worst=10" ∷ "jitter=0" ∷ "margin=0"
+    ∷ []))
     ∷ refusal (alone "worst=10" "beta=9999") 8 0
     ∷ []
 

@@ -15,12 +15,12 @@ use Rattle.tables.specs.Reasons.{Stage, at-end, Reaches, Refused}
 use Rattle.tables.specs.Claims.{Read}
 use Rattle.responses.specs.Figures.{isLate}
 use Rattle.responses.specs.Claims.{Figured}
-use Rattle.orders.specs.Orders.{Possible, placeIn, placesUp, notAfter, Chosen}
+use Rattle.orders.specs.Orders.{Possible, positionIn, positionsUp, notAfter, Chosen}
 use Rattle.orders.specs.Stability.{stable, orderStable}
 use Rattle.boards.specs.Claims.{LastsInRange, Kept, NoneLate}
 use Rattle.boards.specs.Runs.{BoardRuns}
 use Rattle.plans.specs.declared.Entry.{Entry}
-use Rattle.plans.specs.declared.Plan.{Plan}
+use Rattle.plans.specs.declared.Answer.{Answer}
 use Rattle.plans.specs.Entries.{entry, entries, noEntry}
 use Rattle.plans.specs.Plans.{planText, planRoom}
 use Rattle.plans.specs.Outcomes.{Outcome, writes, refuses, Written}
@@ -73,7 +73,7 @@ pub record ByRule (rows order : List Row) : Type 0 where
   pub is-stable : orderStable order ≡ true
   pub not-after :
       (os : List Row) → Possible os rows → orderStable os ≡ true
-      → notAfter (placesUp (placeIn rows) order) (placesUp (placeIn rows) os) ≡ true
+      → notAfter (positionsUp (positionIn rows) order) (positionsUp (positionIn rows) os) ≡ true
 
 -- an accepted table: "no order" exactly where every order fails; else the plan of the order that the rule chooses
 pub record TablePlan (room board : ℕ) (rows : List Row) (w : Outcome) : Type 0 where
@@ -132,12 +132,12 @@ pub record ReviewDemands (text : List ℕ) (room : ℕ) (w : Outcome) : Type 0 w
 
 -- ---- what the public calls promise, of the bytes of their buffer before and after them and of what they return: they
 -- come from one outcome, which meets the demands; and no other outcome meets them
-pub record PlanSays (text buffer buffer′ : List ℕ) (r : Plan) : Type 0 where
+pub record PlanSays (text buffer buffer′ : List ℕ) (r : Answer) : Type 0 where
   pub answer : Written (planned text (length buffer)) buffer buffer′ r
   pub demands : PlanDemands text (length buffer) (planned text (length buffer))
   pub no-other : (w : Outcome) → PlanDemands text (length buffer) w → w ≡ planned text (length buffer)
 
-pub record ReviewSays (text buffer buffer′ : List ℕ) (r : Plan) : Type 0 where
+pub record ReviewSays (text buffer buffer′ : List ℕ) (r : Answer) : Type 0 where
   pub answer : Written (reviewed text (length buffer)) buffer buffer′ r
   pub demands : ReviewDemands text (length buffer) (reviewed text (length buffer))
   pub no-other : (w : Outcome) → ReviewDemands text (length buffer) w → w ≡ reviewed text (length buffer)

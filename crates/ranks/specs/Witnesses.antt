@@ -2,10 +2,11 @@
 -- has the runs). And outcomes that weaker demands would admit, each excluded.
 use mathlib.Core.Bool.{true, false}
 use mathlib.Core.List.{List, [], _∷_, _++_}
-use Prim.Native.Nat.{ℕ, _<_}
+use Prim.Native.Nat.{ℕ, suc, _<_}
 use Prim.Native.String.{String}
 use lib.ListN.{length}
-use Rattle.text.specs.Text.{bytes}
+use Rattle.text.specs.Text.{bytes, decimal, keyLine}
+use Rattle.rows.specs.Rows.{maxTasks}
 use Rattle.rows.specs.declared.Row.{Row}
 use Rattle.boards.specs.Claims.{NoneLate}
 use Rattle.boards.specs.Witnesses.{exampleOrder}
@@ -40,12 +41,16 @@ malformed = lined ("board=07" ∷ [])
 abbrev pub twoTasks : List String → List ℕ
 twoTasks more = lined ("board=7" ∷ "tasks=2" ∷ "task=1" ∷ "period=10" ∷ more)
 
+-- a task more than a table can have
+abbrev pub tooMany : List ℕ
+tooMany = lined ("board=7" ∷ []) ++ keyLine (bytes "tasks=") (decimal (suc maxTasks))
+
 pub record Met : Type 0 where
   -- refusals 1 to 6, each at its line
   pub missing : Fails false [] 1 1
   pub trailing : Fails false (example ++ bytes "x") 1 21
   pub no-number : Fails false malformed 2 1
-  pub out-of-range : Fails false (lined ("board=7" ∷ "tasks=13" ∷ [])) 3 2
+  pub out-of-range : Fails false tooMany 3 2
   pub exceeding : Fails false (twoTasks ("worst=11" ∷ [])) 4 5
   pub repeated : Fails false (twoTasks ("worst=10" ∷ "best=1" ∷ "alpha=1000" ∷ "beta=0" ∷ "task=1" ∷ [])) 5 9
   pub impossible : Fails true (example ++ lined ("rank=11" ∷ "rank=11" ∷ [])) 6 22

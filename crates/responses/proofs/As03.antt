@@ -14,15 +14,15 @@ use Rattle.rows.specs.Rows.{timesInRange, allRows}
 use Rattle.rows.specs.declared.Row.{Row}
 use Rattle.rows.proofs.Limits.{times}
 use Rattle.responses.specs.declared.Figures.{Figures}
-use Rattle.responses.specs.Fixed.{largest}
+use Rattle.responses.specs.Extremes.{largest}
 use Rattle.responses.specs.Interference.{ceiling, largestFixed}
 use Rattle.basics.specs.Basics.{pick}
 use Rattle.basics.proofs.Tests.{test-of}
 use Rattle.responses.specs.Figures.{worstLoad, bestLoad, worstIn, bestIn}
 use Rattle.responses.specs.Figures as F
 use Rattle.responses.proofs.Margins.{not-below-zero}
-use Rattle.responses.proofs.Fixed.{demand-mono, least-is, least-none, largest-is}
-use Rattle.responses.proofs.Responses.{responses, posed-times}
+use Rattle.responses.proofs.FixedPoints.{demand-mono, least-is, least-none, largest-is}
+use Rattle.responses.proofs.Responses.{responses, limits-times}
 
 -- ---- document 03
 abbrev pub worstSum : ℕ → List Row → ℕ
@@ -181,9 +181,9 @@ Say ok late w e j m s x =
 
 abbrev pub FiguresSay : Row → List Row → Figures → Type 0
 FiguresSay t rs x =
-    Say (F.isPosed t rs) (isLate t rs) (latest t rs) (earliest t rs) (jitter t rs) (margin t rs) (isStable t rs) x
+    Say (F.inLimits t rs) (isLate t rs) (latest t rs) (earliest t rs) (jitter t rs) (margin t rs) (isStable t rs) x
 
--- by cases: rows that are not posed, a row that is late, and one that is not
+-- by cases: rows out of the limits, a row that is late, and one that is not
 said : (ok l l′ : Bool) (w w′ e e′ : ℕ) (m m′ : ℤ) (s : Bool)
     → (ok ≡ true → (l ≡ l′) × (w ≡ w′) × (e ≡ e′) × (m ≡ m′) × (s ≡ (not l′ && leZ (pos 0) m′)))
     → Say ok l w e (w - e) m s (pick ok (pick l′ F.lateFigures (F.figuresAt w′ e′ m′)) F.noFigures)
@@ -195,9 +195,9 @@ said true l false w w′ e e′ m m′ s h =
 
 pub figures-say : (t : Row) (rs : List Row) → FiguresSay t rs (F.figuresOf t rs)
 figures-say t rs =
-    said (F.isPosed t rs) (isLate t rs) (F.isLate t rs) (latest t rs) (F.latest t rs) (earliest t rs)
+    said (F.inLimits t rs) (isLate t rs) (F.isLate t rs) (latest t rs) (F.latest t rs) (earliest t rs)
     (F.earliest t rs) (margin t rs) (F.margin t rs) (isStable t rs) (λ ok.
-    let h = posed-times t rs ok in
+    let h = limits-times t rs ok in
     let w = latest-is t rs (h .0) (h .1) in
     let e = earliest-is t rs (h .0) (h .1) in
     (ap (λ (x : ℕ). eqb x 0) w, w, e, margin-is t rs (h .0) (h .1), stable-is t rs (h .0) (h .1)))

@@ -11,12 +11,13 @@ use Rattle.rows.specs.Rows.{maxTicks, timesInRange, allRows}
 use Rattle.rows.specs.declared.Row.{Row}
 use Rattle.rows.proofs.Limits.{Times, times, in-range-times, head-passes, tail-passes}
 use Rattle.responses.specs.Interference.{ceiling, Load, load, interference, leastFixed, largestFixed}
-use Rattle.responses.specs.Columns.{loadsFrom, loads, rowAbove, rowsFrom, rowsAbove, columnsMax, Columns, Posed}
+use Rattle.responses.specs.inside.Columns.{loadsFrom, loads, rowAbove, rowsAboveFrom, rowsAbove}
+use Rattle.responses.specs.inside.Columns.{columnsMax, Columns, UnderColumns}
 use Rattle.responses.specs.Figures.{worstLoad, bestLoad, latest, earliest}
 use Rattle.responses.proofs.Sums.{term-max}
 use Rattle.responses.proofs.Responses.{responses}
 
--- from place i on there is the task at i, and what stands after it
+-- from index i on there is the task at i, and what stands after it
 pub loads-step : (n i : ℕ) (ps cs : List ℕ) → i < n
     → loadsFrom i (n - i) ps cs ≡ load (getD ps i 0) (getD cs i 0) ∷ loadsFrom (i + 1) (n - (i + 1)) ps cs
 unfolding loadsFrom
@@ -66,8 +67,8 @@ module _ (n : ℕ) (ps cs : List ℕ) (k : Columns n ps cs) where
 -- the loads of the rows are two of the columns
 rows-loads : (f : Row → Load) (cs ps ws bs : List ℕ)
     → ((j : ℕ) → f (rowAbove (getD ps j 0) (getD ws j 0) (getD bs j 0)) ≡ load (getD ps j 0) (getD cs j 0))
-    → (n i : ℕ) → loadsFrom i n ps cs ≡ map f (rowsFrom i n ps ws bs)
-unfolding loadsFrom rowsFrom
+    → (n i : ℕ) → loadsFrom i n ps cs ≡ map f (rowsAboveFrom i n ps ws bs)
+unfolding loadsFrom rowsAboveFrom
 rows-loads f cs ps ws bs h zero i = refl
 rows-loads f cs ps ws bs h (suc n) i = ap₂ _∷_ (sym (h i)) (rows-loads f cs ps ws bs h n (suc i))
 
@@ -78,20 +79,21 @@ module _ (n : ℕ) (ps ws bs : List ℕ) where
   pub best-loads : loads n ps bs ≡ map bestLoad (rowsAbove n ps ws bs)
   best-loads = rows-loads bestLoad bs ps ws bs (λ j. refl) n 0
 
--- the times of the row at place j
-times-from : (ps ws bs : List ℕ) (n i j : ℕ) → j < n → allRows timesInRange (rowsFrom i n ps ws bs) ≡ true
+-- the times of the row at index j
+times-from : (ps ws bs : List ℕ) (n i j : ℕ) → j < n → allRows timesInRange (rowsAboveFrom i n ps ws bs) ≡ true
     → Times (rowAbove (getD ps (i + j) 0) (getD ws (i + j) 0) (getD bs (i + j) 0))
-unfolding rowsFrom
+unfolding rowsAboveFrom
 times-from ps ws bs zero i j l h = absurd (omega arith)
 times-from ps ws bs (suc n) i zero l h =
     let r = rowAbove (getD ps i 0) (getD ws i 0) (getD bs i 0) in
-    rw (add-zero i) (times r (head-passes timesInRange r (rowsFrom (suc i) n ps ws bs) h))
+    rw (add-zero i) (times r (head-passes timesInRange r (rowsAboveFrom (suc i) n ps ws bs) h))
 times-from ps ws bs (suc n) i (suc j) l h =
     let r = rowAbove (getD ps i 0) (getD ws i 0) (getD bs i 0) in
     let e : i + suc j ≡ suc i + j = omega arith in
-    rw e (times-from ps ws bs n (suc i) j (omega arith) (tail-passes timesInRange r (rowsFrom (suc i) n ps ws bs) h))
+    let rest = tail-passes timesInRange r (rowsAboveFrom (suc i) n ps ws bs) h in
+    rw e (times-from ps ws bs n (suc i) j (omega arith) rest)
 
-module _ {t : Row} {n : ℕ} {ps ws bs : List ℕ} (p : Posed t n ps ws bs) where
+module _ {t : Row} {n : ℕ} {ps ws bs : List ℕ} (p : UnderColumns t n ps ws bs) where
   times-at : (j : ℕ) → j < n → Times (rowAbove (getD ps j 0) (getD ws j 0) (getD bs j 0))
   times-at j l = let e : 0 + j ≡ j = omega arith in rw e at (times-from ps ws bs n 0 j l (p .times-in-range))
 
@@ -129,7 +131,8 @@ module _ (t : Row) (n : ℕ) (ps ws bs : List ℕ) where
     pub earliest-is : (e : ℕ) → e ≡ largestFixed (t .best) w (loads n ps bs)
         → (e ≡ earliest t (rowsAbove n ps ws bs)) × (e ≤ w)
 
-  pub found : (w : ℕ) → Posed t n ps ws bs → w ≡ leastFixed (t .worst) (t .period) (loads n ps ws) → 1 ≤ w → Found w
+  pub found : (w : ℕ) → UnderColumns t n ps ws bs → w ≡ leastFixed (t .worst) (t .period) (loads n ps ws) → 1 ≤ w
+      → Found w
   found w p e k =
       let above = rowsAbove n ps ws bs in
       let i = latest-found w e in

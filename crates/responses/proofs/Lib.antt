@@ -1,10 +1,10 @@
 -- Laws of interference, fixed points and figures, and of rows as columns.
 pub mod Sums
-pub mod Fixed
+pub mod FixedPoints
 pub mod Margins
 pub mod Responses
-pub mod Same
+pub mod Sequences
 pub mod As03
 pub mod Columns
-pub mod Gathered
-pub mod Filled
+pub mod RowsAbove
+pub mod Filling

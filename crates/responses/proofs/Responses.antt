@@ -19,11 +19,11 @@ use Rattle.basics.proofs.Tests.{test-of, and-left, and-right, and-both}
 use Rattle.rows.proofs.Limits.{times, in-range-times, head-passes, tail-passes, all-times}
 use Rattle.responses.specs.Interference.{ceiling}
 use Rattle.responses.specs.Figures.{worstLoad, bestLoad, worstIn, bestIn, latest, isLate, earliest, isStable}
-use Rattle.responses.specs.Figures.{marginAt, margin, lateFigures, figuresAt, figuresUnder, maxAbove, isPosed}
+use Rattle.responses.specs.Figures.{marginAt, margin, lateFigures, figuresAt, figuresUnder, maxAbove, inLimits}
 use Rattle.responses.specs.Claims.{spent, Figured, Demand-2}
 use Rattle.responses.proofs.Sums.{rounds-up}
 use Rattle.responses.proofs.Margins.{sub-is, not-below-zero}
-use Rattle.responses.proofs.Fixed.{least-fixed, least-least, largest-fixed, largest-above}
+use Rattle.responses.proofs.FixedPoints.{least-fixed, least-least, largest-fixed, largest-above}
 
 best-in-worst : (x : ℕ) (rs : List Row) → allRows timesInRange rs ≡ true → bestIn x rs ≤ worstIn x rs
 best-in-worst x [] h = omega arith
@@ -61,9 +61,9 @@ responses t above ht h k =
     }
 
 -- rows that a call takes
-pub posed-times : (t : Row) (above : List Row) → isPosed t above ≡ true
+pub limits-times : (t : Row) (above : List Row) → inLimits t above ≡ true
     → (timesInRange t ≡ true) × (allRows timesInRange above ≡ true)
-posed-times t above h =
+limits-times t above h =
     let r = allRows inRange above in
     let few = leb (length above) maxAbove in
     let rest = and-right (inRange t) (r && few) h in

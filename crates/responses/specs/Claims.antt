@@ -10,7 +10,7 @@ use Rattle.rows.specs.declared.Row.{Row}
 use Rattle.responses.specs.declared.Figures.{Figures}
 use Rattle.responses.specs.Interference.{ceiling}
 use Rattle.responses.specs.Figures.{worstIn, bestIn, latest, isLate, earliest, jitter, margin, isStable}
-use Rattle.responses.specs.Figures.{isPosed, figuresOf}
+use Rattle.responses.specs.Figures.{inLimits, figuresOf}
 
 -- k is a / p rounded up: the fewest periods that cover a
 pub record RoundsUp (a p k : ℕ) : Type 0 where
@@ -70,6 +70,6 @@ BySet = (t : Row) (above others : List Row) → Perm above others → SameFigure
 pub record FiguresSay (t : Row) (above : List Row) (x : Figures) : Type 0 where
   pub answer : x ≡ figuresOf t above
   -- demand 2, of these very rows
-  pub by-formulas : isPosed t above ≡ true → Figured t above
+  pub by-formulas : inLimits t above ≡ true → Figured t above
   -- not by the sequence of the rows
   pub any-sequence : (others : List Row) → Perm above others → x ≡ figuresOf t others

@@ -97,10 +97,10 @@ figuresUnder t above =
 abbrev pub maxAbove : ℕ
 maxAbove = maxTasks - 1
 
--- whether a row under others is what a table can hold
-abbrev pub isPosed : Row → List Row → Bool
-isPosed t above = inRange t && (allRows inRange above && leb (length above) maxAbove)
+-- a row and the rows above it are in the limits of a table: each in range, and no more above than it can have
+abbrev pub inLimits : Row → List Row → Bool
+inLimits t above = inRange t && (allRows inRange above && leb (length above) maxAbove)
 
 -- the answer for any rows
 abbrev pub figuresOf : Row → List Row → Figures
-figuresOf t above = pick (isPosed t above) (figuresUnder t above) noFigures
+figuresOf t above = pick (inLimits t above) (figuresUnder t above) noFigures

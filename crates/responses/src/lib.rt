@@ -5,8 +5,8 @@ ghost use Rattle.rows.specs.Rows.{maxTicks, inRange};
 ghost use Rattle.responses.specs.Interference.{ceiling, interference, leastFixed, largestFixed};
 ghost use Rattle.responses.specs.Figures.{marginAt, noFigures, lateFigures, figuresUnder};
 ghost use Rattle.responses.specs.Claims.{FiguresSay};
-ghost use Rattle.responses.specs.Columns.{loads, rowsAbove, baseMax, Columns, Posed};
-ghost use Rattle.responses.specs.Gathered.{noneAbove, addRow, addRows, Sound, figuresIn};
+ghost use Rattle.responses.specs.inside.Columns.{loads, rowsAbove, baseMax, Columns, UnderColumns};
+ghost use Rattle.responses.specs.inside.RowsAbove.{noneAbove, addRow, addRows, Sound, figuresIn};
 use rows::Row;
 
 pub struct Figures {
@@ -120,7 +120,7 @@ pub fn figures_under<'a>(
     bests: &'a [u64],
     n: usize,
 ) -> Figures
-    requires { ⌜ Posed row n (now periods) (now worsts) (now bests) ⌝ }
+    requires { ⌜ UnderColumns row n (now periods) (now worsts) (now bests) ⌝ }
     ensures { λ x. ⌜ x ≡ figuresUnder row
         (rowsAbove n (now (periods .entry)) (now (worsts .entry)) (now (bests .entry))) ⌝ }
 {
@@ -144,13 +144,13 @@ pub fn figures_under<'a>(
 // The most rows above a row of a table.
 pub const MAX_ABOVE: usize = rows::MAX_TASKS - 1;
 
-// The rows above a task as columns. Once `posed` is false it stays so: a row was out of range, or had no room.
+// The rows above a task as columns. `in_limits`: no row so far was out of range or had no room.
 pub struct Above {
     pub periods: [u64; MAX_ABOVE],
     pub worsts: [u64; MAX_ABOVE],
     pub bests: [u64; MAX_ABOVE],
     pub count: usize,
-    pub posed: bool,
+    pub in_limits: bool,
 }
 
 impl Above {
@@ -162,7 +162,7 @@ impl Above {
             worsts: [0; MAX_ABOVE],
             bests: [0; MAX_ABOVE],
             count: 0,
-            posed: true,
+            in_limits: true,
         }
     }
 
@@ -171,13 +171,13 @@ impl Above {
     {
         let n = self.count;
         let mut more = self;
-        if self.posed & row.in_range() & (n < MAX_ABOVE) {
+        if self.in_limits & row.in_range() & (n < MAX_ABOVE) {
             more.periods[n] = row.period as u64;
             more.worsts[n] = row.worst as u64;
             more.bests[n] = row.best as u64;
             more.count = n + 1;
         } else {
-            more.posed = false;
+            more.in_limits = false;
         }
         more
     }
@@ -188,7 +188,7 @@ pub fn figures_in(row: Row, above: Above) -> Figures
     requires { ⌜ Sound above ⌝ }
     ensures { λ x. ⌜ x ≡ figuresIn row above ⌝ }
 {
-    if row.in_range() & above.posed {
+    if row.in_range() & above.in_limits {
         let n = above.count;
         figures_under(row, &above.periods, &above.worsts, &above.bests, n)
     } else {

@@ -7,7 +7,7 @@ use native.Mathlib.Nat.{sub-zero, zero-sub, suc-sub-suc}
 use lib.ListN.{length, take, drop, set, replicate, length-append}
 use lib.Seq.{append-snoc, take-append-seam, set-append-seam}
 use Rattle.rows.specs.Rows.{maxTasks}
-use Rattle.rows.specs.Arrays.{padded, ranking, ranked}
+use Rattle.rows.specs.inside.Arrays.{padded, ranking, ranked}
 
 pub padded-front : {A : Type 0} (d : A) (xs : List A) → take (length xs) (padded d xs) ≡ xs
 padded-front d xs = take-append-seam xs (replicate (maxTasks - length xs) d)

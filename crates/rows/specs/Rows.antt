@@ -35,7 +35,7 @@ minBeta = 0
 abbrev pub maxBeta : ℕ
 maxBeta = 200000000000
 
--- the rows of a table
+-- the rows of a table; the code's MAX_TASKS is the same
 abbrev pub minTasks : ℕ
 minTasks = 1
 

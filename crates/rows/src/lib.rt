@@ -2,11 +2,11 @@ ghost use mathlib.Core.Path.{_≡_};
 ghost use Prim.Native.Nat.{_≤_};
 ghost use lib.ListN.{take};
 ghost use Rattle.rows.specs.Rows.{maxTasks, inRange, row, noRow, positionOf, rowsFor};
-ghost use Rattle.rows.specs.Checked.{checked};
-ghost use Rattle.rows.specs.Arrays.{padded, ranked};
+ghost use Rattle.rows.specs.inside.Constructor.{checked};
+ghost use Rattle.rows.specs.inside.Arrays.{padded, ranked};
 use basics::within;
 
-// The most rows of a table.
+// The most rows of a table. This and `maxTasks` in specs/Rows.antt are the two to change: every room follows from them.
 pub const MAX_TASKS: usize = 12;
 
 // A task's row. Times are in ticks, alpha in thousandths, beta in thousandths of a tick.
@@ -19,7 +19,7 @@ pub struct Row {
     pub beta: u64,
 }
 
-// An order, highest rank first: at most twelve task numbers and a count.
+// An order, highest rank first: at most MAX_TASKS task numbers and a count.
 pub struct Order {
     pub tasks: [u16; MAX_TASKS],
     pub count: usize,

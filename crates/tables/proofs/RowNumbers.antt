@@ -12,7 +12,7 @@ use lib.ListN.{drop-of-length-le, List·getD-append}
 use lib.Seq.{drop-drop, drop-append-le, length-take-le, take-suc, getD-take, getD-drop}
 use Rattle.basics.specs.Basics.{pick}
 use Rattle.rows.specs.Rows.{row, noRow, inRange, allRows, hasTask}
-use Rattle.rows.specs.Checked.{checked}
+use Rattle.rows.specs.inside.Constructor.{checked}
 use Rattle.rows.specs.declared.Row.{Row}
 use Rattle.rows.proofs.Limits.{at-passes}
 use Rattle.tables.specs.TableLines.{taskAt, periodAt, worstAt, bestAt, alphaAt, betaAt, fieldCount, rowOf}

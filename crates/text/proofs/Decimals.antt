@@ -1,5 +1,5 @@
 -- A number in decimal is the number without its last digit, then that digit. So it reads back as its number, has no
--- more digits than the number has places, and is the only text that is read as it.
+-- more digits than its size calls for, and is the only text that is read as it.
 use mathlib.Core.Path.{_≡_, refl, sym, ap, ap₂, _∙_}
 use mathlib.Core.Bool.{true, false, _&&_, not, and-false}
 use mathlib.Core.List.{List, [], _∷_, _++_, append-assoc, append-nil}
@@ -158,9 +158,9 @@ read-digits (b ∷ s) v n h e =
           absurd (omega arith)
     ]
 
--- a number has as many places as digits
-decimal-places : (v k : ℕ) → length (decimal v) ≤ k → v < 10 ^ k
-decimal-places = by-digits (λ v. (k : ℕ) → length (decimal v) ≤ k → v < 10 ^ k)
+-- a number of at most k digits is below 10 to the power k
+decimal-below : (v k : ℕ) → length (decimal v) ≤ k → v < 10 ^ k
+decimal-below = by-digits (λ v. (k : ℕ) → length (decimal v) ≤ k → v < 10 ^ k)
     one
     more
   where
@@ -232,7 +232,7 @@ number-decimal s v e =
           let is = spelled s v f reads in
           let few = within-true 1 maxDigits (length s) (and-left (within 1 maxDigits (length s)) _ f) in
           let long : length (decimal v) ≡ length s = ap length (sym is) in
-          (is, decimal-places v maxDigits (omega (arith, few .le-high)))
+          (is, decimal-below v maxDigits (omega (arith, few .le-high)))
       | inr f ↦
           let z : Malformed ≡ Value v = sym (ap (λ b. pick b (digitsFrom 0 s) Malformed) f) ∙ e in
           let o : _≡_ {A = ℕ} 0 1 = cc in

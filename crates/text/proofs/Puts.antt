@@ -1,5 +1,5 @@
 -- Writing one text after another is writing both: what a writer's proof cites for each of its calls.
--- A text put at a place splits the buffer in three, and the next text starts where the first ends.
+-- A text put at an offset splits the buffer in three, and the next text starts where the first ends.
 use mathlib.Core.Path.{_≡_, refl, sym, ap, ap₂, _∙_}
 use mathlib.Core.List.{List, [], _∷_, _++_, append-assoc, append-nil}
 use Prim.Native.Nat.{ℕ, _+_, _≤_}
@@ -9,7 +9,8 @@ use lib.ListN.{length, take, drop, length-append, length-take, length-drop, take
 use lib.Seq.{take-at, take-append-seam, drop-append-add, drop-drop}
 use Rattle.io.specs.Counts.{Counts}
 use Rattle.text.specs.Text.{joined}
-use Rattle.text.specs.Puts.{put, Put, Wrote}
+use Rattle.text.specs.Buffers.{Wrote}
+use Rattle.text.specs.inside.Puts.{put, Put}
 
 -- the first of two texts has room where both have
 room-first : (at : ℕ) (t u o : List ℕ) → at + length (t ++ u) ≤ length o → at + length t ≤ length o

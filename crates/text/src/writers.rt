@@ -1,10 +1,10 @@
-// Text out: each writer puts its text at a place of a lent buffer and says where the text ends.
+// Text out: each writer puts its text at an offset of a lent buffer and says where the text ends.
 ghost use mathlib.Core.Path.{_≡_};
 ghost use Prim.Native.Nat.{_+_, _≤_};
 ghost use lib.IntN.{natAbs};
 ghost use lib.ListN.{length};
 ghost use Rattle.text.specs.Text.{decimal, signed, keyLine};
-ghost use Rattle.text.specs.Puts.{Put};
+ghost use Rattle.text.specs.inside.Puts.{Put};
 
 pub fn put_bytes(out: &mut [u8], at: usize, text: &[u8]) -> usize
     requires { ⌜ at + length (now text) ≤ length (now out) ⌝ }

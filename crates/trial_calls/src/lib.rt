@@ -1,5 +1,4 @@
 // The product's two calls, held against what the brute force has to answer.
-use plans::Plan;
 use trials::Answer;
 use trials::Question;
 use trials::SPACE;
@@ -10,11 +9,11 @@ pub enum Outcome {
     Differs,
 }
 
-fn answer_of(plan: Plan) -> Answer {
+fn answer_of(returned: plans::Answer) -> Answer {
     Answer {
-        number: plan.number,
-        place: plan.place,
-        long: plan.long,
+        number: returned.number,
+        place: returned.place,
+        long: returned.long,
     }
 }
 

@@ -72,15 +72,15 @@ fn any_rows(seed: &mut u64, longest: u16, share: u16) -> [Row; ROWS]
     let step = between(seed, 1, 6);
     let mut row = any_row(seed, longest, share);
     let mut rows = [row; ROWS];
-    // Six steps around a circle of seven meet no place twice.
-    let mut place = between(seed, 0, 6);
+    // Six steps around a circle of seven meet no point twice.
+    let mut point = between(seed, 0, 6);
     for i in 0..ROWS {
         if !alike {
             row = any_row(seed, longest, share);
         }
-        row.task = first + place;
+        row.task = first + point;
         rows[i] = row;
-        place = (place + step) % 7;
+        point = (point + step) % 7;
     }
     rows
 }

@@ -4,7 +4,7 @@ use crate::figures::figures_at;
 use crate::generator::ROWS;
 use crate::generator::Table;
 
-// The rows of a table by their places in it, highest rank first.
+// The rows of a table by their positions in it, highest rank first.
 pub struct Order {
     pub rows: [usize; ROWS],
 }

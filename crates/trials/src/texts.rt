@@ -1,4 +1,4 @@
-// Tables and plans as text, written into a lent buffer from a place on. Each function answers the next place; what
+// Tables and plans as text, written into a lent buffer from an offset on. Each function answers the next offset; what
 // has no room is dropped, and a text cut short would be seen as a difference.
 use crate::dice::below;
 use crate::figures::Figures;
@@ -60,7 +60,7 @@ fn put_row(out: &mut [u8], at: usize, row: Row) -> usize {
     put_line(out, to, b"beta=", row.beta as u64)
 }
 
-// The place, and never past the end: so that `&out[..n]` needs no more.
+// The offset, and never past the end: so that `&out[..n]` needs no more.
 pub fn within(at: usize, out: &[u8]) -> usize
     ensures { λ r. ⌜ Counts r (now (out .entry)) ⌝ }
 {

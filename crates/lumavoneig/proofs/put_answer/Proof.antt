@@ -20,7 +20,7 @@ cast-answer-2 c = search needs
 slice-write-answer-2 : tie.Need-slice-write-answer-2
 slice-write-answer-2 c =
     let s = c .before .before .before in
-    omega (arith, c .before .before .if1 .taken, length-set (now (s .args .answer)) 0 (s .args .plan .number))
+    omega (arith, c .before .before .if1 .taken, length-set (now (s .args .answer)) 0 (s .args .returned .number))
 
 cast-answer-3 : tie.Need-cast-answer-3
 cast-answer-3 c = search needs

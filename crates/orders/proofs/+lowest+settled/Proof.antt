@@ -11,11 +11,11 @@ use lib.Pow.{pow-pos}
 use borrow.Fn.Kinds.{In}
 use borrow.Fn.PlainCycle.{Measures, is, falls, and}
 use Rattle.orders.specs.Orders.{theOrder}
-use Rattle.orders.specs.Sets.{isSome, orderAt, goes, Known, Recorded}
+use Rattle.orders.specs.inside.Sets.{isSome, orderAt, goes, Known, Recorded}
 use Rattle.orders.specs.Stability.{stable}
-use Rattle.orders.specs.Numbers.{rowsIn}
-use Rattle.orders.proofs.Searched.{small, a-set, a-row}
-use Rattle.orders.proofs.Stable.{by-sets}
+use Rattle.orders.specs.inside.Numbers.{rowsIn}
+use Rattle.orders.proofs.LentRows.{small, a-set, a-row}
+use Rattle.orders.proofs.Stability.{by-sets}
 use Rattle.orders.proofs.Sets.{bit-le}
 use Rattle.orders.proofs.Scan.{scan, scan-start, scan-end, scan-no, scan-yes}
 use Rattle.orders.proofs.Record.{goes-then, settled-new, settled-old, settled-empty}

@@ -11,11 +11,11 @@ use borrow.Fn.PlainCycle.{Measures, is, falls, and}
 use Rattle.rows.specs.Rows.{maxTasks, inRange, rowAt}
 use Rattle.rows.specs.declared.Row.{Row}
 use Rattle.rows.proofs.Limits.{limits}
-use Rattle.orders.specs.Numbers.{rowIn, rowsIn}
-use Rattle.orders.specs.Search.{Chained, chainTasks}
+use Rattle.orders.specs.inside.Numbers.{rowIn, rowsIn}
+use Rattle.orders.specs.inside.Search.{Chained, chainTasks}
 use Rattle.orders.proofs.Sets.{bit-le}
-use Rattle.orders.proofs.Numbered.{row-there}
-use Rattle.orders.proofs.Listed.{row-of, chain-lowest}
+use Rattle.orders.proofs.RowNumbers.{row-there}
+use Rattle.orders.proofs.Chains.{row-of, chain-lowest}
 use Rattle.orders.proofs.rebuild.Reads as rebuild
 use Rattle.orders.proofs.rebuild.Kinds as rebuild-kinds
 use Rattle.orders.proofs.+rebuild.Lts-rebuild as rebuild-lts

@@ -8,13 +8,13 @@ use native.Mathlib.Omega.{arith}
 use lib.ListN.{getD, take}
 use Rattle.basics.proofs.Tests.{never}
 use Rattle.rows.specs.declared.Row.{Row}
-use Rattle.orders.specs.Sets.{goes}
+use Rattle.orders.specs.inside.Sets.{goes}
 use Rattle.orders.specs.Stability.{stable}
-use Rattle.orders.specs.Numbers.{rowsIn}
-use Rattle.orders.specs.Search.{MayGo}
+use Rattle.orders.specs.inside.Numbers.{rowsIn}
+use Rattle.orders.specs.inside.Search.{MayGo}
 use Rattle.orders.proofs.Sets.{bit-le}
 use Rattle.orders.proofs.Record.{goes-out, goes-unfit, goes-none, known-none}
-use Rattle.orders.proofs.Searched.{small, a-set}
+use Rattle.orders.proofs.LentRows.{small, a-set}
 use borrow.Author.Needs.{needs}
 use Rattle.orders.proofs.may_go.Statement.{statement}
 use Rattle.orders.proofs.may_go.Tie as tie

@@ -33,12 +33,12 @@ use denote.Struct.Laws as LL
 use denote.Triple.Walked.{needs}
 use Rattle.rows.specs.Rows.{maxTasks}
 use Rattle.rows.specs.declared.Row.{Row}
-use Rattle.orders.specs.declared.Answer.{Answer}
-use Rattle.orders.specs.Numbers.{rowNumbers, rowsIn}
-use Rattle.orders.specs.Search.{Table, Lent, Answered}
+use Rattle.orders.specs.declared.Choice.{Choice}
+use Rattle.orders.specs.inside.Numbers.{numbersRoom, rowsIn}
+use Rattle.orders.specs.inside.Search.{TableRows, Lent, Chooses}
 use Rattle.rows.proofs.Row as T
-use Rattle.orders.proofs.Answer as L
-use Rattle.orders.proofs.Answer.Laws as L′
+use Rattle.orders.proofs.Choice as L
+use Rattle.orders.proofs.Choice.Laws as L′
 use Rattle.orders.proofs.numbers.put_rows as put-rows
 use Rattle.orders.proofs.numbers.put_rows.Symbol as put-rows-def
 use Rattle.orders.proofs.numbers.put_rows.Symbol.{name as #put-rows}
@@ -56,21 +56,21 @@ abbrev stayed : Stays (order-of.ended .signature .params) (order-of.ended .kept)
 stayed = (stay-dropped (shrSliceOf (0 ∷ []) tt (plain (λ _. T.the-row))) yes, tt)
 
 -- an array that begins with a table's rows
-lent-front : (ys hs : List Row) → Table ys → take (length ys) hs ≡ ys → Lent hs (length ys)
-lent-front ys hs table e = record { held = table .few; counted = ap length e; table = subst Table (sym e) table }
+lent-front : (ys hs : List Row) → TableRows ys → take (length ys) hs ≡ ys → Lent hs (length ys)
+lent-front ys hs table e = record { held = table .few; counted = ap length e; table = subst TableRows (sym e) table }
 
 -- the local array: its type, its value at first, and room for the numbers of all rows
 abbrev Numbers : RattleType
-Numbers = Array u64 72
+Numbers = Array u64 numbersRoom
 
 abbrev zeros : List ℕ
-zeros = replicate 72 0
+zeros = replicate numbersRoom 0
 
 abbrev zeroVal : Val
-zeroVal = arrayVal (replicate 72 (vint w64 0))
+zeroVal = arrayVal (replicate numbersRoom (vint w64 0))
 
-room : rowNumbers * maxTasks ≤ length zeros
-room = omega arith
+long : numbersRoom ≤ length zeros
+long = omega arith
 
 module _ {M : Type 1} (𝓤 : URA M) (H : Heap 𝓤) (A : Atoms 𝓤) (mem : Memory → SProp 𝓤) (run : Routine → Fun 𝓤) where
   -- the contracts that the proof cites
@@ -113,12 +113,12 @@ module _ {M : Type 1} (𝓤 : URA M) (H : Heap 𝓤) (A : Atoms 𝓤) (W : Given
   to-put-rows l α δ =
       (((κ, (α ∷ [], tt)), (q, (fullShare, tt)), tt, (s, (held l δ zeros, tt)), (v ∷ [], (vptr l 0 ∷ [], tt))), tt)
 
-  goes-put-rows : (l α : ℕ) (δ : GName) → Table (s .now)
+  goes-put-rows : (l α : ℕ) (δ : GName) → TableRows (s .now)
       → ent 𝓤 (⋆ 𝓤 H A ((‵ (flft (α ∷ []) fullShare) ⊛ (‵ (flft κ q) ⊛ ‵ ftrue)) ∷ ‵ Owns ∷ ‵ (Mut l α δ) ∷ []))
       (PutRows 𝓤 H A mem run .pre (to-put-rows l α δ))
   goes-put-rows l α δ table =
       qed W ((‵ (flft (α ∷ []) fullShare) ⊛ (‵ (flft κ q) ⊛ ‵ ftrue)) ∷ ‵ Owns ∷ ‵ (Mut l α δ) ∷ []) ∵
-      says ! (table .few, room) $
+      says ! (table .few, long) $
       split ! $ move ! (1 ∷ []) $ split ! $ move ! (2 ∷ 1 ∷ []) $ join ! $ move ! (1 ∷ 0 ∷ []) $ join ! $ frame ! $
       fsplit ! $ move ! (2 ∷ 1 ∷ []) $ fjoin ! $ move ! (1 ∷ 0 ∷ []) $ fjoin ! $ done !
 
@@ -135,7 +135,7 @@ module _ {M : Type 1} (𝓤 : URA M) (H : Heap 𝓤) (A : Atoms 𝓤) (W : Given
       nothing ! $ owned ! usize (Is usize) (uint-makes 𝓤 H A W w64) n _ (refl, fits) $ fjoin ! $
       move ! (1 ∷ 0 ∷ []) $ fjoin ! $ done !
 
-  exits : (x : Answer) (u : Val) → Answered (s .now) x
+  exits : (x : Choice) (u : Val) → Chooses (s .now) x
       → ent 𝓤 (⋆ 𝓤 H A (‵ (L.the-row .own x (u ∷ [])) ∷ ‵ (flft κ q) ∷ [])) (Post u)
   exits x u e =
       qed W (‵ (L.the-row .own x (u ∷ [])) ∷ ‵ (flft κ q) ∷ []) ∵
@@ -146,7 +146,7 @@ module _ {M : Type 1} (𝓤 : URA M) (H : Heap 𝓤) (A : Atoms 𝓤) (W : Given
   module _ (C : Calls 𝓤 H) (Λ : Loops 𝓤 H) (fm : FmC 𝓤 H (W .laws) C)
       (known-put-rows : Triple 𝓤 (C #put-rows) (PutRows 𝓤 H A mem run))
       (known-order-in : Triple 𝓤 (C #order-in) (OrderIn 𝓤 H A mem run)) where
-    walk : Is (ShrSlice (named 0) κ T.the-row) s (v ∷ []) → Table (s .now)
+    walk : Is (ShrSlice (named 0) κ T.the-row) s (v ∷ []) → TableRows (s .now)
         → ent 𝓤 (onEntry 𝓤 H A order-of.signature (κ, tt) (q, tt) (s, tt) at)
         (WpFn 𝓤 H C Λ code.function (v ∷ []) Post)
     walk p table =
@@ -159,10 +159,10 @@ module _ {M : Type 1} (𝓤 : URA M) (H : Heap 𝓤) (A : Atoms 𝓤) (W : Given
         (from ! (stop !)) (init ! 8 refl (tt, record { fits = p .0 .1 .0 })) $
         owned ! u64 (Is u64) (uint-makes 𝓤 H A W w64) 0 (vint w64 0 ∷ []) (refl, lit< tt) $
         use1 W (‵ (Numbers .own zeros (zeroVal ∷ [])))
-        (array-repeat 𝓤 H A W u64 (uint-copy 𝓤 H A W w64) 72 0 (vint w64 0)) $
+        (array-repeat 𝓤 H A W u64 (uint-copy 𝓤 H A W w64) numbersRoom 0 (vint w64 0)) $
         peeks ! Numbers (Is Numbers) (shows 𝓤 H A Numbers) zeros (zeroVal ∷ []) (λ are.
-        assigns ! (rep ! 72 (lit ! tt)) (from ! (stop !)) (init ! 7 refl (array-lawful 𝓤 H A W u64
-        (uint-lawful 𝓤 H A W w64) 72 .typed zeros (zeroVal ∷ []) are .0)) $
+        assigns ! (rep ! numbersRoom (lit ! tt)) (from ! (stop !)) (init ! 7 refl (array-lawful 𝓤 H A W u64
+        (uint-lawful 𝓤 H A W w64) numbersRoom .typed zeros (zeroVal ∷ []) are .0)) $
         assigns ! (addr ! (from ! (stop !))) (from ! (stop !)) (init ! 3 refl (tt, tt)) $
         move ! (7 ∷ 0 ∷ []) $
         use2 W (‵ (inMemory Numbers .lies zeros l₃ 0)) (part-in 𝓤 H A W Numbers refl fullShare zeros l₃ 0 zeroVal) $
@@ -195,20 +195,20 @@ module _ {M : Type 1} (𝓤 : URA M) (H : Heap 𝓤) (A : Atoms 𝓤) (W : Given
         use2 W (raw (OrderIn 𝓤 H A mem run .pre (to-order-in l₃ β ε (ws .1 .0))))
         (goes-order-in l₃ β ε (ws .1 .0) (lent-front (s .now) (rowsIn (ws .1 .0)) table e) (p .0 .1 .0)) $
         calls-told ! fm order-in.ended (order-in.clauses 𝓤 H A mem run) known-order-in (to-order-in l₃ β ε (ws .1 .0))
-        (‵ (flft (β ∷ []) fullShare) ⊛ ‵ ftrue) refl (λ (x : Answer). Answered (take n (rowsIn (ws .1 .0))) x)
+        (‵ (flft (β ∷ []) fullShare) ⊛ ‵ ftrue) refl (λ (x : Choice). Chooses (take n (rowsIn (ws .1 .0))) x)
         (λ r e. refl) (and-then ! (load ! (from ! (stop !)) (look ! 4 refl))
         (and-then ! (load ! (from ! (stop !)) (look ! 11 refl)) (no-more !))) (λ u x e′ ix.
         land ! (from ! (stop !)) (init ! 16 refl (LL.lawful L.the-type L′.the-laws 𝓤 H A W .typed x (u ∷ []) ix .0)) $
         -- β ends, and the numbers' room is had again
         move ! (1 ∷ []) $ split ! $ lft-end ! tt $ move ! (0 ∷ 3 ∷ []) $ lent-back ! tt $
-        use1 W (‵ (froom (tyArray (tyInt w64) 72) l₃ 0)) (part-room 𝓤 H A W Numbers (ws .1 .0) l₃ 0) $
+        use1 W (‵ (froom (tyArray (tyInt w64) numbersRoom) l₃ 0)) (part-room 𝓤 H A W Numbers (ws .1 .0) l₃ 0) $
         -- [room for _3; true; the result; true; the token; _6; …; _5; …; _4; …; _3's end; _2; …; _1; …; _0; …]
         returns ! (look ! 16 refl) $ forget ! 5 refl $ forget ! 7 refl $ forget ! 9 refl $ forget ! 12 refl $
         forget ! 14 refl $ forget ! 16 refl $
         move ! (16 ∷ 17 ∷ []) $ free1 ! $ move ! (14 ∷ 15 ∷ []) $ free1 ! $ move ! (12 ∷ 13 ∷ []) $ free1 ! $
         move ! (0 ∷ 11 ∷ []) $ free1 ! $ move ! (8 ∷ 9 ∷ []) $ free1 ! $ move ! (6 ∷ 7 ∷ []) $ free1 ! $
         move ! (4 ∷ 5 ∷ []) $ free1 ! $ free0 ! $ keep ! (1 ∷ 3 ∷ []) $
-        by ! (exits x u (subst (λ (ys : List Row). Answered ys x) e e′))))))))))))))))
+        by ! (exits x u (subst (λ (ys : List Row). Chooses ys x) e e′))))))))))))))))
 
 module _ {M : Type 1} (𝓤 : URA M) (H : Heap 𝓤) (A : Atoms 𝓤) (W : Given 𝓤 H A) (mem : Memory → SProp 𝓤)
     (run : Routine → Fun 𝓤) where

@@ -17,14 +17,15 @@ use Rattle.rows.proofs.Calls.{Asks, calls-told}
 use lib.Dec.{T as Holds}
 use denote.Struct.Laws as LL
 use denote.Triple.Walked.{needs}
+use Rattle.rows.specs.Rows.{maxTasks}
 use Rattle.rows.specs.declared.Row.{Row}
 use Rattle.rows.proofs.Lend.{Front, Others, lends-front, front-back}
 use Rattle.rows.proofs.Row as T
 use Rattle.rows.proofs.Row.Laws as T′
-use Rattle.orders.specs.declared.Answer.{Answer}
-use Rattle.orders.specs.Search.{Table, Lent, Answered}
-use Rattle.orders.proofs.Answer as L
-use Rattle.orders.proofs.Answer.Laws as L′
+use Rattle.orders.specs.declared.Choice.{Choice}
+use Rattle.orders.specs.inside.Search.{TableRows, Lent, Chooses}
+use Rattle.orders.proofs.Choice as L
+use Rattle.orders.proofs.Choice.Laws as L′
 use Rattle.orders.proofs.order_of as order-of
 use Rattle.orders.proofs.order_of.Symbol as order-of-def
 use Rattle.orders.proofs.order_of.Symbol.{name as #order-of}
@@ -36,7 +37,7 @@ use Rattle.orders.proofs.order_of_first.Code as code
 
 abbrev stayed : Stays (order-of-first.ended .signature .params) (order-of-first.ended .kept)
 stayed = (
-  stay-dropped (ArrayOf (plain (λ _. T.the-row)) (λ _. tt) 12) yes,
+  stay-dropped (ArrayOf (plain (λ _. T.the-row)) (λ _. tt) maxTasks) yes,
   (stay-dropped (plain (λ _. usize)) yes, tt),
 )
 
@@ -67,7 +68,7 @@ module _ {M : Type 1} (𝓤 : URA M) (H : Heap 𝓤) (A : Atoms 𝓤) (W : Given
   abbrev to : Lft → ℕ → GName → OrderOf 𝓤 H A mem run .Ghost
   to κ l γ = (((κ, tt), (fullShare, tt), tt, (s l γ, tt), (v l ∷ [], tt)), tt)
 
-  goes : (κ : Lft) (l : ℕ) (γ : GName) → Table (take n xs)
+  goes : (κ : Lft) (l : ℕ) (γ : GName) → TableRows (take n xs)
       → ent 𝓤 (⋆ 𝓤 H A (‵ (ShrSlice (named 0) κ T.the-row .own (s l γ) (v l ∷ [])) ∷ ‵ (flft κ fullShare) ∷ []))
       (OrderOf 𝓤 H A mem run .pre (to κ l γ))
   goes κ l γ table =
@@ -75,7 +76,7 @@ module _ {M : Type 1} (𝓤 : URA M) (H : Heap 𝓤) (A : Atoms 𝓤) (W : Given
       says ! table $ nothing ! $ move ! (1 ∷ 0 ∷ []) $ fjoin ! $
       nothing ! $ move ! (2 ∷ 0 ∷ []) $ join ! $ join ! $ done !
 
-  exits : (x : Answer) (u : Val) → Answered (take n xs) x → ent 𝓤 (sem 𝓤 H A (L.the-row .own x (u ∷ []))) (Post u)
+  exits : (x : Choice) (u : Val) → Chooses (take n xs) x → ent 𝓤 (sem 𝓤 H A (L.the-row .own x (u ∷ []))) (Post u)
   exits x u e =
       qed W (‵ (L.the-row .own x (u ∷ [])) ∷ []) ∵
       suffices ! _ (ends-at 𝓤 H A order-of-first.ended stayed (order-of-first.clauses 𝓤 H A mem run) W
@@ -84,7 +85,7 @@ module _ {M : Type 1} (𝓤 : URA M) (H : Heap 𝓤) (A : Atoms 𝓤) (W : Given
 
   module _ (C : Calls 𝓤 H) (Λ : Loops 𝓤 H) (fm : FmC 𝓤 H (W .laws) C)
       (known : Triple 𝓤 (C #order-of) (OrderOf 𝓤 H A mem run)) where
-    walk : Is (Array T.the-row 12) xs (machs ∷ []) → n < 2 ^ 64 → Lent xs n
+    walk : Is (Array T.the-row maxTasks) xs (machs ∷ []) → n < 2 ^ 64 → Lent xs n
         → ent 𝓤 (onEntry 𝓤 H A order-of-first.signature tt tt (xs, (n, tt)) at)
         (WpFn 𝓤 H C Λ code.function (machs ∷ vint w64 n ∷ []) Post)
     walk ix gn lent =
@@ -100,26 +101,26 @@ module _ {M : Type 1} (𝓤 : URA M) (H : Heap 𝓤) (A : Atoms 𝓤) (W : Given
         (init ! 0 refl (tt, (tt, (record { fits = gn }, tt)))) $
         -- the first n rows are lent, for a new lifetime
         lft-new ! tt (λ α.
-        owned ! (Array T.the-row 12) (Is (Array T.the-row 12))
-        (array-makes 𝓤 H A W T.the-row (LL.makes T.the-type T′.the-plain 𝓤 H A) 12) xs (machs ∷ []) ix $
+        owned ! (Array T.the-row maxTasks) (Is (Array T.the-row maxTasks))
+        (array-makes 𝓤 H A W T.the-row (LL.makes T.the-type T′.the-plain 𝓤 H A) maxTasks) xs (machs ∷ []) ix $
         move ! (6 ∷ 0 ∷ []) $
         use2 W (later (some (λ (γ : GName). ‵ (ShrSlice (named 0) (α ∷ []) T.the-row .own (s l₃ γ) (v l₃ ∷ []))
-        ⊛ (‵ (flent (α ∷ []) (Front 𝓤 H A W T.the-row tt (α ∷ []) 12 n xs l₃))
-        ⊛ ‵ (Others 𝓤 H A W T.the-row tt (α ∷ []) 12 n xs l₃)))))
-        (lends-front 𝓤 H A W T.the-row tt (α ∷ []) 12 n xs l₃ (named 0) machs fits) $
+        ⊛ (‵ (flent (α ∷ []) (Front 𝓤 H A W T.the-row tt (α ∷ []) maxTasks n xs l₃))
+        ⊛ ‵ (Others 𝓤 H A W T.the-row tt (α ∷ []) maxTasks n xs l₃)))))
+        (lends-front 𝓤 H A W T.the-row tt (α ∷ []) maxTasks n xs l₃ (named 0) machs fits) $
         await ! tt $ pick ! (λ γ. split ! $
         -- [the slice; what the lender has; the token; _5; …; _4; …; _3's end; _2; …; _1; …; room for _0; …]
         rewrite ! 3 (λ (m : ℕ). ‵ (fat fullShare slice l₅ 0 (sliceVal (l₃, 0) m))) (sym counted) refl $
         move ! (0 ∷ 2 ∷ []) $
         use2 W (raw (OrderOf 𝓤 H A mem run .pre (to (α ∷ []) l₃ γ))) (goes (α ∷ []) l₃ γ (lent .table)) $
         calls-told ! fm order-of.ended (order-of.clauses 𝓤 H A mem run) known (to (α ∷ []) l₃ γ)
-        (‵ (flft (α ∷ []) fullShare) ⊛ ‵ ftrue) refl (λ (x : Answer). Answered (take n xs) x) (λ r e. refl)
+        (‵ (flft (α ∷ []) fullShare) ⊛ ‵ ftrue) refl (λ (x : Choice). Chooses (take n xs) x) (λ r e. refl)
         (and-then ! (load ! (from ! (stop !)) (look ! 2 refl)) (no-more !)) (λ u x e is.
         land ! (from ! (stop !)) (init ! 12 refl (LL.lawful L.the-type L′.the-laws 𝓤 H A W .typed x (u ∷ []) is .0)) $
         -- the lifetime ends, and the rows' room is had again
         move ! (1 ∷ []) $ split ! $ lft-end ! tt $ move ! (3 ∷ []) $ split ! $ move ! (2 ∷ 0 ∷ 1 ∷ []) $
-        use3 W (later (‵ (froom (tyArray T′.mir 12) l₃ 0)))
-        (front-back 𝓤 H A W T.the-row tt (α ∷ []) 12 n xs l₃ (ix .1 .0 .1)) $ await ! tt $
+        use3 W (later (‵ (froom (tyArray T′.mir maxTasks) l₃ 0)))
+        (front-back 𝓤 H A W T.the-row tt (α ∷ []) maxTasks n xs l₃ (ix .1 .0 .1)) $ await ! tt $
         -- [room for _3; true; the result; _5; …; _4; …; _3's end; _2; …; _1; …; _0; …]
         returns ! (look ! 12 refl) $ forget ! 3 refl $ forget ! 5 refl $ forget ! 8 refl $ forget ! 10 refl $
         forget ! 12 refl $
@@ -130,15 +131,15 @@ module _ {M : Type 1} (𝓤 : URA M) (H : Heap 𝓤) (A : Atoms 𝓤) (W : Given
         slice : Ty
         slice = sliceTy (tyRef erased imm (pointee (T.the-row .written)))
 
-        typed-rows : Holds (hasTy (tyArray T′.mir 12) machs) × WT machs
-        typed-rows = array-lawful 𝓤 H A W T.the-row (LL.lawful T.the-type T′.the-laws 𝓤 H A W) 12 .typed xs
+        typed-rows : Holds (hasTy (tyArray T′.mir maxTasks) machs) × WT machs
+        typed-rows = array-lawful 𝓤 H A W T.the-row (LL.lawful T.the-type T′.the-laws 𝓤 H A W) maxTasks .typed xs
             (machs ∷ []) ix .0
 
         counted : length (take n xs) ≡ n
         counted = length-take-le n xs (subst (λ (k : ℕ). n ≤ k) (sym (ix .1 .0 .1)) (lent .held))
 
         fits : Room T.the-row (length (take n xs))
-        fits = room-take T.the-row 12 n xs (ix .1 .0 .1) (lit< tt, lit< tt)
+        fits = room-take T.the-row maxTasks n xs (ix .1 .0 .1) (lit< tt, lit< tt)
 
 module _ {M : Type 1} (𝓤 : URA M) (H : Heap 𝓤) (A : Atoms 𝓤) (W : Given 𝓤 H A) (mem : Memory → SProp 𝓤)
     (run : Routine → Fun 𝓤) where
@@ -149,7 +150,7 @@ module _ {M : Type 1} (𝓤 : URA M) (H : Heap 𝓤) (A : Atoms 𝓤) (W : Given
       walked 𝓤 H A order-of-first.ended stayed (order-of-first.clauses 𝓤 H A mem run) (WpFn 𝓤 H C Λ code.function)
       (λ κs. (array-vals (LL.vals T.the-type T′.the-laws), (uint-vals w64, tt)))
       (λ κs. (
-        array-tells T.the-row (LL.vals T.the-type T′.the-laws) (LL.tells T.the-type T′.the-laws) 12,
+        array-tells T.the-row (LL.vals T.the-type T′.the-laws) (LL.tells T.the-type T′.the-laws) maxTasks,
         (uint-tells w64, tt),
       ))
       (λ κs qs bounds a g are.
@@ -160,7 +161,7 @@ order-of-first-meets : {M : Type 1} (𝓤 : URA M) (H : Heap 𝓤) (A : Atoms �
     → Triple 𝓤 (𝓣 .C #order-of) (OrderOf 𝓤 H A mem run)
     → Meets 𝓤 H A order-of-first.signature (WpFn 𝓤 H (𝓣 .C) (𝓣 .Λ) code.function) (order-of-first.spec 𝓤 H A mem run)
 order-of-first-meets 𝓤 H A W mem run 𝓣 known = walk-meets 𝓤 H A order-of-first.ended stayed W (
-  goes-dropped 𝓤 H A W 0 (ArrayOf (plain (λ _. T.the-row)) (λ _. tt) 12) yes (λ κs x f. refl),
+  goes-dropped 𝓤 H A W 0 (ArrayOf (plain (λ _. T.the-row)) (λ _. tt) maxTasks) yes (λ κs x f. refl),
   (goes-dropped 𝓤 H A W 0 (plain (λ _. usize)) yes (λ κs x f. refl), tt),
 )
     (order-of-first.clauses 𝓤 H A mem run) (WpFn 𝓤 H (𝓣 .C) (𝓣 .Λ) code.function)

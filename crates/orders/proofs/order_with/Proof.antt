@@ -10,18 +10,18 @@ use lib.Pow.{pow-pos}
 use borrow.Author.Needs.{needs}
 use Rattle.rows.specs.declared.Row.{Row}
 use Rattle.rows.specs.declared.Order.{Order}
-use Rattle.rows.specs.Arrays.{ranking}
-use Rattle.orders.specs.declared.Answer.{Answer}
+use Rattle.rows.specs.inside.Arrays.{ranking}
+use Rattle.orders.specs.declared.Choice.{Choice}
 use Rattle.orders.specs.Orders.{theOrder, orderOf}
-use Rattle.orders.specs.Sets.{isSome, orderAt, Fresh, Settled}
+use Rattle.orders.specs.inside.Sets.{isSome, orderAt, Fresh, Settled}
 use Rattle.orders.specs.Stability.{stable}
-use Rattle.orders.specs.Numbers.{rowsIn}
-use Rattle.orders.specs.Search.{tasksIn, Lent, Chained, chainTasks, Answered}
-use Rattle.orders.proofs.Searched.{small, a-set}
+use Rattle.orders.specs.inside.Numbers.{rowsIn}
+use Rattle.orders.specs.inside.Search.{tasksIn, Lent, Chained, chainTasks, Chooses}
+use Rattle.orders.proofs.LentRows.{small, a-set}
 use Rattle.orders.proofs.Record.{begun}
-use Rattle.orders.proofs.Listed.{chain}
+use Rattle.orders.proofs.Chains.{chain}
 use Rattle.orders.proofs.Scan.{at-whole}
-use Rattle.orders.proofs.Stable.{chosen}
+use Rattle.orders.proofs.Stability.{chosen}
 use Rattle.orders.proofs.order_with.Statement.{statement}
 use Rattle.orders.proofs.order_with.Tie as tie
 
@@ -29,7 +29,7 @@ no-tasks : (o : Option (List Row)) → false ≡ isSome o → [] ≡ tasksIn o
 no-tasks none e = refl
 no-tasks (some os) e = let z : _≡_ {A = ℕ} 0 1 = cc in absurd (omega arith)
 
-abbrev asFound : Bool → Order → Answer
+abbrev asFound : Bool → Order → Choice
 asFound found order = record { found = found; order = order }
 
 -- the whole set and its record
@@ -55,22 +55,22 @@ module _ (rows : List Row) (n : ℕ) (lent : Lent rows n) (all : ℕ) (e : all �
         found ≡ true → Chained rows sets n all × (chainTasks rows sets n all ≡ tasksIn (orderAt stable table all))
     chained h = chain rows n lent sets (s .recorded) all e (s .there) (sym (s .found-is) ∙ h)
 
-    answered :
+    chooses :
         (o : Order) →
         found ≡ true →
         o ≡ ranking (chainTasks rows sets n all) →
-        Answered table (record { found = true; order = o })
-    answered o h l = record {
-      answer = ap₂ asFound (sym h ∙ s .found-is ∙ ap isSome whole)
+        Chooses table (record { found = true; order = o })
+    chooses o h l = record {
+      choice-is = ap₂ asFound (sym h ∙ s .found-is ∙ ap isSome whole)
           (l ∙ ap ranking (chained h .1 ∙ ap tasksIn whole));
       chosen = chosen table (lent .table .distinct);
     }
 
-    answered-none : (o : Order) → found ≡ false → o ≡ ranking [] → Answered table (record { found = false; order = o })
-    answered-none o h l =
+    chooses-none : (o : Order) → found ≡ false → o ≡ ranking [] → Chooses table (record { found = false; order = o })
+    chooses-none o h l =
         let missing = sym h ∙ s .found-is ∙ ap isSome whole in
         record {
-          answer = ap₂ asFound missing (l ∙ ap ranking (no-tasks (orderOf stable table) missing));
+          choice-is = ap₂ asFound missing (l ∙ ap ranking (no-tasks (orderOf stable table) missing));
           chosen = chosen table (lent .table .distinct);
         }
 
@@ -117,7 +117,7 @@ returns c =
     let d = c .before .before .before .before .before in
     let s = d .before .before .before .before in
     let a = s .args in
-    answered (rowsIn (a .numbers .now)) (a .n) (s .pre .0) _ (all-is (d .before .before)) _ (d .settled .result)
+    chooses (rowsIn (a .numbers .now)) (a .n) (s .pre .0) _ (all-is (d .before .before)) _ (d .settled .result)
     (d .settled .ensures) (c .read-off .result) (c .before .before .if1 .taken) (c .read-off .ensures)
 
 nothing-requires : tie.Need-nothing-requires
@@ -131,7 +131,7 @@ returns-2 c =
     let d = c .before .before .before .before in
     let s = d .before .before .before .before in
     let a = s .args in
-    answered-none (rowsIn (a .numbers .now)) (a .n) (s .pre .0) _ (all-is (d .before .before)) _ (d .settled .result)
+    chooses-none (rowsIn (a .numbers .now)) (a .n) (s .pre .0) _ (all-is (d .before .before)) _ (d .settled .result)
     (d .settled .ensures) (c .nothing .result) (c .before .if1 .left) (c .nothing .ensures)
 
 pub order-with-spec : {M : Type 1} → statement M

@@ -1,8 +1,8 @@
 -- The order read off the record: the tasks along the chain, put into an array that had nothing in it.
 use borrow.Author.Needs.{needs}
-use Rattle.orders.specs.Numbers.{rowsIn}
-use Rattle.orders.specs.Search.{chainTasks}
-use Rattle.orders.proofs.Listed.{chain-length, chain-order}
+use Rattle.orders.specs.inside.Numbers.{rowsIn}
+use Rattle.orders.specs.inside.Search.{chainTasks}
+use Rattle.orders.proofs.Chains.{chain-length, chain-order}
 use Rattle.orders.proofs.read_off.Statement.{statement}
 use Rattle.orders.proofs.read_off.Tie as tie
 

@@ -8,16 +8,16 @@ use native.Mathlib.Omega.{arith}
 use native.Mathlib.Numerals.{add-one}
 use borrow.Author.Needs.{needs}
 use lib.ListN.{length, take}
-use Rattle.rows.specs.Rows.{inRange}
+use Rattle.rows.specs.Rows.{maxTasks, inRange}
 use Rattle.rows.specs.declared.Row.{Row}
 use Rattle.responses.specs.Figures.{isStable}
-use Rattle.orders.specs.Sets.{members}
-use Rattle.orders.specs.Numbers.{rowIn, rowsIn}
+use Rattle.orders.specs.inside.Sets.{members}
+use Rattle.orders.specs.inside.Numbers.{rowIn, rowsIn}
 use Rattle.orders.proofs.Sets.{bit-le}
-use Rattle.orders.proofs.Numbered.{row-is}
-use Rattle.orders.proofs.Searched.{a-row, row-ranged}
+use Rattle.orders.proofs.RowNumbers.{row-is}
+use Rattle.orders.proofs.LentRows.{a-row, row-ranged}
 use Rattle.orders.proofs.Gathering.{Gathering, gathering-none, gathering-next}
-use Rattle.orders.proofs.Gathering.{gathered-posed, gathered-stable}
+use Rattle.orders.proofs.Gathering.{gathered-under, gathered-stable}
 use Rattle.orders.proofs.stable_under.Statement.{statement}
 use Rattle.orders.proofs.stable_under.Tie as tie
 
@@ -32,7 +32,7 @@ abbrev μ-loop : tie.MeasureT-loop
 abbrev table : tie.Start Inv-loop μ-loop → List Row
 table c = take (c .args .n) (rowsIn (c .args .numbers .now))
 
-small : (c : tie.Start Inv-loop μ-loop) → length (table c) ≤ 12
+small : (c : tie.Start Inv-loop μ-loop) → length (table c) ≤ maxTasks
 small c = omega (arith, c .pre .0 .counted, c .pre .0 .held)
 
 ranged : (c : tie.Start Inv-loop μ-loop) (k : ℕ) → k < c .args .n → inRange (rowIn (c .args .numbers .now) k) ≡ true
@@ -124,7 +124,7 @@ figures-under-requires c κs =
     let row = c .before .before .before .row-at2 in
     let end = c .before .before .before .before in
     let s = end .before .before .before in
-    gathered-posed (end .before .loop .inv) (small s) (omega (arith, s .pre .0 .counted, end .loop-test .left))
+    gathered-under (end .before .loop .inv) (small s) (omega (arith, s .pre .0 .counted, end .loop-test .left))
     (s .pre .0 .table .in-range) (row .result) (ap inRange (row .ensures) ∙ ranged s (s .args .i) (s .pre .1))
 
 returns : tie.Need-returns Inv-loop μ-loop

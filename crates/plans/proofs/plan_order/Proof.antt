@@ -8,6 +8,7 @@ use lib.ListN.{length, take}
 use lib.Seq.{length-take-le}
 use borrow.Author.Needs.{needs}
 use denote.Ref.{now}
+use Rattle.rows.specs.Rows.{maxTasks}
 use Rattle.rows.specs.declared.Row.{Row}
 use Rattle.text.proofs.Puts.{from-start, wrote-front}
 use Rattle.plans.specs.Entries.{entries, firstLate}
@@ -25,7 +26,7 @@ order s = take (s .args .n) (s .args .rows)
 abbrev text : tie.Start → List ℕ
 text s = planText (s .args .board) (entries (order s))
 
-rows-long : (s : tie.Start) → length (s .args .rows) ≡ 12
+rows-long : (s : tie.Start) → length (s .args .rows) ≡ maxTasks
 rows-long s = s .good .1 .1 .0 .1 .0 .1
 
 counted : (s : tie.Start) → length (order s) ≡ s .args .n

@@ -1,4 +1,4 @@
--- `put_rank` puts a rank at its place: its six lines are put one after another, each where the one before it ends.
+-- `put_rank` puts a rank at its offset: its six lines are put one after another, each where the one before it ends.
 use mathlib.Core.Path.{_≡_}
 use mathlib.Core.List.{List, [], _∷_}
 use Prim.Native.Nat.{ℕ}

@@ -9,7 +9,7 @@ use mir.Facts.{toZ-ofZ}
 use Rattle.rows.specs.declared.Row.{Row}
 use Rattle.rows.proofs.Limits.{times, in-range-times}
 use Rattle.responses.specs.Figures.{earliest, figuresAt}
-use Rattle.responses.specs.Columns.{rowsAbove}
+use Rattle.responses.specs.inside.Columns.{rowsAbove}
 use Rattle.responses.proofs.Responses.{late-answer, timely-answer}
 use Rattle.responses.proofs.Columns.{worst-columns, best-columns, latest-found, Found, found}
 use Rattle.responses.proofs.figures_under.Statement.{statement}

@@ -23,14 +23,14 @@ use Rattle.rows.proofs.Walk.{fsplit, join, keep, move, qed, raw, rewrite, runs,
 use Rattle.rows.proofs.Walk.{sub, whole, again, alloc0, alloc1, and-then, assigns, assigns-last, bin, blocks}
 use Rattle.rows.proofs.Walk.{branches, enter, exec, first, fld, forget, free0, free1, from, hop, init, jumps, land}
 use Rattle.rows.proofs.Walk.{lit, load, look, look-raw, loops, no-more, of-opd, params1, pass0, pass1, returns, skips}
-use Rattle.rows.proofs.Walk.{stop, store, arr-parts, after, offset-fits}
+use Rattle.rows.proofs.Walk.{stop, store, arr-parts, after, rowBytes, offset-fits}
 use lib.Dec.{T as Holds}
 use lib.ListN.{drop as dropN}
 use types.Run.{Below}
 use Rattle.rows.proofs.Calls.{Asks, calls-told}
 use denote.Struct.Laws as LL
-use Rattle.responses.specs.Columns.{rowAbove}
-use Rattle.responses.specs.Gathered.{noneAbove, addRow, addRows}
+use Rattle.responses.specs.inside.Columns.{rowAbove}
+use Rattle.responses.specs.inside.RowsAbove.{noneAbove, addRow, addRows}
 use Rattle.rows.specs.declared.Row.{Row}
 use Rattle.responses.specs.declared.Above.{Above}
 use Rattle.rows.proofs.Row as T
@@ -198,7 +198,7 @@ module _ {M : Type 1} (𝓤 : URA M) (H : Heap 𝓤) (A : Atoms 𝓤) (W : Given
         (store ! 7 refl (tt, record { fits = off (ltb→lt _ _ less) })) $
         assigns ! (bin ! (load ! (from ! (fld ! refl (stop !))) (look-in ! 13 (sub ! 0 refl (whole !))))
         (load ! (from ! (stop !)) (look ! 7 refl)) tt) (from ! (stop !)) (init ! 3 refl (tt, tt)) $
-        rewrite ! 3 (λ (p′ : ℕ). ‵ (fat fullShare tyPtr l₆ 0 (vptr b p′))) (sym (place-is 32 o (x .i))) refl $
+        rewrite ! 3 (λ (p′ : ℕ). ‵ (fat fullShare tyPtr l₆ 0 (vptr b p′))) (sym (place-is rowBytes o (x .i))) refl $
         elem-out ! T.the-row (Is T.the-row) (shows 𝓤 H A T.the-row) (LL.vals T.the-type T′.the-laws)
         (LL.tells T.the-type T′.the-laws) q′ ys (x .i) blank b o (ltb→lt _ _ less) (λ g.
         -- [the record; what it owns; the others; _7; …; _6; …; _5; …]
@@ -231,7 +231,7 @@ module _ {M : Type 1} (𝓤 : URA M) (H : Heap 𝓤) (A : Atoms 𝓤) (W : Given
         elem : Row
         elem = getD ys (x .i) blank
 
-        off : x .i < n → x .i * 32 < 2 ^ 64
+        off : x .i < n → x .i * rowBytes < 2 ^ 64
         off l = offset-fits (x .i) n l (p .0 .1 .1)
 
         up : x .i < n → x .i + 1 < 2 ^ 64

@@ -13,12 +13,12 @@ use Rattle.rows.proofs.Walk.{nothing, Triple, Vals, onEntry, Meets, tripleOf, e
 use Rattle.rows.proofs.Walk.{stay-dropped, walkOf, goes-dropped, Walks, ends-at, walked, walk-meets, yes}
 use denote.Struct.Laws as LL
 use Rattle.responses.specs.Claims.{FiguresSay}
-use Rattle.responses.specs.Gathered.{noneAbove, addRows, Sound, figuresIn}
+use Rattle.responses.specs.inside.RowsAbove.{noneAbove, addRows, Sound, figuresIn}
 use Rattle.rows.specs.declared.Row.{Row}
 use Rattle.responses.specs.declared.Above.{Above}
 use Rattle.responses.specs.declared.Figures.{Figures}
 use Rattle.rows.proofs.Calls.{Asks, calls-told}
-use Rattle.responses.proofs.Gathered.{gathered-sound, gathered-say}
+use Rattle.responses.proofs.RowsAbove.{gathered-sound, gathered-say}
 use Rattle.rows.proofs.Row as T
 use Rattle.rows.proofs.Row.Laws as T′
 use Rattle.responses.proofs.Above as B

@@ -12,7 +12,7 @@ use lib.ListN.{List·getD-eq-default}
 use lib.Seq.{take-suc, take-suc-set, getD-take, length-take-le}
 use Rattle.rows.specs.declared.Row.{Row}
 use Rattle.rows.specs.Rows.{maxTasks, noRow, tasksOf, positionOf, rowFor, rowsFor}
-use Rattle.rows.specs.Arrays.{padded}
+use Rattle.rows.specs.inside.Arrays.{padded}
 use Rattle.rows.proofs.Tasks.{tasks-last, row-at, for-length}
 use Rattle.rows.proofs.Arrays.{padded-next, padded-nothing}
 use Rattle.rows.proofs.rows_for.Statement.{statement}
@@ -61,7 +61,7 @@ module _ (ts : List ℕ) (rs found : List Row) (k : ℕ) (so : Found ts rs found
     held = ap₂ (λ l i. set l i r) (so .held) (sym many) ∙ padded-next noRow r before (omega (arith, many)) ∙ next;
   }
 
-  -- a task that has no row leaves its place as it is
+  -- a task that has no row leaves the array as it is
   found-none : noRow ≡ r → Found ts rs found (suc k)
   found-none e = record { held = so .held ∙ padded-nothing noRow r before (omega (arith, many)) e ∙ next }
 
@@ -92,10 +92,10 @@ Inv-loop2 n rows tasks count numbers i found₀ k₀ found k =
 abbrev μ-loop2 : tie.MeasureT-loop2
 μ-loop2 n rows tasks count numbers i found₀ k₀ found k = count - k
 
-rows-long : (c : tie.Start Inv-loop μ-loop Inv-loop2 μ-loop2) → length (c .args .t2) ≡ 12
+rows-long : (c : tie.Start Inv-loop μ-loop Inv-loop2 μ-loop2) → length (c .args .t2) ≡ maxTasks
 rows-long c = c .good .1 .0 .1 .0 .1
 
-tasks-long : (c : tie.Start Inv-loop μ-loop Inv-loop2 μ-loop2) → length (c .args .order .tasks) ≡ 12
+tasks-long : (c : tie.Start Inv-loop μ-loop Inv-loop2 μ-loop2) → length (c .args .order .tasks) ≡ maxTasks
 tasks-long c = sym (length-map (c .args .order .tasks) (λ v. v)) ∙ c .good .0 .1 .1 .0 .1 .0 .1
 
 loop-holds : tie.Need-loop-holds Inv-loop μ-loop Inv-loop2 μ-loop2

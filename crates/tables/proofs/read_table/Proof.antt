@@ -6,7 +6,7 @@ use native.Mathlib.Omega.{arith}
 use lib.ListN.{drop}
 use borrow.Author.Needs.{needs}
 use Rattle.rows.specs.Rows.{noRow}
-use Rattle.rows.specs.Arrays.{padded, ranking}
+use Rattle.rows.specs.inside.Arrays.{padded, ranking}
 use Rattle.rows.specs.declared.Row.{Row}
 use Rattle.rows.specs.declared.Order.{Order}
 use Rattle.tables.specs.declared.Reading.{Reading}

@@ -5,7 +5,7 @@ use mathlib.Core.List.{List}
 use Prim.Native.Nat.{ℕ}
 use lib.ListN.{length}
 use Rattle.rows.specs.Rows.{noRow}
-use Rattle.rows.specs.Arrays.{padded, ranking}
+use Rattle.rows.specs.inside.Arrays.{padded, ranking}
 use Rattle.tables.specs.declared.Table.{Table}
 use Rattle.tables.specs.declared.Reading.{Reading}
 use Rattle.tables.specs.TableLines.{TableRead, readTable}

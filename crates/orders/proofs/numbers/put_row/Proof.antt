@@ -1,7 +1,7 @@
 -- `orders::numbers::put_row` meets its contract.
 use native.Mathlib.Omega.{arith}
 use borrow.Author.Needs.{needs}
-use Rattle.orders.proofs.Numbered.{row-put}
+use Rattle.orders.proofs.RowNumbers.{row-put}
 use Rattle.orders.proofs.numbers.put_row.Statement.{statement}
 use Rattle.orders.proofs.numbers.put_row.Tie as tie
 

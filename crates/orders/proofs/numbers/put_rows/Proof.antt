@@ -20,7 +20,7 @@ use Rattle.rows.proofs.Walk.{pick, qed, raw, rewrite, runs, some, split, suffic
 use Rattle.rows.proofs.Walk.{whole, addr, again, alloc0, alloc1, and-then, assigns, assigns-last, bin, blocks}
 use Rattle.rows.proofs.Walk.{branches, enter, exec, first, fld, forget, free0, free1, from, hop, init, jumps, land}
 use Rattle.rows.proofs.Walk.{lit, load, look, look-raw, loops, no-more, of-opd, params1, pass0, pass1, returns, skips}
-use Rattle.rows.proofs.Walk.{stop, store, arr-parts, lft-new, lft-end, after, offset-fits}
+use Rattle.rows.proofs.Walk.{stop, store, arr-parts, lft-new, lft-end, after, rowBytes, offset-fits}
 use Rattle.rows.proofs.Calls.{Asks, calls-left}
 use mir.Syntax.{mut, tyUnit}
 use mir.Val.{vunit}
@@ -34,8 +34,8 @@ use denote.Struct.Laws as LL
 use denote.Triple.Walked.{needs, stay-ref, goes-ref}
 use Rattle.rows.specs.Rows.{maxTasks, noRow, rowAt}
 use Rattle.rows.specs.declared.Row.{Row}
-use Rattle.orders.specs.Numbers.{rowNumbers, rowIn, rowsIn, RowPut}
-use Rattle.orders.proofs.Numbered.{rows-are, put-next}
+use Rattle.orders.specs.inside.Numbers.{numbersRoom, rowIn, rowsIn, RowPut}
+use Rattle.orders.proofs.RowNumbers.{rows-are, put-next}
 use Rattle.rows.proofs.Row as T
 use Rattle.rows.proofs.Row.Laws as T′
 use Rattle.orders.proofs.numbers.put_row as put-row
@@ -51,7 +51,7 @@ use Rattle.orders.proofs.numbers.put_rows.Code.Mir.{turn-1, t-2, t-3}
 abbrev stayed : Stays (put-rows.ended .signature .params) (put-rows.ended .kept)
 stayed = (
   stay-dropped (shrSliceOf (0 ∷ []) tt (plain (λ _. T.the-row))) yes,
-  (stay-ref (1 ∷ []) tt (ArrayOf (plain (λ _. u64)) (λ _. tt) 72), tt),
+  (stay-ref (1 ∷ []) tt (ArrayOf (plain (λ _. u64)) (λ _. tt) numbersRoom), tt),
 )
 
 abbrev word : Ty
@@ -62,7 +62,7 @@ slice = sliceTy (tyRef (named 0) imm (pointee (T.the-row .written)))
 
 -- the numbers' array, and a reference to it
 abbrev array : Ty
-array = tyArray word 72
+array = tyArray word numbersRoom
 
 abbrev lent : Ty
 lent = tyRef (named 1) mut array
@@ -75,7 +75,7 @@ record St (ys : List Row) : Type 0 where
   i : ℕ
   ns : List ℕ
   within : i ≤ length ys
-  long : rowNumbers * maxTasks ≤ length ns
+  long : numbersRoom ≤ length ns
   so : (k : ℕ) → k < i → rowIn ns k ≡ rowAt ys k
 
 module _ (ys : List Row) where
@@ -121,7 +121,7 @@ module _ {M : Type 1} (𝓤 : URA M) (H : Heap 𝓤) (A : Atoms 𝓤) (W : Given
   held ε ns = record { ptr = (d, e); name = ε; now = ns }
 
   abbrev Own : Lft → GName → List ℕ → Fml
-  Own ι ε ns = MutRef (named 0) ι (Array u64 72) .own (held ε ns) (vptr d e ∷ [])
+  Own ι ε ns = MutRef (named 0) ι (Array u64 numbersRoom) .own (held ε ns) (vptr d e ∷ [])
 
   abbrev Arg : Type 0
   Arg = RefT (List Row) × (RefT (List ℕ) × Unit {0})
@@ -153,7 +153,7 @@ module _ {M : Type 1} (𝓤 : URA M) (H : Heap 𝓤) (A : Atoms 𝓤) (W : Given
   )
 
   goes-put-row : (α : ℕ) (ε : GName) (ns : List ℕ) (i : ℕ) (x : Row)
-      → (i < maxTasks) × (rowNumbers * maxTasks ≤ length ns) → i < 2 ^ 64 → Is T.the-row x (mach x ∷ [])
+      → (i < maxTasks) × (numbersRoom ≤ length ns) → i < 2 ^ 64 → Is T.the-row x (mach x ∷ [])
       → ent 𝓤 (⋆ 𝓤 H A (‵ (flft (α ∷ []) fullShare) ∷ ‵ (Own (α ∷ []) ε ns) ∷ []))
       (PutRow 𝓤 H A mem run .pre (to-put-row α ε ns i x))
   goes-put-row α ε ns i x pre fits is =
@@ -217,7 +217,7 @@ module _ {M : Type 1} (𝓤 : URA M) (H : Heap 𝓤) (A : Atoms 𝓤) (W : Given
         (store ! 14 refl (tt, record { fits = off (ltb→lt _ _ less) })) $
         assigns ! (bin ! (load ! (from ! (fld ! refl (stop !))) (look-in ! 20 (sub ! 0 refl (whole !))))
         (load ! (from ! (stop !)) (look ! 14 refl)) tt) (from ! (stop !)) (init ! 6 refl (tt, tt)) $
-        rewrite ! 6 (λ (p′ : ℕ). ‵ (fat fullShare tyPtr l₈ 0 (vptr b p′))) (sym (place-is 32 o (x .i))) refl $
+        rewrite ! 6 (λ (p′ : ℕ). ‵ (fat fullShare tyPtr l₈ 0 (vptr b p′))) (sym (place-is rowBytes o (x .i))) refl $
         elem-out ! T.the-row (Is T.the-row) (shows 𝓤 H A T.the-row) (LL.vals T.the-type T′.the-laws)
         (LL.tells T.the-type T′.the-laws) q′ ys (x .i) noRow b o (ltb→lt _ _ less) (λ g.
         -- [the record; what it owns; the others; what shuts the slice; the numbers; their token; _9; …; _8; …]
@@ -227,8 +227,8 @@ module _ {M : Type 1} (𝓤 : URA M) (H : Heap 𝓤) (A : Atoms 𝓤) (W : Given
         -- the numbers are lent again, for a lifetime α of the call
         lft-new ! tt (λ α. move ! (3 ∷ 4 ∷ []) $
         use2 W (later (some (λ (ε : GName). ‵ (Own (α ∷ []) ε (x .ns))
-        ⊛ ‵ (LentAgain (Array u64 72) κ′ (α ∷ []) r δ d e ε (x .ns)))))
-        (lends-again 𝓤 H A W (Array u64 72) (named 0) κ′ (α ∷ []) r δ d e (named 0) (x .ns)) $ await ! tt $
+        ⊛ ‵ (LentAgain (Array u64 numbersRoom) κ′ (α ∷ []) r δ d e ε (x .ns)))))
+        (lends-again 𝓤 H A W (Array u64 numbersRoom) (named 0) κ′ (α ∷ []) r δ d e (named 0) (x .ns)) $ await ! tt $
         pick ! (λ ε. split ! $ move ! (2 ∷ 0 ∷ []) $
         use2 W (raw (PutRow 𝓤 H A mem run .pre (to-put-row α ε (x .ns) (x .i) elem)))
         (goes-put-row α ε (x .ns) (x .i) elem (below (ltb→lt _ _ less), x .long) (small (ltb→lt _ _ less)) g) $
@@ -242,7 +242,8 @@ module _ {M : Type 1} (𝓤 : URA M) (H : Heap 𝓤) (A : Atoms 𝓤) (W : Given
         -- the lifetime ends, and the numbers come back as `put_row` left them
         fsplit ! $ move ! (1 ∷ []) $ drop ! $ move ! (1 ∷ []) $ split ! $ lft-end ! tt $ move ! (0 ∷ 3 ∷ 2 ∷ []) $
         use3 W (later (‵ (Own κ′ δ (ws .0)) ⊛ ‵ (flft κ′ r)))
-        (comes-back 𝓤 H A W (Array u64 72) (named 0) κ′ (α ∷ []) r δ d e ε (x .ns) (ws .0)) $ await ! tt $ split ! $
+        (comes-back 𝓤 H A W (Array u64 numbersRoom) (named 0) κ′ (α ∷ []) r δ d e ε (x .ns) (ws .0)) $
+        await ! tt $ split ! $
         -- [the numbers; their token; true; the slice's records; what shuts it; _9; …]
         move ! (2 ∷ []) $ drop ! $ move ! (2 ∷ 3 ∷ 0 ∷ 1 ∷ []) $
         assigns-last ! (bin ! (load ! (from ! (stop !)) (look ! 16 refl)) (lit ! tt)
@@ -266,7 +267,7 @@ module _ {M : Type 1} (𝓤 : URA M) (H : Heap 𝓤) (A : Atoms 𝓤) (W : Given
         elem : Row
         elem = getD ys (x .i) noRow
 
-        off : x .i < n → x .i * 32 < 2 ^ 64
+        off : x .i < n → x .i * rowBytes < 2 ^ 64
         off l = offset-fits (x .i) n l (p .0 .1 .1)
 
         up : x .i < n → x .i + 1 < 2 ^ 64
@@ -284,12 +285,12 @@ module _ {M : Type 1} (𝓤 : URA M) (H : Heap 𝓤) (A : Atoms 𝓤) (W : Given
 
   module _ (𝓣 : Tables 𝓤 H) (known : Triple 𝓤 (𝓣 .C #put-row) (PutRow 𝓤 H A mem run)) where
     walk : Is (ShrSlice (named 0) κ T.the-row) s (v ∷ [])
-        → (n ≤ maxTasks) × (rowNumbers * maxTasks ≤ length ns₀)
+        → (n ≤ maxTasks) × (numbersRoom ≤ length ns₀)
         → ent 𝓤 (onEntry 𝓤 H A put-rows.signature (κ, (κ′, tt)) (q, (r, tt)) a at)
         (WpFn 𝓤 H (𝓣 .C) (𝓣 .Λ) code.function (v ∷ vptr d e ∷ []) Post)
     walk p pre =
         qed W ((‵ (flft κ q) ⊛ (‵ (flft κ′ r) ⊛ ‵ ftrue))
-        ∷ ‵ (owns (ShrSlice (named 0) κ T.the-row ∷ MutRef (named 1) κ′ (Array u64 72) ∷ []) a at) ∷ []) ∵
+        ∷ ‵ (owns (ShrSlice (named 0) κ T.the-row ∷ MutRef (named 1) κ′ (Array u64 numbersRoom) ∷ []) a at) ∷ []) ∵
         enter ! (𝓣 .C) (𝓣 .Λ) code.function (v ∷ vptr d e ∷ []) _ $
         alloc1 ! (λ l₀. alloc1 ! (λ l₁. alloc1 ! (λ l₂. alloc1 ! (λ l₃. alloc1 ! (λ l₄. alloc1 ! (λ l₅.
         alloc1 ! (λ l₆. alloc1 ! (λ l₇. alloc1 ! (λ l₈. alloc1 ! (λ l₉. alloc0 ! $ params1 ! $
@@ -317,7 +318,7 @@ module _ {M : Type 1} (𝓤 : URA M) (H : Heap 𝓤) (A : Atoms 𝓤) (W : Given
       (WpFn 𝓤 H (𝓣 .C) (𝓣 .Λ) code.function) (λ κs. (slice-vals, (ptr-vals, tt)))
       (λ κs. (
         shr-slice-tells (named 0) (κs .0) T.the-row,
-        (mut-tells (named 1) (κs .1 .0) (Array u64 72), tt),
+        (mut-tells (named 1) (κs .1 .0) (Array u64 numbersRoom), tt),
       ))
       (λ κs qs bounds a g are. needs 𝓤 _ _
       (walk 𝓤 H A W mem run (κs .0) (κs .1 .0) (qs .0) (qs .1 .0) (a .0 .ptr .0) (a .0 .ptr .1) (a .0 .name) (a .0 .now)
@@ -328,7 +329,7 @@ put-rows-meets : {M : Type 1} (𝓤 : URA M) (H : Heap 𝓤) (A : Atoms 𝓤) (W
     → Meets 𝓤 H A put-rows.signature (WpFn 𝓤 H (𝓣 .C) (𝓣 .Λ) code.function) (put-rows.spec 𝓤 H A mem run)
 put-rows-meets 𝓤 H A W mem run 𝓣 known = walk-meets 𝓤 H A put-rows.ended stayed W (
   goes-dropped 𝓤 H A W 2 (shrSliceOf (0 ∷ []) tt (plain (λ _. T.the-row))) yes (λ κs x f. refl),
-  (goes-ref 𝓤 H A W 2 1 tt (ArrayOf (plain (λ _. u64)) (λ _. tt) 72), tt),
+  (goes-ref 𝓤 H A W 2 1 tt (ArrayOf (plain (λ _. u64)) (λ _. tt) numbersRoom), tt),
 )
     (put-rows.clauses 𝓤 H A mem run) (WpFn 𝓤 H (𝓣 .C) (𝓣 .Λ) code.function) (WpFn-mono 𝓤 H (W .laws) 𝓣 code.function)
     (put-rows-walks 𝓤 H A W mem run 𝓣 known)

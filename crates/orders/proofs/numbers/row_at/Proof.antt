@@ -2,7 +2,7 @@
 use native.Mathlib.Omega.{arith}
 use borrow.Author.Needs.{needs}
 use Rattle.rows.proofs.Limits.{Limits, limits}
-use Rattle.orders.specs.Numbers.{rowIn}
+use Rattle.orders.specs.inside.Numbers.{rowIn}
 use Rattle.orders.proofs.numbers.row_at.Statement.{statement}
 use Rattle.orders.proofs.numbers.row_at.Tie as tie
 

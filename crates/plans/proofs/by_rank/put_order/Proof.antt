@@ -10,10 +10,10 @@ use lib.IntN.{ℤ}
 use mir.Syntax.{w64}
 use mir.Val.{toZ, ofZ}
 use mir.Facts.{toZ-ofZ}
-use Rattle.rows.specs.Rows.{noRow}
+use Rattle.rows.specs.Rows.{maxTasks, noRow}
 use Rattle.responses.specs.declared.Figures.{Figures}
 use Rattle.plans.specs.declared.Entry.{Entry}
-use Rattle.plans.proofs.Turns.{Turning, starts, posed, found-late, rank-fits, turned, finished}
+use Rattle.plans.proofs.Turns.{Turning, starts, under-columns, found-late, rank-fits, turned, finished}
 use Rattle.plans.proofs.by_rank.put_order.Statement.{statement}
 use Rattle.plans.proofs.by_rank.put_order.Tie as tie
 
@@ -24,7 +24,7 @@ Inv-loop out₀ at n rows periods₀ worsts₀ bests₀ end₀ i₀ out periods 
 abbrev μ-loop : tie.MeasureT-loop
 μ-loop out₀ at n rows periods₀ worsts₀ bests₀ end₀ i₀ out periods worsts bests end i = n - i
 
-rows-long : (c : tie.Start Inv-loop μ-loop) → length (c .args .t3) ≡ 12
+rows-long : (c : tie.Start Inv-loop μ-loop) → length (c .args .t3) ≡ maxTasks
 rows-long c = c .good .1 .1 .0 .1 .0 .1
 
 -- where a turn stands, from its figures on
@@ -70,7 +70,7 @@ slice-aggregate-figures-under-3 c = search needs
 figures-under-requires : tie.Need-figures-under-requires Inv-loop μ-loop
 figures-under-requires c κs =
     let k = c .before .before .before .before in
-    posed (k .before .loop .inv) (k .loop-test .taken)
+    under-columns (k .before .loop .inv) (k .loop-test .taken)
 
 cast-rank : tie.Need-cast-rank Inv-loop μ-loop
 cast-rank c = omega arith

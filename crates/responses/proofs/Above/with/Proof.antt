@@ -6,15 +6,16 @@ use borrow.Author.Needs.{needs}
 use borrow.Author.Tests.{ltb-true}
 use lib.Dec.{ltb}
 use Rattle.basics.proofs.Tests.{and-right}
+use Rattle.responses.specs.Figures.{maxAbove}
 use Rattle.responses.proofs.Above.with.Statement.{statement}
 use Rattle.responses.proofs.Above.with.Tie as tie
 
 -- the test passed, so there is room
-room : (c : tie.Then1) → c .before .before .before .args .self .count < 11
+room : (c : tie.Then1) → c .before .before .before .args .self .count < maxAbove
 room c =
     let s = c .before .before .before in
-    ltb-true (s .args .self .count) 11
-    (and-right (s .args .self .posed && c .before .before .in-range .result) (ltb (s .args .self .count) 11)
+    ltb-true (s .args .self .count) maxAbove
+    (and-right (s .args .self .in_limits && c .before .before .in-range .result) (ltb (s .args .self .count) maxAbove)
     (c .if1 .taken))
 
 in-range-requires : tie.Need-in-range-requires

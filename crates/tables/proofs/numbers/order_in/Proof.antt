@@ -5,7 +5,7 @@ use native.Mathlib.Numerals.{add-one}
 use native.Mathlib.Omega.{arith}
 use lib.ListN.{getD, set}
 use Rattle.rows.specs.declared.Order.{Order}
-use Rattle.rows.specs.Arrays.{padded, ranking}
+use Rattle.rows.specs.inside.Arrays.{padded, ranking}
 use Rattle.rows.proofs.Arrays.{padded-next}
 use Rattle.tables.specs.inside.Numbers.{rowStart, behind}
 use Rattle.tables.proofs.RowNumbers.{behind-length, behind-none, behind-next, behind-at}

@@ -2,7 +2,7 @@
 use mathlib.Core.Path.{sym, ap, _∙_}
 use borrow.Author.Needs.{needs}
 use Rattle.rows.specs.declared.Checked.{Checked}
-use Rattle.rows.specs.Checked.{checked}
+use Rattle.rows.specs.inside.Constructor.{checked}
 use Rattle.tables.proofs.RowNumbers.{row-from}
 use Rattle.tables.proofs.numbers.row_at.Statement.{statement}
 use Rattle.tables.proofs.numbers.row_at.Tie as tie

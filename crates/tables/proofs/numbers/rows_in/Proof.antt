@@ -6,7 +6,7 @@ use native.Mathlib.Omega.{arith}
 use lib.ListN.{set}
 use lib.ListN.{drop, replicate}
 use Rattle.rows.specs.Rows.{maxTasks, noRow}
-use Rattle.rows.specs.Arrays.{padded}
+use Rattle.rows.specs.inside.Arrays.{padded}
 use Rattle.rows.proofs.Arrays.{padded-next}
 use Rattle.tables.specs.TableLines.{rowOf}
 use Rattle.tables.specs.inside.Numbers.{headCount, rowStart, rowsIn}

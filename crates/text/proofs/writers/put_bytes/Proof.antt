@@ -1,4 +1,4 @@
--- `put_bytes` puts a text at its place, byte by byte. The loop's invariant: the first i bytes of the text stand in the
+-- `put_bytes` puts a text at its offset, byte by byte. The loop's invariant: the first i bytes of the text stand in the
 -- buffer from `at` on, and nothing else changed.
 use mathlib.Core.Path.{_≡_, refl, sym, ap, _∙_}
 use mathlib.Core.List.{_++_}

@@ -1,4 +1,4 @@
--- `put_line` puts a key's line at its place: the key, the number and the line feed are put one after another, each
+-- `put_line` puts a key's line at its offset: the key, the number and the line feed are put one after another, each
 -- where the one before it ends.
 use mathlib.Core.List.{List, [], _∷_}
 use Prim.Native.Nat.{ℕ}

@@ -1,4 +1,4 @@
--- `put_number` puts a number's decimal at its place: `io` spells it in an array of the function's own, and these
+-- `put_number` puts a number's decimal at its offset: `io` spells it in an array of the function's own, and these
 -- digits are copied.
 use mathlib.Core.Path.{_≡_, _∙_}
 use lib.ListN.{take}

@@ -1,4 +1,4 @@
--- `put_signed` puts a signed number at its place: below 0 the sign and then the size, which stand one after the other;
+-- `put_signed` puts a signed number at its offset: below 0 the sign and then the size, which stand one after the other;
 -- else the size alone.
 use mathlib.Core.Path.{_≡_, sym, ap, _∙_}
 use mathlib.Core.List.{List, [], _∷_, _++_, append-nil}

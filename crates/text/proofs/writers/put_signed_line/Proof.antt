@@ -1,4 +1,4 @@
--- `put_signed_line` puts a key's line at its place: the key, the signed number and the line feed are put one after
+-- `put_signed_line` puts a key's line at its offset: the key, the signed number and the line feed are put one after
 -- another, each where the one before it ends.
 use mathlib.Core.Path.{_≡_}
 use mathlib.Core.List.{List, [], _∷_}

@@ -1,14 +1,14 @@
--- Every index is below 6, and so is every place on the circle of 7.
+-- Every index is below 6, and so is every point on the circle of 7.
 use Prim.Native.Nat.{_≤_, _-_}
 use borrow.Author.Needs.{needs}
 use Rattle.trials.proofs.generator.any_rows.Statement.{statement}
 use Rattle.trials.proofs.generator.any_rows.Tie as tie
 
 abbrev Inv-loop : tie.InvT-loop
-Inv-loop seed₀ longest share alike first step row₀ rows₀ place₀ i₀ seed row rows place i = (i ≤ 6) × (place ≤ 6)
+Inv-loop seed₀ longest share alike first step row₀ rows₀ point₀ i₀ seed row rows point i = (i ≤ 6) × (point ≤ 6)
 
 abbrev μ-loop : tie.MeasureT-loop
-μ-loop seed₀ longest share alike first step row₀ rows₀ place₀ i₀ seed row rows place i = 6 - i
+μ-loop seed₀ longest share alike first step row₀ rows₀ point₀ i₀ seed row rows point i = 6 - i
 
 between-requires : tie.Need-between-requires Inv-loop μ-loop
 between-requires c κs = search needs
@@ -40,8 +40,8 @@ mul-rows c = search needs
 array-set-from-rows : tie.Need-array-set-from-rows Inv-loop μ-loop
 array-set-from-rows c = search needs
 
-add-place : tie.Need-add-place Inv-loop μ-loop
-add-place c = search needs
+add-point : tie.Need-add-point Inv-loop μ-loop
+add-point c = search needs
 
 add-i : tie.Need-add-i Inv-loop μ-loop
 add-i c = search needs
@@ -71,7 +71,7 @@ any-rows-spec =
     add-row
     mul-rows
     array-set-from-rows
-    add-place
+    add-point
     add-i
     loop-less
     loop-again

@@ -1,4 +1,4 @@
--- Both texts have the same length, and the place is below it.
+-- Both texts have the same length, and the offset is below it.
 use mathlib.Core.Path.{_≡_}
 use Prim.Native.Nat.{_≤_, _-_}
 use lib.ListN.{length}

@@ -1,0 +1,122 @@
+-- The figures depend on the rows above only through their interference: so on which rows they are, and not on their
+-- sequence. W does not fall as interference grows.
+use mathlib.Core.Path.{_≡_, refl, ap, ap₂, sym, _∙_, fun-ext}
+use mathlib.Core.Bool.{Bool, true, false, _&&_, not, Bool-set}
+use lib.IntN.{pos}
+use lib.Signed.{leZ}
+use mathlib.Core.Logic.{∥∥₁-elim}
+use mathlib.Core.List.{List, _∷_, map, Perm}
+use mathlib.Core.List.{List·Permᴰ, List·Permᴰ·nil, List·Permᴰ·cons, List·Permᴰ·swap, List·Permᴰ·trans}
+use Prim.Native.Nat.{ℕ, suc, _+_, _-_, _*_, _≤_}
+use native.Mathlib.Nat.{ℕ-set}
+use native.Mathlib.Omega.{arith}
+use lib.Dec.{eqb, leb}
+use lib.ListN.{length}
+use Rattle.basics.specs.Basics.{pick}
+use Rattle.rows.specs.Rows.{inRange, allRows}
+use Rattle.rows.specs.declared.Row.{Row}
+use Rattle.responses.specs.declared.Figures.{Figures}
+use Rattle.responses.specs.Extremes.{smallest, largest}
+use Rattle.responses.specs.Interference.{ceiling, Load, interference}
+use Rattle.responses.specs.Figures.{worstLoad, bestLoad, worstIn, bestIn, latest, earliest, marginAt}
+use Rattle.responses.specs.Figures.{lateFigures, noFigures}
+use Rattle.responses.specs.Figures.{figuresAt, figuresUnder, maxAbove, figuresOf}
+use Rattle.responses.specs.Claims.{SameFigures, BySet}
+use Rattle.responses.proofs.FixedPoints.{fixed-below, demand-mono, least-fixed, least-least}
+
+pub record Same (xs ys : List Row) : Type 0 where
+  pub worst-same : (x : ℕ) → worstIn x xs ≡ worstIn x ys
+  pub best-same : (x : ℕ) → bestIn x xs ≡ bestIn x ys
+
+module _ (t : Row) {xs ys : List Row} (s : Same xs ys) where
+  pub latest-same : latest t xs ≡ latest t ys
+  latest-same =
+      ap (λ (f : ℕ → Bool). smallest f (t .period))
+      (fun-ext (λ x. ap (λ (k : ℕ). eqb x (t .worst + k)) (s .worst-same x)))
+
+  pub earliest-same : earliest t xs ≡ earliest t ys
+  earliest-same =
+      ap₂ (λ (f : ℕ → Bool) (w : ℕ). largest f w)
+      (fun-ext (λ x. ap (λ (k : ℕ). eqb x (t .best + k)) (s .best-same x)))
+      latest-same
+
+  pub same-figures : SameFigures t xs ys
+  same-figures = record {
+    latest-same = latest-same;
+    earliest-same = earliest-same;
+    jitter-same = ap₂ _-_ latest-same earliest-same;
+    margin-same = ap₂ (marginAt t) latest-same earliest-same;
+    late-same = ap (λ (w : ℕ). eqb w 0) latest-same;
+    stable-same = ap₂ (λ (w e : ℕ). not (eqb w 0) && leZ (pos 0) (marginAt t w e)) latest-same earliest-same;
+  }
+
+  pub figures-same : figuresUnder t xs ≡ figuresUnder t ys
+  figures-same =
+      ap₂ (λ (w e : ℕ). pick (eqb w 0) lateFigures (figuresAt w e (marginAt t w e))) latest-same earliest-same
+
+-- ---- the same rows in another sequence: whatever is made row by row, by steps that can be swapped
+module _ {A : Type 0} (F : List Row → A) (step : Row → A → A)
+    (is : (r : Row) (rs : List Row) → F (r ∷ rs) ≡ step r (F rs))
+    (swap : (r q : Row) (a : A) → step r (step q a) ≡ step q (step r a)) where
+  two : (r q : Row) (rs : List Row) → F (r ∷ q ∷ rs) ≡ step r (step q (F rs))
+  two r q rs = is r (q ∷ rs) ∙ ap (step r) (is q rs)
+
+  permuted : {xs ys : List Row} → List·Permᴰ xs ys → F xs ≡ F ys
+  permuted List·Permᴰ·nil = refl
+  permuted (List·Permᴰ·cons {a} {b} {l₁} {l₂} e d) = is a l₁ ∙ (ap₂ step e (permuted d) ∙ sym (is b l₂))
+  permuted (List·Permᴰ·swap {a} {b} {a′ = c} {b′ = d} {l} e g) =
+      two a b l ∙ (ap₂ (λ (r q : Row). step r (step q (F l))) e g ∙ (swap d c (F l) ∙ sym (two c d l)))
+  permuted (List·Permᴰ·trans d e) = permuted d ∙ permuted e
+
+interference-permuted : (f : Row → Load) (s x : ℕ) {xs ys : List Row} → Perm xs ys
+    → interference s x (map f xs) ≡ interference s x (map f ys)
+interference-permuted f s x p =
+    ∥∥₁-elim p (ℕ-set _ _)
+    (permuted (λ rs. interference s x (map f rs)) (λ r k. (ceiling x (f r .period) - s) * f r .cost + k)
+    (λ r rs. refl) (λ r q k. omega arith))
+
+and-swap : (a b c : Bool) → (a && (b && c)) ≡ (b && (a && c))
+and-swap true b c = refl
+and-swap false true c = refl
+and-swap false false c = refl
+
+all-permuted : (f : Row → Bool) {xs ys : List Row} → Perm xs ys → allRows f xs ≡ allRows f ys
+all-permuted f p =
+    ∥∥₁-elim p (Bool-set _ _)
+    (permuted (allRows f) (λ r b. f r && b) (λ r rs. refl) (λ r q b. and-swap (f r) (f q) b))
+
+length-permuted : {xs ys : List Row} → Perm xs ys → length xs ≡ length ys
+length-permuted p =
+    ∥∥₁-elim p (ℕ-set _ _) (permuted length (λ r n. suc n) (λ r rs. refl) (λ r q n. refl))
+
+pub same-permuted : {xs ys : List Row} → Perm xs ys → Same xs ys
+same-permuted p = record {
+  worst-same = λ x. interference-permuted worstLoad 0 x p;
+  best-same = λ x. interference-permuted bestLoad 1 x p;
+}
+
+pub by-set : BySet
+by-set t above others p = same-figures t (same-permuted p)
+
+pub figures-permuted : (t : Row) {xs ys : List Row} → Perm xs ys → figuresOf t xs ≡ figuresOf t ys
+figures-permuted t {xs} {ys} p =
+    let few : Bool → ℕ → Bool = λ b n. inRange t && (b && leb n maxAbove) in
+    let limits = ap₂ few (all-permuted inRange p) (length-permuted p) in
+    ap₂ (λ (b : Bool) (x : Figures). pick b x noFigures) limits (figures-same t (same-permuted p))
+
+-- ---- more interference: a task that is not late under ys is not late under xs, and W is no larger
+pub latest-mono : (t : Row) (xs ys : List Row) → 1 ≤ t .worst → ((x : ℕ) → worstIn x xs ≤ worstIn x ys)
+    → 1 ≤ latest t ys → (1 ≤ latest t xs) × (latest t xs ≤ latest t ys)
+latest-mono t xs ys h le k =
+    let w = least-fixed (t .worst) (t .period) (map worstLoad ys) k in
+    let up = demand-mono 0 (t .worst) (map worstLoad xs) in
+    let fits : t .worst + worstIn (latest t ys) xs ≤ latest t ys = omega (arith, w .0, le (latest t ys)) in
+    let f = fixed-below (λ x. t .worst + worstIn x xs) up (λ x. omega arith) (latest t ys) fits in
+    let least = least-least (t .worst) (t .period) (map worstLoad xs) in
+    let v = least (f .point) (f .some) (f .is-fixed) (omega (arith, f .below, w .1)) in
+    (v .0, omega (arith, v .1, f .below))
+
+-- one row less above
+pub latest-without : (t r : Row) (above : List Row) → 1 ≤ t .worst → 1 ≤ latest t (r ∷ above)
+    → (1 ≤ latest t above) × (latest t above ≤ latest t (r ∷ above))
+latest-without t r above h k = latest-mono t above (r ∷ above) h (λ x. omega arith) k
