@@ -2,7 +2,9 @@
 use mathlib.Core.Path.{refl}
 use Rattle.text.specs.Text.{digits, decimal, signed, keyLine}
 use Rattle.text.specs.Lines.{numberOf, lineAt}
-use Rattle.tables.specs.Tables.{fieldAt, rankAt, ranksFrom, fieldsFrom, rowsFrom, tasksFrom, boardFrom}
+use Rattle.grammars.specs.Forms.{formAt}
+use Rattle.grammars.specs.Grammars.{readFor}
+use Rattle.tables.specs.TableLines.{readTable}
 use Rattle.responses.specs.Extremes.{smallest, largest}
 use Rattle.orders.specs.Orders.{overSet}
 use Rattle.plans.specs.Plans.{rankText, headText, planText, refusalText}
@@ -11,7 +13,7 @@ use Rattle.ranks.specs.Calls.{onTable, ifOrdered}
 use Rattle.ranks.specs.Cases.{AllHold, starred, unstarred}
 
 pub starred-hold : AllHold starred
-unfolding digits decimal signed keyLine numberOf lineAt fieldAt rankAt ranksFrom fieldsFrom rowsFrom tasksFrom boardFrom
+unfolding digits decimal signed keyLine numberOf lineAt formAt readFor readTable
     smallest largest overSet rankText headText planText fitted onTable ifOrdered
 starred-hold = (
   (refl, refl, refl, refl, refl),
@@ -34,6 +36,6 @@ starred-hold = (
 )
 
 pub unstarred-hold : AllHold unstarred
-unfolding digits decimal signed keyLine numberOf lineAt fieldAt rankAt ranksFrom fieldsFrom rowsFrom tasksFrom boardFrom
+unfolding digits decimal signed keyLine numberOf lineAt formAt readFor readTable
     smallest largest overSet rankText headText planText refusalText fitted ifInTime onTable ifOrdered
 unstarred-hold = (refl, (refl, (refl, (refl, (refl, (refl, tt))))))

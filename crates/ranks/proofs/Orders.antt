@@ -17,9 +17,9 @@ use Rattle.rows.specs.declared.Order.{Order}
 use Rattle.rows.proofs.Tasks.{tasks-length, for-length}
 use Rattle.rows.proofs.Arrays.{padded-front, ranked-are}
 use Rattle.tables.specs.declared.Reading.{Reading}
-use Rattle.tables.specs.Tables.{Answer, readTable}
-use Rattle.tables.specs.Readings.{reading}
-use Rattle.tables.proofs.Reasons.{read}
+use Rattle.tables.specs.TableLines.{TableRead, readTable}
+use Rattle.tables.specs.inside.Readings.{reading}
+use Rattle.tables.proofs.Readings.{read}
 use Rattle.orders.specs.declared.Choice.{Choice}
 use Rattle.orders.specs.inside.Sets.{isSome}
 use Rattle.orders.specs.Stability.{chosenOrder}
@@ -49,7 +49,7 @@ front-of zs order n e many = ap₂ take (sym many) e ∙ padded-front noRow orde
 -- ---- the planner: what the search found
 module _ (text : List ℕ) (r : Reading) (is : r ≡ reading (readTable false text)) (ok : Accepts false text)
     (a : Choice) (found : Chooses (take (r .table .count) (r .table .rows)) a) where
-  abbrev answer : Answer
+  abbrev answer : TableRead
   answer = readTable false text
 
   abbrev n : ℕ
@@ -124,7 +124,7 @@ module _ (text : List ℕ) (r : Reading) (is : r ≡ reading (readTable false te
 
 -- ---- the reviewer: the rows of the rank lines
 module _ (text : List ℕ) (r : Reading) (is : r ≡ reading (readTable true text)) (ok : Accepts true text) where
-  abbrev given : Answer
+  abbrev given : TableRead
   given = readTable true text
 
   -- as many ranks as rows

@@ -1,15 +1,15 @@
 -- A call's outcome is the text's refusal, or what its table comes to; outcomes differ by what they hold; a plan is
 -- written, or is longer than the room.
-use mathlib.Core.Path.{_≡_, refl, sym, ap, _∙_}
-use mathlib.Core.Bool.{true, false, _||_}
-use mathlib.Core.List.{List, _++_}
+use mathlib.Core.Path.{_≡_, refl, sym, ap, _∙_, subst}
+use mathlib.Core.Bool.{true, false}
+use mathlib.Core.List.{List, _∷_}
 use mathlib.Core.Logic.{_⊎_, inl, inr, _↔_}
 use Prim.Native.Nat.{ℕ, zero, suc, _≤_, _<_}
 use native.Mathlib.Omega.{arith}
 use lib.ListN.{length}
 use Rattle.basics.specs.Basics.{isIn}
-use Rattle.basics.proofs.Tests.{in-append, true-not-false, le-or-lt}
-use Rattle.tables.specs.Tables.{Answer}
+use Rattle.basics.proofs.Tests.{true-not-false, le-or-lt}
+use Rattle.tables.specs.TableLines.{TableRead}
 use Rattle.plans.specs.Outcomes.{Outcome, writes, refuses, fitted}
 use Rattle.plans.proofs.Outcomes.{fits, fits-not, Numbered}
 use Rattle.ranks.specs.Calls.{onTable}
@@ -29,17 +29,17 @@ pub zero-or-more : (n : ℕ) → (n ≡ 0) ⊎ ((m : ℕ) × (n ≡ suc m))
 zero-or-more zero = inl refl
 zero-or-more (suc m) = inr (m, refl)
 
-pub on-accepted : (a : Answer) (next : Outcome) → a .refused ≡ 0 → onTable a next ≡ next
+pub on-accepted : (a : TableRead) (next : Outcome) → a .refused ≡ 0 → onTable a next ≡ next
 unfolding onTable
 on-accepted a next e = rw (e, onTable)
 
-pub on-refused : (a : Answer) (next : Outcome) (n : ℕ) → a .refused ≡ suc n → onTable a next ≡ refuses (suc n) (a .line)
+pub on-refused : (a : TableRead) (next : Outcome) (n : ℕ) → a .refused ≡ suc n → onTable a next ≡ refuses (suc n) (a .line)
 unfolding onTable
 on-refused a next n e =
     let step : ℕ → Outcome = λ m. elim m [ zero ↦ next | suc n ↦ refuses (suc n) (a .line) ] in
     ap step e
 
-pub on-turned-down : (a : Answer) (next : Outcome) → (a .refused ≡ 0 → ⊥)
+pub on-turned-down : (a : TableRead) (next : Outcome) → (a .refused ≡ 0 → ⊥)
     → onTable a next ≡ refuses (a .refused) (a .line)
 on-turned-down a next h = elim (zero-or-more (a .refused)) [
   | inl e ↦ absurd (h e)
@@ -67,9 +67,23 @@ module _ (room : ℕ) (plan : List ℕ) (w : Outcome) (is : w ≡ fitted room pl
   )
 
 -- ---- numbers that are listed
--- a number of a list is in a longer one
-pub listed-more : (n : ℕ) (xs ys : List ℕ) → isIn n xs ≡ true → isIn n (xs ++ ys) ≡ true
-listed-more n xs ys h = in-append n xs ys ∙ ap (λ b. b || isIn n ys) h
+-- the numbers from 1 to 5, and from 1 to 6
+pub up-to-five : (n : ℕ) (more : List ℕ) → suc n ≤ 5 → isIn (suc n) (1 ∷ 2 ∷ 3 ∷ 4 ∷ 5 ∷ more) ≡ true
+up-to-five zero more h = refl
+up-to-five (suc zero) more h = refl
+up-to-five (suc (suc zero)) more h = refl
+up-to-five (suc (suc (suc zero))) more h = refl
+up-to-five (suc (suc (suc (suc zero)))) more h = refl
+up-to-five (suc (suc (suc (suc (suc n))))) more h = absurd (omega arith)
+
+pub up-to-six : (n : ℕ) (more : List ℕ) → suc n ≤ 6 → isIn (suc n) (1 ∷ 2 ∷ 3 ∷ 4 ∷ 5 ∷ 6 ∷ more) ≡ true
+up-to-six n more h =
+    elim (le-or-lt (suc n) 5) [
+      | inl l ↦ up-to-five n (6 ∷ more) l
+      | inr l ↦
+          let is : n ≡ 5 = omega arith in
+          subst (λ m. isIn (suc m) (1 ∷ 2 ∷ 3 ∷ 4 ∷ 5 ∷ 6 ∷ more) ≡ true) (sym is) refl
+    ]
 
 -- a refusal whose number is listed is not numbered 0
 pub numbered : (w : Outcome) (ns : List ℕ) → isIn 0 ns ≡ false

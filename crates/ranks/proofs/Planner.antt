@@ -15,10 +15,10 @@ use Rattle.basics.specs.Basics.{isIn}
 use Rattle.basics.proofs.Tests.{and-left, and-right, true-not-false, le-or-lt}
 use Rattle.rows.specs.Rows.{inRange, allRows, rowAt}
 use Rattle.rows.specs.declared.Row.{Row}
-use Rattle.tables.specs.Tables.{Answer, readTable}
-use Rattle.tables.specs.Claims.{Accepted}
-use Rattle.tables.proofs.Numbers.{unranked-listed}
-use Rattle.tables.proofs.Reasons.{read}
+use Rattle.tables.specs.TableLines.{TableRead, readTable}
+use Rattle.tables.specs.Claims.{Accepted, Tells}
+use Rattle.tables.proofs.Refusals.{unranked-small}
+use Rattle.tables.proofs.Readings.{read}
 use Rattle.responses.specs.Figures.{isLate, margin, isStable}
 use Rattle.orders.specs.Orders.{Chosen}
 use Rattle.orders.specs.Stability.{stable, chosenOrder}
@@ -32,15 +32,15 @@ use Rattle.plans.specs.Outcomes.{Outcome, writes, refuses, fitted}
 use Rattle.plans.proofs.Outcomes.{fits, fits-not}
 use Rattle.plans.proofs.Lengths.{plan-fits}
 use Rattle.ranks.specs.Calls.{ifOrdered, planned}
-use Rattle.ranks.specs.Demands.{Promised, Tells, entryAt, plannerRefusals}
+use Rattle.ranks.specs.Demands.{Promised, entryAt, plannerRefusals}
 use Rattle.ranks.specs.Demands.{EveryOrderFails, ByRule, TablePlan, PlanDemands}
 use Rattle.ranks.proofs.Outcomes.{same-refusal, not-both, zero-or-more, on-accepted, on-refused}
-use Rattle.ranks.proofs.Outcomes.{nine-is, written-is, listed-more}
+use Rattle.ranks.proofs.Outcomes.{nine-is, written-is, up-to-five}
 use Rattle.ranks.proofs.Texts.{Accepts, failing, refused-low, telling, tells-only, refused-exactly}
 use Rattle.ranks.proofs.Promises.{promised}
 
 module _ (text : List ℕ) where
-  abbrev answer : Answer
+  abbrev answer : TableRead
   answer = readTable false text
 
   -- ---- the order of an accepted table
@@ -110,16 +110,10 @@ module _ (text : List ℕ) where
       | inr e ↦ refused (e .0) (e .1) (on-refused answer _ (e .0) (e .1))
     ]
 
-    -- a text's refusal has a number from 1 to 5
-    text-listed : (n : ℕ) → answer .refused ≡ suc n → isIn (suc n) (1 ∷ 2 ∷ 3 ∷ 4 ∷ 5 ∷ []) ≡ true
-    text-listed n e =
-        let r = read false text .reason n e in
-        subst (λ k. isIn k (1 ∷ 2 ∷ 3 ∷ 4 ∷ 5 ∷ []) ≡ true) e (unranked-listed (r .before) (r .condition))
-
     listed : Cases → (n p : ℕ) → planned text room ≡ refuses n p → isIn n plannerRefusals ≡ true
     listed (refused m r is) n p e =
         subst (λ k. isIn k plannerRefusals ≡ true) (same-refusal (sym is ∙ e) .0)
-        (listed-more (suc m) (1 ∷ 2 ∷ 3 ∷ 4 ∷ 5 ∷ []) (8 ∷ 9 ∷ []) (text-listed m r))
+        (up-to-five m (8 ∷ 9 ∷ []) (unranked-small text (suc m) (answer .line) (failing false text m r)))
     listed (unordered a o is) n p e = subst (λ k. isIn k plannerRefusals ≡ true) (same-refusal (sym is ∙ e) .0) refl
     listed (short a order o h is) n p e = subst (λ k. isIn k plannerRefusals ≡ true) (same-refusal (sym is ∙ e) .0) refl
     listed (written a order o h is) n p e = absurd (not-both (sym is ∙ e))
@@ -201,8 +195,8 @@ module _ (text : List ℕ) where
       refused = refused-exactly false text onRows (high cases);
       accepted = λ b rows t.
           let is = tells-only false text b rows [] t in
-          subst (λ (a : Answer). TablePlan room (a .board) (a .rows) (planned text room)) is
-          (table-plan (ap (λ (a : Answer). a .refused) is));
+          subst (λ (a : TableRead). TablePlan room (a .board) (a .rows) (planned text room)) is
+          (table-plan (ap (λ (a : TableRead). a .refused) is));
       has-room = has-room cases;
     }
 

@@ -9,10 +9,10 @@ use lib.ListN.{length, take}
 use Rattle.rows.specs.Rows.{maxTasks, noRow}
 use Rattle.rows.proofs.Arrays.{padded-front}
 use Rattle.tables.specs.declared.Reading.{Reading}
-use Rattle.tables.specs.Tables.{Answer, readTable}
-use Rattle.tables.specs.Readings.{reading}
+use Rattle.tables.specs.TableLines.{TableRead, readTable}
+use Rattle.tables.specs.inside.Readings.{reading}
 use Rattle.tables.specs.Claims.{Accepted}
-use Rattle.tables.proofs.Reasons.{read}
+use Rattle.tables.proofs.Readings.{read}
 use Rattle.orders.specs.inside.Search.{TableRows, Lent}
 use Rattle.plans.specs.Outcomes.{Outcome, refuses}
 use Rattle.ranks.specs.Calls.{onTable}
@@ -20,7 +20,7 @@ use Rattle.ranks.proofs.Texts.{Accepts}
 use Rattle.ranks.proofs.Outcomes.{on-turned-down}
 
 module _ (ranked : Bool) (text : List ℕ) (r : Reading) (is : r ≡ reading (readTable ranked text)) where
-  abbrev answer : Answer
+  abbrev answer : TableRead
   answer = readTable ranked text
 
   pub refused-is : r .refused ≡ answer .refused

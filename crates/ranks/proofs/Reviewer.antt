@@ -11,10 +11,9 @@ use Rattle.basics.specs.Basics.{isIn}
 use Rattle.basics.proofs.Tests.{true-not-false, le-or-lt}
 use Rattle.rows.specs.Rows.{inRange, allRows, tasksOf, rowsFor, rowAt}
 use Rattle.rows.specs.declared.Row.{Row}
-use Rattle.tables.specs.Tables.{Answer, readTable}
+use Rattle.tables.specs.TableLines.{TableRead, readTable}
 use Rattle.tables.specs.Claims.{Accepted}
-use Rattle.tables.proofs.Numbers.{number-listed}
-use Rattle.tables.proofs.Reasons.{read}
+use Rattle.tables.proofs.Readings.{read}
 use Rattle.responses.specs.Figures.{isLate}
 use Rattle.orders.specs.Orders.{Possible}
 use Rattle.orders.proofs.Possible.{possible-length, possible-passes}
@@ -29,7 +28,7 @@ use Rattle.plans.proofs.Lengths.{plan-fits}
 use Rattle.ranks.specs.Calls.{givenOrder, reviewed}
 use Rattle.ranks.specs.Demands.{Promised, reviewerRefusals, Given, FirstLate, OrderReview, ReviewDemands}
 use Rattle.ranks.proofs.Outcomes.{same-refusal, not-both, zero-or-more, on-accepted, on-refused}
-use Rattle.ranks.proofs.Outcomes.{nine-is, written-is, listed-more}
+use Rattle.ranks.proofs.Outcomes.{nine-is, written-is, up-to-six}
 use Rattle.ranks.proofs.Texts.{Accepts, failing, refused-low, telling, tells-only, refused-exactly}
 use Rattle.ranks.proofs.Promises.{promised}
 
@@ -42,7 +41,7 @@ none-late-first order h = elim (zero-or-more (firstLate order)) [
 ]
 
 module _ (text : List ℕ) where
-  abbrev answer : Answer
+  abbrev answer : TableRead
   answer = readTable true text
 
   abbrev order : List Row
@@ -125,16 +124,10 @@ module _ (text : List ℕ) where
       | inr e ↦ refused (e .0) (e .1) (on-refused answer _ (e .0) (e .1))
     ]
 
-    -- a text's refusal has a number from 1 to 6
-    text-listed : (n : ℕ) → answer .refused ≡ suc n → isIn (suc n) (1 ∷ 2 ∷ 3 ∷ 4 ∷ 5 ∷ 6 ∷ []) ≡ true
-    text-listed n e =
-        subst (λ k. isIn k (1 ∷ 2 ∷ 3 ∷ 4 ∷ 5 ∷ 6 ∷ []) ≡ true) e
-        (number-listed (read true text .reason n e .condition))
-
     listed : Cases → (n p : ℕ) → reviewed text room ≡ refuses n p → isIn n reviewerRefusals ≡ true
     listed (refused m r is) n p e =
         subst (λ k. isIn k reviewerRefusals ≡ true) (same-refusal (sym is ∙ e) .0)
-        (listed-more (suc m) (1 ∷ 2 ∷ 3 ∷ 4 ∷ 5 ∷ 6 ∷ []) (7 ∷ 9 ∷ []) (text-listed m r))
+        (up-to-six m (7 ∷ 9 ∷ []) (refused-low true text m r))
     listed (late a k l is) n p e = subst (λ k. isIn k reviewerRefusals ≡ true) (same-refusal (sym is ∙ e) .0) refl
     listed (short a t h is) n p e = subst (λ k. isIn k reviewerRefusals ≡ true) (same-refusal (sym is ∙ e) .0) refl
     listed (written a t h is) n p e = absurd (not-both (sym is ∙ e))
@@ -208,12 +201,12 @@ module _ (text : List ℕ) where
       refused = refused-exactly true text onOrder (high cases);
       given = λ b rows tasks t.
           let is = tells-only true text b rows tasks t in
-          subst (λ (a : Answer). Given (a .rows) (a .order) (rowsFor (a .order) (a .rows))) is
-          (is-given (ap (λ (a : Answer). a .refused) is));
+          subst (λ (a : TableRead). Given (a .rows) (a .order) (rowsFor (a .order) (a .rows))) is
+          (is-given (ap (λ (a : TableRead). a .refused) is));
       accepted = λ b rows tasks t.
           let is = tells-only true text b rows tasks t in
-          let ok = ap (λ (a : Answer). a .refused) is in
-          subst (λ (a : Answer). (os : List Row) → Given (a .rows) (a .order) os
+          let ok = ap (λ (a : TableRead). a .refused) is in
+          subst (λ (a : TableRead). (os : List Row) → Given (a .rows) (a .order) os
           → OrderReview room (a .board) os (reviewed text room)) is
           (λ os g. subst (λ (o : List Row). OrderReview room (answer .board) o (reviewed text room))
           (given-only ok os g) (order-review ok));

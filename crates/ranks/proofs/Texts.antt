@@ -7,55 +7,38 @@ use mathlib.Core.Logic.{inl, inr, _↔_}
 use Prim.Native.Nat.{ℕ, suc, _≤_}
 use native.Mathlib.Omega.{arith}
 use Rattle.rows.specs.declared.Row.{Row}
-use Rattle.tables.specs.Tables.{Answer, accepted, turnedDown, readTable}
-use Rattle.tables.specs.Reasons.{Stage, Refused, missing, trailing, malformed, out-of-range}
-use Rattle.tables.specs.Reasons.{exceeding, repeated, not-possible}
-use Rattle.tables.proofs.Reasons.{read}
+use Rattle.tables.specs.TableLines.{TableRead, tableOf, turnedDown, readTable}
+use Rattle.tables.specs.Claims.{Tells, Fails}
+use Rattle.tables.proofs.Readings.{read}
+use Rattle.tables.proofs.Refusals.{number-small}
 use Rattle.plans.specs.Outcomes.{Outcome, refuses}
 use Rattle.ranks.specs.Calls.{onTable}
-use Rattle.ranks.specs.Demands.{Fails, Tells}
 use Rattle.ranks.proofs.Outcomes.{same-refusal, zero-or-more, on-accepted, on-refused, on-turned-down}
 
 abbrev pub Accepts : Bool → List ℕ → Type 0
 Accepts ranked text = readTable ranked text .refused ≡ 0
 
-numbers : {st : Stage} {s : List ℕ} {n : ℕ} → Refused st s n → (1 ≤ n) × (n ≤ 6)
-numbers (missing e h) = (omega arith, omega arith)
-numbers (trailing e h) = (omega arith, omega arith)
-numbers (malformed e value rest h f n) = (omega arith, omega arith)
-numbers (out-of-range e v rest h b r) = (omega arith, omega arith)
-numbers (exceeding v rest h r x) = (omega arith, omega arith)
-numbers (repeated v rest h r x) = (omega arith, omega arith)
-numbers (not-possible v rest h r x) = (omega arith, omega arith)
-
 module _ (ranked : Bool) (text : List ℕ) where
-  abbrev answer : Answer
+  abbrev answer : TableRead
   answer = readTable ranked text
 
   -- ---- what is read is what the text says
   pub failing : (n : ℕ) → answer .refused ≡ suc n → Fails ranked text (suc n) (answer .line)
-  failing n e =
-      let r = read ranked text .reason n e in
-      record {
-        stage = r .stage;
-        rest = r .rest;
-        before = r .before;
-        condition = subst (Refused (r .stage) (r .rest)) e (r .condition);
-      }
+  failing n e = read ranked text .reason n e
 
   pub refused-low : (n : ℕ) → answer .refused ≡ suc n → suc n ≤ 6
-  refused-low n e = numbers (failing n e .condition) .1
+  refused-low n e = number-small ranked text (suc n) (answer .line) (failing n e) .1
 
   pub telling : Accepts ranked text → Tells ranked text (answer .board) (answer .rows) (answer .order)
-  telling a = let w = read ranked text .as-written a in record { lines = w .lines; whole = w .whole }
+  telling a = read ranked text .as-written a
 
   -- ---- and nothing else
   pub fails-only : (n k : ℕ) → Fails ranked text n k → answer ≡ turnedDown n k
-  fails-only n k f = read ranked text .refuses k n (f .stage) (f .rest) (f .before) (f .condition)
+  fails-only n k f = read ranked text .refuses n k f
 
   pub tells-only : (b : ℕ) (rows : List Row) (tasks : List ℕ) → Tells ranked text b rows tasks
-      → answer ≡ accepted b rows tasks
-  tells-only b rows tasks t = read ranked text .accepts (t .lines) b rows tasks (t .whole)
+      → answer ≡ tableOf b rows tasks
+  tells-only b rows tasks t = read ranked text .accepts b rows tasks t
 
   -- ---- a call's refusal, where what an accepted text comes to has no number up to 6
   pub refused-exactly : (next : Outcome) → (Accepts ranked text → (n k : ℕ) → next ≡ refuses n k → 7 ≤ n)
@@ -68,8 +51,8 @@ module _ (ranked : Bool) (text : List ℕ) where
           subst (λ m. Fails ranked text m k) (same .0)
           (subst (Fails ranked text (suc (r .0))) (same .1) (failing (r .0) (r .1))))
     ],
-    λ f. let limits = numbers (f .condition) in (
-      ap (λ (a : Answer). onTable a next) (fails-only n k f)
+    λ f. let limits = number-small ranked text n k f in (
+      ap (λ (a : TableRead). onTable a next) (fails-only n k f)
           ∙ on-turned-down (turnedDown n k) next (λ z. omega (arith, z)),
       limits .1,
     ),

@@ -8,8 +8,10 @@ use native.Mathlib.Omega.{arith}
 use lib.ListN.{length}
 use Rattle.text.specs.Text.{digits, decimal, signed, keyLine}
 use Rattle.text.specs.Lines.{numberOf, lineAt}
-use Rattle.tables.specs.Tables.{fieldAt, rankAt, ranksFrom, fieldsFrom, rowsFrom, tasksFrom, boardFrom}
-use Rattle.tables.specs.Tables.{Answer, readTable}
+use Rattle.grammars.specs.Forms.{formAt}
+use Rattle.grammars.specs.Grammars.{readFor}
+use Rattle.tables.specs.TableLines.{readTable}
+use Rattle.tables.specs.TableLines.{TableRead, readTable}
 use Rattle.responses.specs.Extremes.{smallest, largest}
 use Rattle.orders.specs.Orders.{overSet}
 use Rattle.plans.specs.Entries.{entries}
@@ -27,7 +29,7 @@ use Rattle.ranks.proofs.Planner as Planner
 use Rattle.ranks.proofs.Reviewer as Reviewer
 
 pub met : Met
-unfolding digits decimal signed keyLine numberOf lineAt fieldAt rankAt ranksFrom fieldsFrom rowsFrom tasksFrom boardFrom
+unfolding digits decimal signed keyLine numberOf lineAt formAt readFor readTable
     smallest largest overSet rankText headText planText ifInTime onTable
 met =
     let late-told = telling true lateText refl in
@@ -58,22 +60,22 @@ met =
 
 -- a text that is no table has its refusal only
 malformed-only : (room : ℕ) → planned malformed room ≡ refuses 2 1
-unfolding numberOf lineAt boardFrom onTable
+unfolding numberOf lineAt formAt readFor readTable onTable
 malformed-only room = refl
 
 example-accepted : readTable false example .refused ≡ 0
-unfolding numberOf lineAt fieldAt ranksFrom fieldsFrom rowsFrom tasksFrom boardFrom
+unfolding numberOf lineAt formAt readFor readTable
 example-accepted = refl
 
 late-only : (room : ℕ) → reviewed lateText room ≡ refuses 7 3
-unfolding numberOf lineAt fieldAt rankAt ranksFrom fieldsFrom rowsFrom tasksFrom boardFrom smallest ifInTime onTable
+unfolding numberOf lineAt formAt readFor readTable smallest ifInTime onTable
 late-only room = refl
 
 pub excluded : Excluded
 excluded = record {
   two-for-a-table = λ room d.
       let e = fails-only false example 2 77 (d .refused 2 77 .0 (refl, omega arith)) in
-      let z : _≡_ {A = ℕ} 0 2 = sym example-accepted ∙ ap (λ (a : Answer). a .refused) e in
+      let z : _≡_ {A = ℕ} 0 2 = sym example-accepted ∙ ap (λ (a : TableRead). a .refused) e in
       omega arith;
   empty-plan = λ room d. not-both (Planner.decided malformed room _ d ∙ malformed-only room);
   no-line = λ room d.

@@ -5,13 +5,13 @@ use mathlib.Core.Option.{Option, none, some}
 use Prim.Native.Nat.{ℕ, zero, suc}
 use Rattle.rows.specs.Rows.{rowsFor}
 use Rattle.rows.specs.declared.Row.{Row}
-use Rattle.tables.specs.Tables.{Answer, readTable}
+use Rattle.tables.specs.TableLines.{TableRead, readTable}
 use Rattle.orders.specs.Stability.{chosenOrder}
 use Rattle.plans.specs.Plans.{planRoom}
 use Rattle.plans.specs.Outcomes.{Outcome, refuses, planOf, ifInTime, printed}
 
 -- refusals 1 to 6: those of the text; else what its table comes to
-unfoldable pub onTable : Answer → Outcome → Outcome
+unfoldable pub onTable : TableRead → Outcome → Outcome
 onTable a next = elim (a .refused) [ zero ↦ next | suc n ↦ refuses (suc n) (a .line) ]
 
 -- the planner: 1 to 5, 8, 9

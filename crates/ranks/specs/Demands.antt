@@ -11,8 +11,7 @@ use lib.Signed.{leZ}
 use Rattle.basics.specs.Basics.{isIn}
 use Rattle.rows.specs.Rows.{tasksOf, rowsFor, rowAt}
 use Rattle.rows.specs.declared.Row.{Row}
-use Rattle.tables.specs.Reasons.{Stage, at-end, Reaches, Refused}
-use Rattle.tables.specs.Claims.{Read}
+use Rattle.tables.specs.Claims.{Tells, Fails, Read}
 use Rattle.responses.specs.Figures.{isLate}
 use Rattle.responses.specs.Claims.{Figured}
 use Rattle.orders.specs.Orders.{Possible, positionIn, positionsUp, notAfter, Chosen}
@@ -25,19 +24,6 @@ use Rattle.plans.specs.Entries.{entry, entries, noEntry}
 use Rattle.plans.specs.Plans.{planText, planRoom}
 use Rattle.plans.specs.Outcomes.{Outcome, writes, refuses, Written}
 use Rattle.ranks.specs.Calls.{planned, reviewed}
-
--- ---- a text: the planner's, or with rank lines the reviewer's
--- the lines before line k are as expected, and the condition of refusal n holds there
-pub record Fails (ranked : Bool) (text : List ℕ) (n k : ℕ) : Type 0 where
-  pub stage : Stage
-  pub rest : List ℕ
-  pub before : Reaches ranked text k stage rest
-  pub condition : Refused stage rest n
-
--- its lines are those of a board, rows and the tasks of the rank lines, and nothing follows
-pub record Tells (ranked : Bool) (text : List ℕ) (board : ℕ) (rows : List Row) (tasks : List ℕ) : Type 0 where
-  pub lines : ℕ
-  pub whole : Reaches ranked text lines (at-end board rows tasks) []
 
 -- ---- an order whose plan is written
 -- rank i of a plan, counted from 0

@@ -14,7 +14,8 @@ use Rattle.plans.specs.Entries.{entries}
 use Rattle.plans.specs.Plans.{planText}
 use Rattle.plans.specs.Outcomes.{writes, refuses}
 use Rattle.ranks.specs.Cases.{lined, row11, row12, row13, table}
-use Rattle.ranks.specs.Demands.{Fails, Tells, EveryOrderFails, ByRule, PlanDemands}
+use Rattle.tables.specs.Claims.{Tells, Fails}
+use Rattle.ranks.specs.Demands.{EveryOrderFails, ByRule, PlanDemands}
 use Rattle.ranks.specs.Demands.{Given, FirstLate, ReviewDemands}
 
 -- document 01's example: its text, its rows, and a text with the order of its plan

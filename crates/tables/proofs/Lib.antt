@@ -2,6 +2,7 @@
 pub mod Keys
 pub mod Soundness
 pub mod Readings
+pub mod Refusals
 pub mod RowNumbers
 pub mod Stands
 pub mod Steps
