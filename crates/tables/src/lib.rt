@@ -75,8 +75,8 @@ pub fn read_table(text: &[u8], ranked: bool) -> Reading
         return Reading::stopped(read.refused, read.line);
     }
     let count = read.stand.count;
-    let rows = rows_in(&numbers, count);
     let order = order_in(&numbers, count, read.stand.position);
+    let rows = rows_in(&numbers, count);
     let board = numbers[0] as u32;
     Reading {
         table: Table { rows, board, count },
