@@ -1,0 +1,6 @@
+-- Laws of the toy text, cases of it and of a table, and that a table reads as it did.
+pub mod Passing
+pub mod ToyLines
+pub mod ToyCases
+pub mod TableCases
+pub mod Nested

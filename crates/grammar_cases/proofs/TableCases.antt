@@ -1,0 +1,56 @@
+-- Document 01's table, read by computing: by the grammar, and once as it was read before.
+use mathlib.Core.Path.{_≡_, refl}
+use mathlib.Core.Bool.{true, false}
+use mathlib.Core.List.{List, [], _∷_}
+use Prim.Native.Nat.{ℕ}
+use Prim.Native.String.{String}
+use Rattle.text.specs.Lines.{lineAt, numberOf}
+use Rattle.grammars.specs.Forms.{formAt}
+use Rattle.grammars.specs.Grammars.{readFor}
+use Rattle.rows.specs.Rows.{row}
+use Rattle.rows.specs.declared.Row.{Row}
+use Rattle.tables.specs.TableLines.{readTable, tableOf, turnedDown}
+use Rattle.grammar_cases.specs.Quoted.{lined}
+use Rattle.grammar_cases.specs.Nested.{nested}
+
+-- the table with another line for its third task, and lines behind it
+abbrev paper : String → List String → List ℕ
+paper third more =
+    lined
+    ("board=7" ∷ "tasks=3"
+    ∷ "task=11" ∷ "period=24" ∷ "worst=6" ∷ "best=6" ∷ "alpha=1000" ∷ "beta=8000"
+    ∷ "task=12" ∷ "period=18" ∷ "worst=2" ∷ "best=2" ∷ "alpha=1000" ∷ "beta=8000"
+    ∷ third ∷ "period=200" ∷ "worst=19" ∷ "best=17" ∷ "alpha=3000" ∷ "beta=57000" ∷ more)
+
+abbrev paperRows : List Row
+paperRows = row 11 24 6 6 1000 8000 ∷ row 12 18 2 2 1000 8000 ∷ row 13 200 19 17 3000 57000 ∷ []
+
+paper-table : readTable false (paper "task=13" []) ≡ tableOf 7 paperRows []
+unfolding readTable readFor formAt lineAt numberOf
+paper-table = refl
+
+ranked-table : readTable true (paper "task=13" ("rank=12" ∷ "rank=11" ∷ "rank=13" ∷ []))
+    ≡ tableOf 7 paperRows (12 ∷ 11 ∷ 13 ∷ [])
+unfolding readTable readFor formAt lineAt numberOf
+ranked-table = refl
+
+ranks-missing : readTable true (paper "task=13" []) ≡ turnedDown 1 21
+unfolding readTable readFor formAt lineAt numberOf
+ranks-missing = refl
+
+trailing-bytes : readTable false (paper "task=13" ("rank=12" ∷ [])) ≡ turnedDown 1 21
+unfolding readTable readFor formAt lineAt numberOf
+trailing-bytes = refl
+
+repeated-task : readTable false (paper "task=11" []) ≡ turnedDown 5 15
+unfolding readTable readFor formAt lineAt numberOf
+repeated-task = refl
+
+repeated-rank : readTable true (paper "task=13" ("rank=12" ∷ "rank=12" ∷ "rank=13" ∷ [])) ≡ turnedDown 6 22
+unfolding readTable readFor formAt lineAt numberOf
+repeated-rank = refl
+
+-- the nested reading
+repeated-rank-before : nested true (paper "task=13" ("rank=12" ∷ "rank=12" ∷ "rank=13" ∷ [])) ≡ turnedDown 6 22
+unfolding nested lineAt numberOf
+repeated-rank-before = refl
