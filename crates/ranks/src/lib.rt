@@ -21,15 +21,15 @@ pub fn write_plan(text: &[u8], out: &mut [u8]) -> Answer
     if refused != 0 {
         return Answer::refused(refused, reading.line);
     }
-    let rows = reading.table.rows;
-    let n = reading.table.count;
+    let rows = reading.rows;
+    let n = reading.count;
     let choice = order_of_first(rows, n);
     if !choice.found {
         return Answer::refused(8, 0);
     }
     let order = choice.order;
     let ordered = rows_for(order, rows, n);
-    let board = reading.table.board as u16;
+    let board = reading.board as u16;
     plan_order(out, board, ordered, n)
 }
 
@@ -42,11 +42,11 @@ pub fn review_order(text: &[u8], out: &mut [u8]) -> Answer
     if refused != 0 {
         return Answer::refused(refused, reading.line);
     }
-    let rows = reading.table.rows;
-    let n = reading.table.count;
+    let rows = reading.rows;
+    let n = reading.count;
     let order = reading.order;
     let given = rows_for(order, rows, n);
-    let board = reading.table.board as u16;
+    let board = reading.board as u16;
     plan_order(out, board, given, n)
 }
 

@@ -1,6 +1,7 @@
 -- What a row in range says; the tasks of some rows; lists in arrays; what walks over a lent slice of rows share.
 pub mod Limits
 pub mod Tasks
+pub mod RowNumbers
 pub mod Arrays
 pub mod Calls
 pub mod Walk

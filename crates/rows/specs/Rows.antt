@@ -49,6 +49,35 @@ row t p w b a e = record { task = t; period = p; worst = w; best = b; alpha = a;
 abbrev pub noRow : Row
 noRow = row 0 0 0 0 0 0
 
+-- ---- a row as its numbers: where each stands among them
+abbrev pub taskAt : ℕ
+taskAt = 0
+
+abbrev pub periodAt : ℕ
+periodAt = 1
+
+abbrev pub worstAt : ℕ
+worstAt = 2
+
+abbrev pub bestAt : ℕ
+bestAt = 3
+
+abbrev pub alphaAt : ℕ
+alphaAt = 4
+
+abbrev pub betaAt : ℕ
+betaAt = 5
+
+abbrev pub fieldCount : ℕ
+fieldCount = suc betaAt
+
+-- the row that its numbers make
+abbrev pub rowOf : List ℕ → Row
+rowOf vs =
+    row (getD vs taskAt 0) (getD vs periodAt 0) (getD vs worstAt 0) (getD vs bestAt 0) (getD vs alphaAt 0)
+    (getD vs betaAt 0)
+
+-- ---- some rows
 -- row i of a table
 abbrev pub rowAt : List Row → ℕ → Row
 rowAt table i = getD table i noRow

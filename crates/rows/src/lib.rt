@@ -5,6 +5,20 @@ ghost use Rattle.rows.specs.Rows.{maxTasks, inRange, row, noRow, positio
 ghost use Rattle.rows.specs.inside.Constructor.{checked};
 ghost use Rattle.rows.specs.inside.Arrays.{padded, ranked};
 use basics::within;
+pub use numbers::ALPHA;
+pub use numbers::BEST;
+pub use numbers::BETA;
+pub use numbers::FIELDS;
+pub use numbers::PERIOD;
+pub use numbers::TASK;
+pub use numbers::WORST;
+pub use numbers::has_task;
+pub use numbers::is_among;
+pub use numbers::order_at;
+pub use numbers::row_at;
+
+// numbers.rt: rows and orders as numbers.
+mod numbers;
 
 // The most rows of a table. This and `maxTasks` in specs/Rows.antt are the two to change: every room follows from them.
 pub const MAX_TASKS: usize = 12;

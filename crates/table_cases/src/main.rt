@@ -1,10 +1,8 @@
 // Reads stored texts as tables and prints what each reads as: the refusal's number and its line, or 0 and 0, then the
 // board, the numbers of each row, and the ranks. docs/src/table_cases.py makes the texts and what must be printed.
 use rows::MAX_TASKS;
-use rows::Order;
 use rows::Row;
 use tables::Reading;
-use tables::Table;
 use text::Line;
 
 const STDIN: i32 = 0;
@@ -52,10 +50,11 @@ fn print_ranks(tasks: [u16; MAX_TASKS], count: usize) {
     }
 }
 
-fn print_table(table: Table, order: Order) {
-    print_next(table.board as u64);
-    let rows = table.rows;
-    print_rows(rows, table.count);
+fn print_table(reading: Reading) {
+    print_next(reading.board as u64);
+    let rows = reading.rows;
+    print_rows(rows, reading.count);
+    let order = reading.order;
     let tasks = order.tasks;
     print_ranks(tasks, order.count);
 }
@@ -64,9 +63,7 @@ fn print_reading(reading: Reading) {
     io::print_decimal(STDOUT, reading.refused as u64);
     print_next(reading.line as u64);
     if reading.refused == 0 {
-        let table = reading.table;
-        let order = reading.order;
-        print_table(table, order);
+        print_table(reading);
     }
     io::write_all(STDOUT, b"\n");
 }

@@ -3,7 +3,7 @@ pub mod Keys
 pub mod Soundness
 pub mod Readings
 pub mod Refusals
-pub mod RowNumbers
+pub mod LineNumbers
 pub mod Stands
 pub mod Steps
 pub mod Turns

@@ -25,8 +25,9 @@ use Rattle.rows.specs.Rows.{minTasks, maxTasks, inRange, allRows, tasksOf, hasT
 use Rattle.rows.specs.declared.Row.{Row}
 use Rattle.rows.proofs.Tasks.{tasks-last}
 use Rattle.rows.proofs.Limits.{in-range}
-use Rattle.tables.specs.TableLines.{minBoard, maxBoard, taskAt, periodAt, worstAt, bestAt, alphaAt, betaAt}
-use Rattle.tables.specs.TableLines.{fieldCount, rowLineAt, newTask, atMost, newRank, rowOf}
+use Rattle.rows.specs.Rows.{taskAt, periodAt, worstAt, bestAt, alphaAt, betaAt, fieldCount, rowOf}
+use Rattle.tables.specs.TableLines.{minBoard, maxBoard}
+use Rattle.tables.specs.TableLines.{rowLineAt, newTask, atMost, newRank}
 use Rattle.tables.specs.TableLines.{Stage, at-board, at-tasks, at-field, at-rank, at-end, ranksStage, rowsStage}
 use Rattle.tables.specs.TableLines.{fault, after, table, tableOf}
 use Rattle.tables.specs.Claims.{Accepted}

@@ -24,15 +24,17 @@ use Rattle.grammars.specs.Grammars.{step}
 use Rattle.grammars.specs.inside.Answers.{unless, tested, onAnswer}
 use Rattle.grammars.proofs.Naturals.{step-line, step-end}
 use Rattle.rows.specs.Rows.{minTask, maxTask, minTasks, maxTasks}
+use Rattle.rows.specs.Rows.{fieldCount, rowOf}
 use Rattle.tables.specs.declared.progress.Part.{Part}
 use Rattle.tables.specs.declared.progress.Part.the-variants as P
 use Rattle.tables.specs.declared.progress.Stand.{Stand}
-use Rattle.tables.specs.TableLines.{minBoard, maxBoard, fieldCount, newRank, rowLineAt, rowOf}
+use Rattle.tables.specs.TableLines.{minBoard, maxBoard, newRank, rowLineAt}
 use Rattle.tables.specs.TableLines.{Stage, at-board, at-tasks, at-field, ranksStage, rowsStage, after, table}
 use Rattle.tables.specs.inside.Numbers.{headCount, lineCount, rowStart, boardIn, rowsIn, behind}
 use Rattle.tables.specs.inside.Stands.{fieldLine, lineHere, faultIn, stand, ranksNext, rowsNext, afterField}
 use Rattle.tables.specs.inside.Stands.{standAfter, readBy, Counted, stageIn, progress, endedBy}
-use Rattle.tables.proofs.RowNumbers.{rows-length, rows-stay, rows-front, row-made, behind-grows, behind-length}
+use Rattle.rows.proofs.RowNumbers.{rows-length, between-length}
+use Rattle.tables.proofs.LineNumbers.{rows-stay, rows-front, row-made, behind-grows}
 
 -- ---- as the code's tests tell them
 pub ranks-some : (ranked : Bool) (count named left : ℕ) → (left ≡ 0 → ⊥)
@@ -91,7 +93,7 @@ module _ (ranked : Bool) (text : List ℕ) (at k : ℕ) (s : Stand) (ns : List �
       let l = rowLineAt (length vs) in
       step-line (table ranked) text st at k (l .key) (l .low) (l .high) refl
       ∙ ap₂ (λ i rs. onAnswer (table ranked) st k (tested (rowLineAt i .fault rs vs) (fieldLine i text at k) k))
-      (behind-length (s .count) (s .position) ns (omega arith)) (rows-of (omega arith))
+      (between-length (rowStart (s .count)) ns (s .position) (omega arith)) (rows-of (omega arith))
   step-shown P.Rank h =
       let os = behind (s .count) (s .position) ns in
       let st = stageIn P.Rank s (take (readBy P.Rank s) ns) in

@@ -14,6 +14,7 @@ use Rattle.basics.proofs.Tests.{test-of, never, and-left, and-right, or-cases}
 use Rattle.grammars.specs.Grammars.{Verdict, accepted, refused}
 use Rattle.rows.specs.Rows.{maxTask, maxTasks, inRange, allRows, hasTask, allTasks}
 use Rattle.rows.specs.declared.Row.{Row}
+use Rattle.rows.specs.inside.Numbers.{TaskNumbers}
 use Rattle.rows.proofs.Limits.{limits, head-passes, tail-passes}
 use Rattle.tables.specs.declared.progress.Part.{Part}
 use Rattle.tables.specs.declared.progress.Part.the-variants as P
@@ -21,10 +22,10 @@ use Rattle.tables.specs.declared.progress.Stand.{Stand}
 use Rattle.tables.specs.declared.progress.Progress.{Progress}
 use Rattle.tables.specs.TableLines.{Stage, at-end, TableRead, turnedDown, tableOf, tableAt, readTable}
 use Rattle.tables.specs.Claims.{Accepted}
-use Rattle.tables.specs.inside.Numbers.{lineCount, rowStart, boardIn, rowsIn, behind, TaskNumbers}
+use Rattle.tables.specs.inside.Numbers.{lineCount, rowStart, boardIn, rowsIn, behind}
 use Rattle.tables.specs.inside.Stands.{readBy, Counted, stageIn, stageOf, Ends}
 use Rattle.tables.proofs.Readings.{Ending, at-last, ending, verdict, decided, read-is, read}
-use Rattle.tables.proofs.RowNumbers.{rows-front}
+use Rattle.tables.proofs.LineNumbers.{rows-front}
 
 -- ---- tasks of rows in range are task numbers
 has-small : (t : ℕ) (rs : List Row) → hasTask t rs ≡ true → allRows inRange rs ≡ true → t ≤ maxTask

@@ -10,7 +10,7 @@ use Rattle.text.specs.Text.{bytes}
 use Rattle.grammars.specs.Forms.{natural, size}
 use Rattle.grammars.specs.Grammars.{Expected, the-end, a-line, Grammar, Verdict, accepted, refused, read}
 use Rattle.rows.specs.Rows.{minTask, maxTask, minTicks, maxTicks, minAlpha, maxAlpha, minBeta, maxBeta}
-use Rattle.rows.specs.Rows.{minTasks, maxTasks, row, hasTask}
+use Rattle.rows.specs.Rows.{minTasks, maxTasks, periodAt, worstAt, fieldCount, rowOf, hasTask}
 use Rattle.rows.specs.declared.Row.{Row}
 
 -- board numbers
@@ -34,28 +34,6 @@ abbrev pub impossible : ℕ
 impossible = 6
 
 -- ---- the lines of a row, in fixed order
--- where each number stands in its row
-abbrev pub taskAt : ℕ
-taskAt = 0
-
-abbrev pub periodAt : ℕ
-periodAt = 1
-
-abbrev pub worstAt : ℕ
-worstAt = 2
-
-abbrev pub bestAt : ℕ
-bestAt = 3
-
-abbrev pub alphaAt : ℕ
-alphaAt = 4
-
-abbrev pub betaAt : ℕ
-betaAt = 5
-
-abbrev pub fieldCount : ℕ
-fieldCount = suc betaAt
-
 -- a line of a row: its key, its range, and the refusal of a number in that range, 0 for none, given the rows before and
 -- the row's numbers before it
 pub record RowLine : Type 0 where
@@ -94,12 +72,6 @@ rowLines =
 -- the line at a position in a row
 abbrev pub rowLineAt : ℕ → RowLine
 rowLineAt i = getD rowLines i (rowLine [] 0 0 (λ rs vs. anyNumber))
-
--- the row that its numbers make
-abbrev pub rowOf : List ℕ → Row
-rowOf vs =
-    row (getD vs taskAt 0) (getD vs periodAt 0) (getD vs worstAt 0) (getD vs bestAt 0) (getD vs alphaAt 0)
-    (getD vs betaAt 0)
 
 -- ---- what has been read
 -- the rows so far and how many are left after the one that is being read, with its numbers so far; the ranks so far and

@@ -4,25 +4,35 @@ ghost use Prim.Native.Nat.{_+_, _≤_, _<_};
 ghost use lib.ListN.{length};
 ghost use Rattle.grammars.specs.inside.Answers.{tested};
 ghost use Rattle.rows.specs.Rows.{maxTasks};
-ghost use Rattle.tables.specs.TableLines.{fieldCount, atMost, newTask, newRank};
+ghost use Rattle.rows.specs.Rows.{fieldCount};
+ghost use Rattle.tables.specs.TableLines.{atMost, newTask, newRank};
 ghost use Rattle.tables.specs.inside.Numbers.{lineCount, rowStart, rowsIn, behind};
 ghost use Rattle.tables.specs.inside.Stands.{rowLineTested, lineHere, faultIn, Stands};
-use super::Table;
-use super::numbers::ALPHA;
-use super::numbers::BEST;
-use super::numbers::FIELDS;
-use super::numbers::HEAD;
-use super::numbers::PERIOD;
-use super::numbers::TASK;
-use super::numbers::WORST;
-use super::numbers::has_task;
-use super::numbers::is_in;
+use super::HEAD;
 use super::progress::Part;
 use super::progress::Stand;
+use rows::ALPHA;
+use rows::BEST;
+use rows::FIELDS;
+use rows::MAX_TASKS;
+use rows::PERIOD;
 use rows::Row;
+use rows::TASK;
+use rows::WORST;
+use rows::has_task;
+use rows::is_among;
 use text::Line;
 use text::end_at;
 use text::line_at;
+
+// The limits of a table beside those of its rows.
+const BOARD_MIN: u64 = 1;
+
+const BOARD_MAX: u64 = 65_535;
+
+const TASKS_MIN: u64 = 1;
+
+const TASKS_MAX: u64 = MAX_TASKS as u64;
 
 // Refusals of a number in its range: it is past another, a task's number was used before, a rank names no task of the
 // table or one that has been named.
@@ -53,7 +63,7 @@ fn new_task(numbers: &[u64], count: usize, answer: Line, line: u32) -> Line
     let Line::Number(value, _) = answer else {
         return answer;
     };
-    if has_task(numbers, count, value) {
+    if has_task(numbers, HEAD, count, value) {
         return Line::Refused(REPEATED, line);
     }
     answer
@@ -69,8 +79,8 @@ fn new_rank(numbers: &[u64], count: usize, named: usize, answer: Line, line: u32
         return answer;
     };
     let start = HEAD + FIELDS * count;
-    let known = has_task(numbers, count, value);
-    let again = is_in(numbers, start, start + named, value);
+    let known = has_task(numbers, HEAD, count, value);
+    let again = is_among(numbers, start, named, value);
     if known & !again {
         return answer;
     }
@@ -138,22 +148,8 @@ pub fn expected_line(text: &[u8], offset: usize, line: u32, stand: Stand, number
 {
     let part = stand.part;
     match part {
-        Part::Board => line_at(
-            text,
-            offset,
-            line,
-            b"board=",
-            Table::BOARD_MIN,
-            Table::BOARD_MAX,
-        ),
-        Part::Tasks => line_at(
-            text,
-            offset,
-            line,
-            b"tasks=",
-            Table::TASKS_MIN,
-            Table::TASKS_MAX,
-        ),
+        Part::Board => line_at(text, offset, line, b"board=", BOARD_MIN, BOARD_MAX),
+        Part::Tasks => line_at(text, offset, line, b"tasks=", TASKS_MIN, TASKS_MAX),
         Part::Row => row_line(text, offset, line, stand.count, stand.position, numbers),
         Part::Rank => {
             let answer = line_at(text, offset, line, b"rank=", Row::TASK_MIN, Row::TASK_MAX);

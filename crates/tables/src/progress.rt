@@ -3,12 +3,12 @@ ghost use mathlib.Core.Path.{_≡_};
 ghost use Prim.Native.Nat.{_<_};
 ghost use Rattle.basics.specs.Basics.{pick};
 ghost use Rattle.rows.specs.Rows.{maxTasks};
-ghost use Rattle.tables.specs.TableLines.{fieldCount};
+ghost use Rattle.rows.specs.Rows.{fieldCount};
 ghost use Rattle.tables.specs.inside.Stands.{begun, ranksNext, rowsNext, afterField, standAfter, Counted};
 ghost use Rattle.tables.specs.inside.Stands.{endedBy, Stands, TakesLine};
+use super::LINES;
 use super::lines::expected_line;
-use super::numbers::FIELDS;
-use super::numbers::LINES;
+use rows::FIELDS;
 use text::Line;
 
 // The line that is expected next: one of the head, of a row, a rank, or none.

@@ -5,7 +5,7 @@ ghost use Rattle.grammars.specs.Grammars.{read};
 ghost use Rattle.tables.specs.TableLines.{table, at-board};
 ghost use Rattle.tables.specs.inside.Numbers.{lineCount};
 ghost use Rattle.tables.specs.inside.Stands.{Ends};
-use super::numbers::LINES;
+use super::LINES;
 use super::progress::Progress;
 use super::progress::take_line;
 

@@ -12,11 +12,12 @@ use Rattle.text.specs.declared.Line.{Line}
 use Rattle.grammars.specs.inside.Answers.{tested}
 use Rattle.grammars.specs.Grammars.{Verdict, accepted, refused, Step, goes-on, stops, step}
 use Rattle.rows.specs.Rows.{minTask, maxTask, minTasks, maxTasks}
+use Rattle.rows.specs.Rows.{fieldCount}
 use Rattle.tables.specs.declared.progress.Part.{Part}
 use Rattle.tables.specs.declared.progress.Part.the-variants as P
 use Rattle.tables.specs.declared.progress.Stand.{Stand}
 use Rattle.tables.specs.declared.progress.Progress.{Progress}
-use Rattle.tables.specs.TableLines.{minBoard, maxBoard, fieldCount, newRank, rowLineAt}
+use Rattle.tables.specs.TableLines.{minBoard, maxBoard, newRank, rowLineAt}
 use Rattle.tables.specs.TableLines.{Stage, at-board, at-tasks, at-field, at-rank, at-end, table}
 use Rattle.tables.specs.inside.Numbers.{lineCount, rowStart, boardIn, rowsIn, behind}
 

@@ -15,7 +15,9 @@ returns : tie.Need-returns
 returns c =
     let a = c .before .args in
     let of-blank : Row → Reading = λ blank. record {
-      table = record { rows = replicate maxTasks blank; board = 0; count = 0 };
+      rows = replicate maxTasks blank;
+      board = 0;
+      count = 0;
       refused = a .refused;
       line = a .line;
       order = record { tasks = replicate maxTasks 0; count = 0 };

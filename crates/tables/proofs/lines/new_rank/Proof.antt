@@ -27,11 +27,8 @@ add-start c = search needs
 has-task-requires : tie.Need-has-task-requires
 has-task-requires c κs = search needs
 
-add-is-in : tie.Need-add-is-in
-add-is-in c = search needs
-
-is-in-requires : tie.Need-is-in-requires
-is-in-requires c κs = search needs
+is-among-requires : tie.Need-is-among-requires
+is-among-requires c κs = search needs
 
 returns-2 : tie.Need-returns-2
 returns-2 c =
@@ -40,7 +37,7 @@ returns-2 c =
     let rank = newRank (rowsIn (a .count) (a .numbers .now)) (behind (a .count) (a .named) (a .numbers .now)) in
     passes rank (a .answer) (a .line) (d .0 .0) (d .0 .1 .0) (d .1)
     (ap (λ b. pick b 0 impossible)
-    (sym (ap₂ (λ x y. x && not y) (c .before .before .has-task .ensures) (c .before .is-in .ensures)) ∙ c .if1 .taken))
+    (sym (ap₂ (λ x y. x && not y) (c .before .before .has-task .ensures) (c .before .is-among .ensures)) ∙ c .if1 .taken))
 
 returns-3 : tie.Need-returns-3
 returns-3 c =
@@ -49,7 +46,7 @@ returns-3 c =
     let rank = newRank (rowsIn (a .count) (a .numbers .now)) (behind (a .count) (a .named) (a .numbers .now)) in
     fails rank (a .answer) (a .line) (d .0 .0) (d .0 .1 .0) (d .1) 5
     (ap (λ b. pick b 0 impossible)
-    (sym (ap₂ (λ x y. x && not y) (c .before .before .has-task .ensures) (c .before .is-in .ensures)) ∙ c .if1 .left))
+    (sym (ap₂ (λ x y. x && not y) (c .before .before .has-task .ensures) (c .before .is-among .ensures)) ∙ c .if1 .left))
 
 pub new-rank-spec : {M : Type 1} → statement M
 new-rank-spec =
@@ -60,7 +57,6 @@ new-rank-spec =
     mul-start
     add-start
     has-task-requires
-    add-is-in
-    is-in-requires
+    is-among-requires
     returns-2
     returns-3)

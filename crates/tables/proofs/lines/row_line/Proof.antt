@@ -7,10 +7,11 @@ use borrow.Author.Needs.{needs}
 use Rattle.text.specs.declared.Line.{Line}
 use Rattle.grammars.specs.inside.Answers.{tested}
 use Rattle.grammars.proofs.Answers.{no-test}
-use Rattle.tables.specs.TableLines.{taskAt, periodAt, worstAt, bestAt, alphaAt, betaAt, newTask, atMost}
+use Rattle.rows.specs.Rows.{taskAt, periodAt, worstAt, bestAt, alphaAt, betaAt}
+use Rattle.rows.proofs.RowNumbers.{between-at}
+use Rattle.tables.specs.TableLines.{newTask, atMost}
 use Rattle.tables.specs.inside.Numbers.{rowStart, rowsIn}
 use Rattle.tables.specs.inside.Stands.{fieldLine, rowLineTested}
-use Rattle.tables.proofs.RowNumbers.{behind-at}
 use Rattle.tables.proofs.lines.row_line.Statement.{statement}
 use Rattle.tables.proofs.lines.row_line.Tie as tie
 
@@ -120,7 +121,7 @@ returns-3 c =
     let m = c .before .before .before .before in
     let s = m .before .before .before in
     let a = s .args in
-    let limit = behind-at (a .count) worstAt periodAt (a .numbers .now) (omega arith) in
+    let limit = between-at (rowStart (a .count)) (a .numbers .now) worstAt periodAt (omega arith) in
     at-known s (c .at-most .result) worstAt
     (c .at-most .ensures
     ∙ ap (λ l. tested (atMost (getD (a .numbers .now) (rowStart (a .count) + periodAt) 0)) l (a .line)) (c .before .before .line-at3 .ensures)
@@ -132,7 +133,7 @@ returns-4 c =
     let m = c .before .before .before .before in
     let s = m .before .before .before in
     let a = s .args in
-    let limit = behind-at (a .count) bestAt worstAt (a .numbers .now) (omega arith) in
+    let limit = between-at (rowStart (a .count)) (a .numbers .now) bestAt worstAt (omega arith) in
     at-known s (c .at-most2 .result) bestAt
     (c .at-most2 .ensures
     ∙ ap (λ l. tested (atMost (getD (a .numbers .now) (rowStart (a .count) + worstAt) 0)) l (a .line)) (c .before .before .line-at4 .ensures)

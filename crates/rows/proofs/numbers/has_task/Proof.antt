@@ -1,26 +1,31 @@
--- `tables::numbers::has_task` meets its contract. Invariant: no row passed has the task, so the rest decides.
+-- `rows::numbers::has_task` meets its contract. Invariant: no row passed has the task, so the rest decides.
 use mathlib.Core.Path.{_≡_, sym, _∙_, ap}
 use mathlib.Core.Bool.{_||_}
 use Prim.Native.Nat.{_+_, _-_, _≤_}
 use native.Mathlib.Omega.{arith}
+use lib.ListN.{drop}
 use borrow.Author.Needs.{needs}
 use borrow.Author.Tests.{eq-eqb, ne-eqb}
 use Rattle.rows.specs.Rows.{hasTask}
-use Rattle.tables.specs.inside.Numbers.{rowsIn}
-use Rattle.tables.proofs.RowNumbers.{rowsFromAt, scan-task, scan-end, scan-all}
-use Rattle.tables.proofs.numbers.has_task.Statement.{statement}
-use Rattle.tables.proofs.numbers.has_task.Tie as tie
+use Rattle.rows.specs.inside.Numbers.{rowsOf}
+use Rattle.rows.proofs.RowNumbers.{rowsPast, scan-task, scan-end, scan-all}
+use Rattle.rows.proofs.numbers.has_task.Statement.{statement}
+use Rattle.rows.proofs.numbers.has_task.Tie as tie
 
 abbrev Inv-loop : tie.InvT-loop
-Inv-loop numbers count task i₀ i =
-    (i ≤ count) × (hasTask task (rowsIn count numbers) ≡ hasTask task (rowsFromAt count i numbers))
+Inv-loop numbers start count task i₀ i =
+    let ws = drop start numbers in
+    (i ≤ count) × (hasTask task (rowsOf count ws) ≡ hasTask task (rowsPast count i ws))
 
 abbrev μ-loop : tie.MeasureT-loop
-μ-loop numbers count task i₀ i = count - i
+μ-loop numbers start count task i₀ i = count - i
 
 loop-holds : tie.Need-loop-holds Inv-loop μ-loop
 loop-holds c =
-    let a = c .args in (omega arith, ap (hasTask (a .task)) (scan-all (a .count) (a .numbers .now)))
+    let a = c .args in (
+      omega arith,
+      ap (hasTask (a .task)) (scan-all (a .count) (drop (a .start) (a .numbers .now))),
+    )
 
 mul-if1 : tie.Need-mul-if1 Inv-loop μ-loop
 mul-if1 c = omega arith
@@ -38,8 +43,8 @@ returns : tie.Need-returns Inv-loop μ-loop
 returns c =
     let a = c .before .before .before .before .args in
     let x = c .before .before .before .loop in
-    let rest = rowsFromAt (a .count) (x .i + 1) (a .numbers .now) in
-    sym (x .inv .1 ∙ scan-task (a .task) (a .count) (x .i) (a .numbers .now) (omega arith)
+    let rest = rowsPast (a .count) (x .i + 1) (drop (a .start) (a .numbers .now)) in
+    sym (x .inv .1 ∙ scan-task (a .task) (a .count) (x .i) (a .start) (a .numbers .now) (omega arith)
     ∙ ap (λ b. b || hasTask (a .task) rest) (eq-eqb _ _ (c .if1 .taken)))
 
 add-i : tie.Need-add-i Inv-loop μ-loop
@@ -52,9 +57,9 @@ loop-again : tie.Need-loop-again Inv-loop μ-loop
 loop-again c =
     let a = c .before .before .before .before .args in
     let x = c .before .before .before .loop in
-    let rest = rowsFromAt (a .count) (x .i + 1) (a .numbers .now) in (
+    let rest = rowsPast (a .count) (x .i + 1) (drop (a .start) (a .numbers .now)) in (
       omega arith,
-      x .inv .1 ∙ scan-task (a .task) (a .count) (x .i) (a .numbers .now) (omega arith)
+      x .inv .1 ∙ scan-task (a .task) (a .count) (x .i) (a .start) (a .numbers .now) (omega arith)
           ∙ ap (λ b. b || hasTask (a .task) rest) (ne-eqb _ _ (c .if1 .left)),
     )
 
@@ -62,7 +67,7 @@ returns-2 : tie.Need-returns-2 Inv-loop μ-loop
 returns-2 c =
     let a = c .before .before .args in
     let x = c .before .loop in
-    sym (x .inv .1 ∙ scan-end (a .task) (a .count) (x .i) (a .numbers .now) (omega arith))
+    sym (x .inv .1 ∙ scan-end (a .task) (a .count) (x .i) (drop (a .start) (a .numbers .now)) (omega arith))
 
 pub has-task-spec : {M : Type 1} → statement M
 has-task-spec =

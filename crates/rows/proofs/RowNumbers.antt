@@ -1,0 +1,133 @@
+-- Rows as their numbers: a row is found by its first number, more numbers behind the rows change none of them, and the
+-- numbers between two places grow one by one.
+use mathlib.Core.Path.{_≡_, refl, sym, ap, ap₂, _∙_}
+use mathlib.Core.Bool.{true, false, _||_}
+use mathlib.Core.List.{List, [], _∷_, _++_}
+use Prim.Native.Nat.{ℕ, zero, suc, _+_, _-_, _*_, _≤_, _<_}
+use native.Mathlib.Nat.{add-zero, sub-zero}
+use native.Mathlib.Omega.{arith}
+use lib.Dec.{eqb}
+use lib.ListN.{length, getD, take, drop, length-take, length-drop}
+use lib.ListN.{drop-of-length-le, List·getD-append}
+use lib.Seq.{drop-drop, drop-append-le, length-take-le, take-suc, getD-take, getD-drop}
+use Rattle.basics.specs.Basics.{pick}
+use Rattle.rows.specs.declared.Row.{Row}
+use Rattle.rows.specs.Rows.{taskAt, periodAt, worstAt, bestAt, alphaAt, betaAt, fieldCount, rowOf}
+use Rattle.rows.specs.Rows.{row, noRow, inRange, allRows, hasTask}
+use Rattle.rows.specs.inside.Constructor.{checked}
+use Rattle.rows.specs.inside.Numbers.{rowsOf, between}
+use Rattle.rows.proofs.Limits.{at-passes}
+
+-- ---- a row by its numbers
+row-same : (xs ys : List ℕ) → ((i : ℕ) → i < fieldCount → getD xs i 0 ≡ getD ys i 0) → rowOf xs ≡ rowOf ys
+row-same xs ys h =
+    rw (
+      h taskAt (omega arith),
+      h periodAt (omega arith),
+      h worstAt (omega arith),
+      h bestAt (omega arith),
+      h alphaAt (omega arith),
+      h betaAt (omega arith),
+    )
+
+-- the row whose numbers begin at an index
+pub row-from : (ns : List ℕ) (at : ℕ) → rowOf (drop at ns)
+    ≡ row (getD ns (at + taskAt) 0) (getD ns (at + periodAt) 0) (getD ns (at + worstAt) 0) (getD ns (at + bestAt) 0)
+    (getD ns (at + alphaAt) 0) (getD ns (at + betaAt) 0)
+row-from ns at =
+    rw (
+      getD-drop at ns taskAt 0,
+      getD-drop at ns periodAt 0,
+      getD-drop at ns worstAt 0,
+      getD-drop at ns bestAt 0,
+      getD-drop at ns alphaAt 0,
+      getD-drop at ns betaAt 0,
+    )
+
+-- ---- rows from their first number on
+pub rows-length : (n : ℕ) (ws : List ℕ) → length (rowsOf n ws) ≡ n
+rows-length zero ws = refl
+rows-length (suc n) ws = ap suc (rows-length n (drop fieldCount ws))
+
+-- one more, behind those before it
+pub rows-snoc : (n : ℕ) (ws : List ℕ) → rowsOf (suc n) ws ≡ rowsOf n ws ++ (rowOf (drop (fieldCount * n) ws) ∷ [])
+rows-snoc zero ws = refl
+rows-snoc (suc n) ws =
+    let next = drop-drop (fieldCount * n) fieldCount ws in
+    let there : fieldCount + fieldCount * n ≡ fieldCount * suc n = omega arith in
+    ap (λ rs. rowOf ws ∷ rs) (rows-snoc n (drop fieldCount ws))
+    ∙ ap (λ xs. rowOf ws ∷ rowsOf n (drop fieldCount ws) ++ (rowOf xs ∷ [])) (next ∙ ap (λ m. drop m ws) there)
+
+-- more numbers behind them change none
+pub rows-kept : (n : ℕ) (xs ys : List ℕ) → fieldCount * n ≤ length xs → rowsOf n (xs ++ ys) ≡ rowsOf n xs
+rows-kept zero xs ys h = refl
+rows-kept (suc n) xs ys h =
+    let first = row-same (xs ++ ys) xs (λ i l. List·getD-append xs ys 0 i (omega arith)) in
+    let rest =
+    ap (rowsOf n) (drop-append-le fieldCount xs ys (omega arith))
+    ∙ rows-kept n (drop fieldCount xs) ys (omega (arith, length-drop fieldCount xs)) in
+    ap₂ (λ r rs. r ∷ rs) first rest
+
+pub rows-at : (n i : ℕ) (ws : List ℕ) → i < n → getD (rowsOf n ws) i noRow ≡ rowOf (drop (fieldCount * i) ws)
+rows-at zero i ws h = absurd (omega arith)
+rows-at (suc n) zero ws h = refl
+rows-at (suc n) (suc i) ws h =
+    let there : fieldCount + fieldCount * i ≡ fieldCount * suc i = omega arith in
+    rows-at n i (drop fieldCount ws) (omega arith)
+    ∙ ap rowOf (drop-drop (fieldCount * i) fieldCount ws ∙ ap (λ m. drop m ws) there)
+
+-- each of some rows that are all in range is found by its first number
+pub row-found : (ws : List ℕ) (n i : ℕ) → i < n → allRows inRange (rowsOf n ws) ≡ true
+    → checked (rowOf (drop (fieldCount * i) ws)) .row ≡ rowOf (drop (fieldCount * i) ws)
+row-found ws n i h ok =
+    let fine = at-passes inRange (rowsOf n ws) i ok (omega (arith, rows-length n ws)) in
+    let r = rowOf (drop (fieldCount * i) ws) in
+    ap (λ b. pick b r noRow) (ap inRange (sym (rows-at n i ws h)) ∙ fine)
+
+-- ---- some numbers from an index on
+module _ (start : ℕ) (ns : List ℕ) where
+  pub between-length : (n : ℕ) → start + n ≤ length ns → length (between start n ns) ≡ n
+  between-length n h =
+      let all = length-take-le (start + n) ns h in omega (arith, length-drop start (take (start + n) ns))
+
+  pub between-none : between start 0 ns ≡ []
+  between-none =
+      drop-of-length-le (take (start + 0) ns) {i = start} (omega (arith, length-take (start + 0) ns))
+
+  -- one more of them
+  pub between-next : (n : ℕ) → start + n < length ns
+      → between start (suc n) ns ≡ between start n ns ++ (getD ns (start + n) 0 ∷ [])
+  between-next n h =
+      let one-more : start + suc n ≡ suc (start + n) = omega arith in
+      let front = length-take-le (start + n) ns (omega arith) in
+      ap (λ k. drop start (take k ns)) one-more
+      ∙ ap (drop start) (take-suc ns (start + n) 0 h)
+      ∙ drop-append-le start (take (start + n) ns) (getD ns (start + n) 0 ∷ []) (omega (arith, front))
+
+  pub between-at : (n i : ℕ) → i < n → getD (between start n ns) i 0 ≡ getD ns (start + i) 0
+  between-at n i h =
+      getD-drop start (take (start + n) ns) i 0 ∙ getD-take (start + n) ns (start + i) 0 (omega arith)
+
+-- ---- the rows from row i on, for a scan over their tasks
+abbrev pub rowsPast : ℕ → ℕ → List ℕ → List Row
+rowsPast n i ws = rowsOf (n - i) (drop (fieldCount * i) ws)
+
+pub scan-task : (t n i start : ℕ) (ns : List ℕ) → i < n → let ws = drop start ns in
+    hasTask t (rowsPast n i ws) ≡ (eqb t (getD ns (start + fieldCount * i) 0) || hasTask t (rowsPast n (i + 1) ws))
+scan-task t n i start ns h =
+    let ws = drop start ns in
+    let one-more : n - i ≡ suc (n - (i + 1)) = omega arith in
+    let next : fieldCount * i + fieldCount ≡ fieldCount * (i + 1) = omega arith in
+    let there : fieldCount * i + 0 ≡ fieldCount * i = omega arith in
+    let task-is : getD (drop (fieldCount * i) ws) 0 0 ≡ getD ns (start + fieldCount * i) 0 =
+    getD-drop (fieldCount * i) ws 0 0 ∙ ap (λ m. getD ws m 0) there ∙ getD-drop start ns (fieldCount * i) 0 in
+    ap (λ m. hasTask t (rowsOf m (drop (fieldCount * i) ws))) one-more
+    ∙ ap₂ (λ v xs. eqb t v || hasTask t (rowsOf (n - (i + 1)) xs)) task-is
+    (drop-drop fieldCount (fieldCount * i) ws ∙ ap (λ m. drop m ws) next)
+
+pub scan-end : (t n i : ℕ) (ws : List ℕ) → n ≤ i → hasTask t (rowsPast n i ws) ≡ false
+scan-end t n i ws h =
+    let none : n - i ≡ 0 = omega arith in ap (λ m. hasTask t (rowsOf m (drop (fieldCount * i) ws))) none
+
+pub scan-all : (n : ℕ) (ws : List ℕ) → rowsOf n ws ≡ rowsPast n 0 ws
+scan-all n ws = ap (λ m. rowsOf m ws) (sym (sub-zero n))

@@ -1,0 +1,89 @@
+// Rows and orders as numbers: those of a row stand one after another, and row after row.
+ghost use mathlib.Core.Path.{_≡_};
+ghost use Prim.Native.Nat.{_+_, _*_, _≤_};
+ghost use lib.ListN.{length, drop};
+ghost use Rattle.basics.specs.Basics.{isIn};
+ghost use Rattle.rows.specs.Rows.{maxTasks, fieldCount, rowOf, hasTask};
+ghost use Rattle.rows.specs.inside.Arrays.{ranking};
+ghost use Rattle.rows.specs.inside.Constructor.{checked};
+ghost use Rattle.rows.specs.inside.Numbers.{rowsOf, between, TaskNumbers};
+use super::MAX_TASKS;
+use super::Order;
+use super::Row;
+
+// Where each number stands in its row, and how many there are.
+pub const TASK: usize = 0;
+
+pub const PERIOD: usize = 1;
+
+pub const WORST: usize = 2;
+
+pub const BEST: usize = 3;
+
+pub const ALPHA: usize = 4;
+
+pub const BETA: usize = 5;
+
+pub const FIELDS: usize = BETA + 1;
+
+// The row whose numbers begin at an index, if it is in range.
+pub fn row_at(numbers: &[u64], at: usize) -> Row
+    requires { ⌜ at + fieldCount ≤ length (now numbers) ⌝ }
+    ensures { λ r. ⌜ r ≡ checked (rowOf (drop at (now (numbers .entry)))) .row ⌝ }
+{
+    let checked = Row::new(
+        numbers[at + TASK],
+        numbers[at + PERIOD],
+        numbers[at + WORST],
+        numbers[at + BEST],
+        numbers[at + ALPHA],
+        numbers[at + BETA],
+    );
+    checked.row
+}
+
+// Whether one of some rows, whose numbers begin at an index, has a task.
+pub fn has_task(numbers: &[u64], start: usize, count: usize, task: u64) -> bool
+    requires { ⌜ (count ≤ maxTasks) × (start + fieldCount * count ≤ length (now numbers)) ⌝ }
+    ensures { λ r. ⌜ r ≡ hasTask task (rowsOf count (drop start (now (numbers .entry)))) ⌝ }
+{
+    let mut i = 0;
+    while i < count {
+        if task == numbers[start + FIELDS * i] {
+            return true;
+        }
+        i += 1;
+    }
+    false
+}
+
+// Whether a value is among some numbers from an index on.
+pub fn is_among(numbers: &[u64], start: usize, count: usize, value: u64) -> bool
+    requires { ⌜ start + count ≤ length (now numbers) ⌝ }
+    ensures { λ r. ⌜ r ≡ isIn value (between start count (now (numbers .entry))) ⌝ }
+{
+    let end = start + count;
+    let mut i = start;
+    while i < end {
+        if value == numbers[i] {
+            return true;
+        }
+        i += 1;
+    }
+    false
+}
+
+// The order of some task numbers from an index on.
+pub fn order_at(numbers: &[u64], start: usize, count: usize) -> Order
+    requires { ⌜ (count ≤ maxTasks) × (start + count ≤ length (now numbers)) ⌝ }
+    requires { ⌜ TaskNumbers (between start count (now numbers)) ⌝ }
+    ensures { λ r. ⌜ r ≡ ranking (between start count (now (numbers .entry))) ⌝ }
+{
+    let mut tasks = [0u16; MAX_TASKS];
+    let mut i = 0;
+    while i < count {
+        tasks[i] = numbers[start + i] as u16;
+        i += 1;
+    }
+    Order { tasks, count }
+}

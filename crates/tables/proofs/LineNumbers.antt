@@ -1,0 +1,37 @@
+-- A table's numbers one after another: where the rows before another number stay as they were, and what stands behind
+-- them grows by that number.
+use mathlib.Core.Path.{_≡_, sym, ap, ap₂, _∙_}
+use mathlib.Core.List.{List, [], _∷_, _++_}
+use Prim.Native.Nat.{ℕ, suc, _+_, _*_, _≤_}
+use native.Mathlib.Omega.{arith}
+use lib.ListN.{length, take, drop, length-drop, take-append-drop}
+use lib.Seq.{drop-drop, drop-append-le, length-take-le}
+use Rattle.rows.specs.Rows.{fieldCount, rowOf}
+use Rattle.rows.specs.inside.Numbers.{rowsOf}
+use Rattle.rows.proofs.RowNumbers.{rows-snoc, rows-kept}
+use Rattle.tables.specs.inside.Numbers.{headCount, rowStart, rowsIn}
+
+-- the row that begins behind n rows
+pub rows-next : (ws : List ℕ) (n : ℕ) → rowsIn (suc n) ws ≡ rowsIn n ws ++ (rowOf (drop (rowStart n) ws) ∷ [])
+rows-next ws n =
+    rows-snoc n (drop headCount ws)
+    ∙ ap (λ xs. rowsIn n ws ++ (rowOf xs ∷ [])) (drop-drop (fieldCount * n) headCount ws)
+
+module _ (ws ys : List ℕ) (n : ℕ) (h : rowStart n ≤ length ws) where
+  pub rows-stay : rowsIn n (ws ++ ys) ≡ rowsIn n ws
+  rows-stay =
+      ap (rowsOf n) (drop-append-le headCount ws ys (omega arith))
+      ∙ rows-kept n (drop headCount ws) ys (omega (arith, length-drop headCount ws))
+
+  pub behind-grows : drop (rowStart n) (ws ++ ys) ≡ drop (rowStart n) ws ++ ys
+  behind-grows = drop-append-le (rowStart n) ws ys h
+
+  -- the last number of a row makes one row more
+  pub row-made : rowsIn (suc n) (ws ++ ys) ≡ rowsIn n ws ++ (rowOf (drop (rowStart n) ws ++ ys) ∷ [])
+  row-made = rows-next (ws ++ ys) n ∙ ap₂ (λ rs xs. rs ++ (rowOf xs ∷ [])) rows-stay behind-grows
+
+-- the rows among the first numbers are those of all
+pub rows-front : (n m : ℕ) (ns : List ℕ) → rowStart n ≤ m → m ≤ length ns → rowsIn n (take m ns) ≡ rowsIn n ns
+rows-front n m ns h l =
+    sym (rows-stay (take m ns) (drop m ns) n (omega (arith, length-take-le m ns l)))
+    ∙ ap (rowsIn n) (take-append-drop m ns)
