@@ -48,14 +48,14 @@ front-of zs order n e many = ap₂ take (sym many) e ∙ padded-front noRow orde
 
 -- ---- the planner: what the search found
 module _ (text : List ℕ) (r : Reading) (is : r ≡ reading (readTable false text)) (ok : Accepts false text)
-    (a : Choice) (found : Chooses (take (r .table .count) (r .table .rows)) a) where
+    (a : Choice) (found : Chooses (take (r .count) (r .rows)) a) where
   abbrev answer : TableRead
   answer = readTable false text
 
   abbrev n : ℕ
-  n = r .table .count
+  n = r .count
 
-  front : take n (r .table .rows) ≡ answer .rows
+  front : take n (r .rows) ≡ answer .rows
   front = rows-front false text r is
 
   found-as : a ≡ choiceOf (chosenOrder (answer .rows))
@@ -104,7 +104,7 @@ module _ (text : List ℕ) (r : Reading) (is : r ≡ reading (readTable false te
 
     -- the rows of its tasks are the order's
     pub order-rows : (zs : List Row)
-        → zs ≡ padded noRow (rowsFor (ranked (a .order)) (take n (r .table .rows)))
+        → zs ≡ padded noRow (rowsFor (ranked (a .order)) (take n (r .rows)))
         → take n zs ≡ order
     order-rows zs e =
         let tasks = ap ranked order-is ∙ ranked-are (tasksOf order) in
@@ -114,10 +114,10 @@ module _ (text : List ℕ) (r : Reading) (is : r ≡ reading (readTable false te
     pub order-ranged : allRows inRange order ≡ true
     order-ranged = Planner.order-in-range text ok order (some-order .1)
 
-    pub ordered-plan : (room : ℕ) → ifInTime room (r .table .board) order ≡ planned text room
+    pub ordered-plan : (room : ℕ) → ifInTime room (r .board) order ≡ planned text room
     unfolding ifOrdered
     ordered-plan room =
-        in-time-plan room (r .table .board) order (Planner.in-time text ok order (some-order .1))
+        in-time-plan room (r .board) order (Planner.in-time text ok order (some-order .1))
         ∙ ap (λ (b : ℕ). planOf room b order) (board-is false text r is ok)
         ∙ sym (on-accepted answer (ifOrdered room (answer .board) (chosenOrder (answer .rows))) ok
         ∙ ap (ifOrdered room (answer .board)) (some-order .1))
@@ -149,18 +149,18 @@ module _ (text : List ℕ) (r : Reading) (is : r ≡ reading (readTable true tex
       )
 
   pub given-rows : (zs : List Row)
-      → zs ≡ padded noRow (rowsFor (ranked (r .order)) (take (r .table .count) (r .table .rows)))
-      → take (r .table .count) zs ≡ givenOrder text
+      → zs ≡ padded noRow (rowsFor (ranked (r .order)) (take (r .count) (r .rows)))
+      → take (r .count) zs ≡ givenOrder text
   given-rows zs e =
       let tasks = ap ranked order-given ∙ ranked-are (given .order) in
       let rows = ap₂ rowsFor tasks (rows-front true text r is) in
       let many = for-length (given .order) (given .rows) ∙ ranks-many ∙ sym (count-is true text r is) in
-      front-of zs (givenOrder text) (r .table .count) (e ∙ ap (padded noRow) rows) many
+      front-of zs (givenOrder text) (r .count) (e ∙ ap (padded noRow) rows) many
 
   pub given-ranged : allRows inRange (givenOrder text) ≡ true
   given-ranged = Reviewer.order-in-range text ok
 
-  pub given-plan : (room : ℕ) → ifInTime room (r .table .board) (givenOrder text) ≡ reviewed text room
+  pub given-plan : (room : ℕ) → ifInTime room (r .board) (givenOrder text) ≡ reviewed text room
   given-plan room =
       ap (λ (b : ℕ). ifInTime room b (givenOrder text)) (board-is true text r is ok)
       ∙ sym (on-accepted given (ifInTime room (given .board) (givenOrder text)) ok)

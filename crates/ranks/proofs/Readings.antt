@@ -34,21 +34,21 @@ module _ (ranked : Bool) (text : List ℕ) (r : Reading) (is : r ≡ reading (re
       on-turned-down answer next (λ e. h (refused-is ∙ e))
       ∙ ap (λ (x : Reading). refuses (x .refused) (x .line)) (sym is)
 
-  pub count-is : r .table .count ≡ length (answer .rows)
-  count-is = ap (λ (x : Reading). x .table .count) is
+  pub count-is : r .count ≡ length (answer .rows)
+  count-is = ap (λ (x : Reading). x .count) is
 
-  pub rows-front : take (r .table .count) (r .table .rows) ≡ answer .rows
+  pub rows-front : take (r .count) (r .rows) ≡ answer .rows
   rows-front =
-      ap (λ (x : Reading). take (x .table .count) (x .table .rows)) is ∙ padded-front noRow (answer .rows)
+      ap (λ (x : Reading). take (x .count) (x .rows)) is ∙ padded-front noRow (answer .rows)
 
   module _ (ok : Accepts ranked text) where
     abbrev sound : Accepted ranked answer
     sound = read ranked text .sound ok
 
-    pub few : r .table .count ≤ maxTasks
+    pub few : r .count ≤ maxTasks
     few = omega (arith, count-is, sound .few-rows)
 
-    pub lent : Lent (r .table .rows) (r .table .count)
+    pub lent : Lent (r .rows) (r .count)
     lent = record {
       held = few;
       counted = ap length rows-front ∙ sym count-is;
@@ -56,8 +56,8 @@ module _ (ranked : Bool) (text : List ℕ) (r : Reading) (is : r ≡ reading (re
           (record { few = sound .few-rows; in-range = sound .rows-in-range; distinct = sound .rows-distinct });
     }
 
-    pub board-is : r .table .board ≡ answer .board
-    board-is = ap (λ (x : Reading). x .table .board) is
+    pub board-is : r .board ≡ answer .board
+    board-is = ap (λ (x : Reading). x .board) is
 
-    pub board-fits : r .table .board ≤ 65535
+    pub board-fits : r .board ≤ 65535
     board-fits = omega (arith, board-is, sound .board-high)

@@ -31,7 +31,7 @@ ok c =
 -- the rows that are planned are the order's
 planned-rows : (c : tie.After-rows-for)
     → let e = c .before .before .before in
-    take (e .before .read-table .result .table .count) (c .rows-for .result) ≡ givenOrder (text-of (e .before))
+    take (e .before .read-table .result .count) (c .rows-for .result) ≡ givenOrder (text-of (e .before))
 planned-rows c =
     let e = c .before .before .before in
     let r = e .before .read-table in
@@ -91,7 +91,7 @@ returns-2 c =
     let r = e .before .read-table in
     let s = e .before .before .before .before in
     let room = length (now (s .args .out)) in
-    let is = ap (ifInTime room (r .result .table .board)) (planned-rows w)
+    let is = ap (ifInTime room (r .result .board)) (planned-rows w)
     ∙ given-plan (text-of (e .before)) (r .result) (r .ensures .result) (ok e) room in
     record {
       answer = subst (λ (x : Outcome). Written x (now (s .args .out)) (p .last .0) (p .result)) is (p .ensures);

@@ -44,7 +44,7 @@ ordered c =
 -- the rows that are planned are its
 planned-rows : (c : tie.After-rows-for)
     → let r = c .before .before .before .before .before .before .before .read-table .result in
-    take (r .table .count) (c .rows-for .result) ≡ ordered (c .before .before)
+    take (r .count) (c .rows-for .result) ≡ ordered (c .before .before)
 planned-rows c =
     let d = c .before .before in
     let e = d .before .before .before .before in
@@ -138,7 +138,7 @@ returns-3 c =
     let s = e .before .before .before .before in
     let room = length (now (s .args .out)) in
     let text = text-of (e .before) in
-    let is = ap (ifInTime room (r .result .table .board)) (planned-rows w)
+    let is = ap (ifInTime room (r .result .board)) (planned-rows w)
     ∙ ordered-plan text (r .result) (r .ensures .result) (ok e) (o .result) (o .ensures) (found d) room in
     record {
       answer = subst (λ (x : Outcome). Written x (now (s .args .out)) (p .last .0) (p .result)) is (p .ensures);
