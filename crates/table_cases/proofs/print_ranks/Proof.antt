@@ -1,15 +1,16 @@
--- `table_cases::print_ranks` is safe and ends: the index stays within the array of twelve.
+-- `table_cases::print_ranks` is safe and ends: the index stays within the array.
 use Prim.Native.Nat.{_-_, _≤_}
 use native.Mathlib.Omega.{arith}
 use borrow.Author.Needs.{needs}
+use Rattle.rows.specs.Rows.{maxTasks}
 use Rattle.table_cases.proofs.print_ranks.Statement.{statement}
 use Rattle.table_cases.proofs.print_ranks.Tie as tie
 
 abbrev Inv-loop : tie.InvT-loop
-Inv-loop count tasks i₀ i = i ≤ 12
+Inv-loop count tasks i₀ i = i ≤ maxTasks
 
 abbrev μ-loop : tie.MeasureT-loop
-μ-loop count tasks i₀ i = 12 - i
+μ-loop count tasks i₀ i = maxTasks - i
 
 loop-holds : tie.Need-loop-holds Inv-loop μ-loop
 loop-holds c = omega arith

@@ -1,14 +1,15 @@
--- `table_cases::print_rows` is safe and ends: the index stays within the array of twelve.
+-- `table_cases::print_rows` is safe and ends: the index stays within the array.
 use Prim.Native.Nat.{_-_, _≤_}
 use native.Mathlib.Omega.{arith}
+use Rattle.rows.specs.Rows.{maxTasks}
 use Rattle.table_cases.proofs.print_rows.Statement.{statement}
 use Rattle.table_cases.proofs.print_rows.Tie as tie
 
 abbrev Inv-loop : tie.InvT-loop
-Inv-loop count rows i₀ i = i ≤ 12
+Inv-loop count rows i₀ i = i ≤ maxTasks
 
 abbrev μ-loop : tie.MeasureT-loop
-μ-loop count rows i₀ i = 12 - i
+μ-loop count rows i₀ i = maxTasks - i
 
 loop-holds : tie.Need-loop-holds Inv-loop μ-loop
 loop-holds c = omega arith
