@@ -22,9 +22,9 @@ use Rattle.grammars.specs.inside.Answers.{unless, tested, onAnswer}
 use Rattle.grammars.proofs.Answers.{no-test}
 use Rattle.grammars.proofs.Steps.{read-steps}
 use Rattle.grammars.proofs.Naturals.{step-line}
-use Rattle.rows.specs.Rows.{minTask, maxTask, minTasks, maxTasks, hasTask}
+use Rattle.rows.specs.Rows.{minTask, maxTask, minTasks, maxTasks, fieldCount, rowOf, hasTask}
 use Rattle.rows.specs.declared.Row.{Row}
-use Rattle.tables.specs.TableLines.{minBoard, maxBoard, fieldCount, rowLineAt, rowOf, newRank}
+use Rattle.tables.specs.TableLines.{minBoard, maxBoard, rowLineAt, newRank}
 use Rattle.tables.specs.TableLines.{Stage, at-board, at-tasks, at-field, at-rank, at-end, ranksStage, rowsStage}
 use Rattle.tables.specs.TableLines.{expected, fault, after, table, TableRead, turnedDown, onVerdict, readTable}
 use Rattle.grammar_cases.specs.Nested.{onNumber, crossAt, fieldAt, rankAt, ranksFrom}

@@ -1,17 +1,13 @@
 -- One line of a reading: it moves on past a byte at least, so the fuel never decides, and what is read from a line on
 -- is what is read after it.
 use mathlib.Core.Path.{_≡_, refl, ap, _∙_}
-use mathlib.Core.Bool.{_&&_}
 use mathlib.Core.List.{List, _++_}
 use mathlib.Core.Logic.{inl, inr}
-use Prim.Native.Nat.{ℕ, zero, suc, _+_, _-_, _≤_, _<_}
+use Prim.Native.Nat.{ℕ, zero, suc, _-_, _≤_, _<_}
 use native.Mathlib.Omega.{arith}
-use lib.Dec.{ltb}
 use lib.IntN.{ℤ}
-use lib.ListN.{length, drop, length-drop}
-use borrow.Author.Tests.{ltb-true}
-use Rattle.basics.specs.Basics.{within}
-use Rattle.basics.proofs.Tests.{test-of, and-left}
+use lib.ListN.{length, drop}
+use Rattle.basics.proofs.Tests.{test-of}
 use Rattle.text.specs.Lines.{begins, lineAt}
 use Rattle.text.specs.declared.Line.{Line}
 use Rattle.text.specs.declared.Line.the-variants as L

@@ -20,14 +20,13 @@ use Rattle.grammars.specs.Forms.{size}
 use Rattle.grammars.specs.Reasons.{Passes}
 use Rattle.grammars.proofs.Invariants.{Invariant}
 use Rattle.grammars.proofs.Naturals.{natural-passes}
-use Rattle.rows.specs.Rows.{minTask, maxTask, minTicks, maxTicks, minAlpha, maxAlpha, minBeta, maxBeta}
 use Rattle.rows.specs.Rows.{minTasks, maxTasks, inRange, allRows, tasksOf, hasTask, distinctRows, allTasks, isPossible}
 use Rattle.rows.specs.declared.Row.{Row}
 use Rattle.rows.proofs.Tasks.{tasks-last}
 use Rattle.rows.proofs.Limits.{in-range}
 use Rattle.rows.specs.Rows.{taskAt, periodAt, worstAt, bestAt, alphaAt, betaAt, fieldCount, rowOf}
 use Rattle.tables.specs.TableLines.{minBoard, maxBoard}
-use Rattle.tables.specs.TableLines.{rowLineAt, newTask, atMost, newRank}
+use Rattle.tables.specs.TableLines.{rowLineAt, atMost, newRank}
 use Rattle.tables.specs.TableLines.{Stage, at-board, at-tasks, at-field, at-rank, at-end, ranksStage, rowsStage}
 use Rattle.tables.specs.TableLines.{fault, after, table, tableOf}
 use Rattle.tables.specs.Claims.{Accepted}

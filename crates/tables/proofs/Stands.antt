@@ -4,14 +4,13 @@ use mathlib.Core.Path.{_≡_, refl, sym, ap, ap₂, _∙_, subst}
 use mathlib.Core.Bool.{Bool, true, false}
 use mathlib.Core.List.{List, [], _∷_, _++_}
 use mathlib.Core.Logic.{inl, inr}
-use Prim.Native.Nat.{ℕ, zero, suc, _+_, _-_, _*_, _≤_, _<_}
-use native.Mathlib.Numerals.{add-one}
+use Prim.Native.Nat.{ℕ, zero, suc, _+_, _≤_, _<_}
 use native.Mathlib.Omega.{arith}
 use lib.Dec.{eqb, ltb}
 use lib.ListN.{length, take, drop, length-append, length-drop, drop-of-length-le, List·getD-append}
 use denote.Enum.Declared.{tagOf}
 use types.Run.{OneOf, miss}
-use borrow.Author.Tests.{eq-eqb, ne-eqb, eqb-true, eqb-false}
+use borrow.Author.Tests.{eqb-true, eqb-false}
 use Rattle.basics.specs.Basics.{pick}
 use Rattle.basics.proofs.Tests.{test-of, within-true}
 use Rattle.text.specs.Text.{bytes}
@@ -36,40 +35,11 @@ use Rattle.tables.specs.inside.Stands.{standAfter, readBy, Counted, stag
 use Rattle.rows.proofs.RowNumbers.{rows-length, between-length}
 use Rattle.tables.proofs.LineNumbers.{rows-stay, rows-front, row-made, behind-grows}
 
--- ---- as the code's tests tell them
-pub ranks-some : (ranked : Bool) (count named left : ℕ) → (left ≡ 0 → ⊥)
-    → stand P.Rank ranked count (left - 1) named ≡ ranksNext ranked count named left
-ranks-some ranked count named zero h = absurd (h refl)
-ranks-some ranked count named (suc n) h = ap (λ m. stand P.Rank ranked count m named) (omega arith)
-
-pub rows-some : (ranked : Bool) (count left : ℕ) → (left ≡ 0 → ⊥)
-    → stand P.Row ranked count (left - 1) 0 ≡ rowsNext ranked count left
-rows-some ranked count zero h = absurd (h refl)
-rows-some ranked count (suc n) h = ap (λ m. stand P.Row ranked count m 0) (omega arith)
-
-module _ (s : Stand) where
-  abbrev last : Stand
-  last = rowsNext (s .ranked) (suc (s .count)) (s .left)
-
-  abbrev further : ℕ → Stand
-  further i = stand P.Row (s .ranked) (s .count) (s .left) i
-
-  pub field-last : s .position + 1 ≡ fieldCount → rowsNext (s .ranked) (s .count + 1) (s .left) ≡ afterField s
-  field-last e =
-      ap (λ n. rowsNext (s .ranked) n (s .left)) (add-one (s .count))
-      ∙ sym (ap (λ b. pick b last (further (suc (s .position))))
-      (eq-eqb (suc (s .position)) fieldCount (sym (add-one (s .position)) ∙ e)))
-
-  pub field-next : (s .position + 1 ≡ fieldCount → ⊥) → further (s .position + 1) ≡ afterField s
-  field-next h =
-      ap further (add-one (s .position))
-      ∙ sym (ap (λ b. pick b last (further (suc (s .position))))
-      (ne-eqb (suc (s .position)) fieldCount (λ e. h (add-one (s .position) ∙ e))))
-
-  pub ends-else : (l : Line) → OneOf (0 ∷ 1 ∷ []) (tagOf T.the-type l) → progress s true 0 0 0 ≡ endedBy s l
-  ends-else (L.Number v next) h = refl
-  ends-else L.End h = refl
-  ends-else (L.Refused n k) h = absurd (miss (0 ∷ 1 ∷ []) 2 tt h)
+-- a line that is neither a number nor refused is the end
+pub ends-else : (s : Stand) (l : Line) → OneOf (0 ∷ 1 ∷ []) (tagOf T.the-type l) → progress s true 0 0 0 ≡ endedBy s l
+ends-else s (L.Number v next) h = refl
+ends-else s L.End h = refl
+ends-else s (L.Refused n k) h = absurd (miss (0 ∷ 1 ∷ []) 2 tt h)
 
 -- ---- the step from a stage that is shown
 module _ (ranked : Bool) (text : List ℕ) (at k : ℕ) (s : Stand) (ns : List ℕ) (long : length ns ≡ lineCount) where

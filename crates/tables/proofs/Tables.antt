@@ -1,16 +1,16 @@
 -- The table that the code has read, once its reading has ended: the text's own, with the numbers of its lines.
 use mathlib.Core.Path.{_≡_, refl, sym, ap, ap₂, _∙_, subst}
-use mathlib.Core.Bool.{Bool, true, false, _&&_, _||_}
+use mathlib.Core.Bool.{Bool, true, false, _&&_}
 use mathlib.Core.List.{List, [], _∷_}
 use mathlib.Core.Logic.{inl, inr}
-use Prim.Native.Nat.{ℕ, zero, suc, _+_, _≤_, _<_}
+use Prim.Native.Nat.{ℕ, zero, suc, _+_, _≤_}
 use native.Mathlib.Omega.{arith}
 use lib.Dec.{eqb}
-use lib.ListN.{length, getD, take}
+use lib.ListN.{length, take}
 use lib.Seq.{getD-take}
 use borrow.Author.Tests.{eqb-true}
 use Rattle.basics.specs.Basics.{distinct}
-use Rattle.basics.proofs.Tests.{test-of, never, and-left, and-right, or-cases}
+use Rattle.basics.proofs.Tests.{never, and-left, and-right, or-cases}
 use Rattle.grammars.specs.Grammars.{Verdict, accepted, refused}
 use Rattle.rows.specs.Rows.{maxTask, maxTasks, inRange, allRows, hasTask, allTasks}
 use Rattle.rows.specs.declared.Row.{Row}
@@ -23,7 +23,7 @@ use Rattle.tables.specs.declared.progress.Progress.{Progress}
 use Rattle.tables.specs.TableLines.{Stage, at-end, TableRead, turnedDown, tableOf, tableAt, readTable}
 use Rattle.tables.specs.Claims.{Accepted}
 use Rattle.tables.specs.inside.Numbers.{lineCount, rowStart, boardIn, rowsIn, behind}
-use Rattle.tables.specs.inside.Stands.{readBy, Counted, stageIn, stageOf, Ends}
+use Rattle.tables.specs.inside.Stands.{readBy, Counted, stageIn, Ends}
 use Rattle.tables.proofs.Readings.{Ending, at-last, ending, verdict, decided, read-is, read}
 use Rattle.tables.proofs.LineNumbers.{rows-front}
 
