@@ -1,21 +1,19 @@
 -- The table that the code has read, once its reading has ended: the text's own, with the numbers of its lines.
 use mathlib.Core.Path.{_≡_, refl, sym, ap, ap₂, _∙_, subst}
 use mathlib.Core.Bool.{Bool, true, false, _&&_}
-use mathlib.Core.List.{List, [], _∷_}
-use mathlib.Core.Logic.{inl, inr}
-use Prim.Native.Nat.{ℕ, zero, suc, _+_, _≤_}
+use mathlib.Core.List.{List}
+use Prim.Native.Nat.{ℕ, _+_, _≤_}
 use native.Mathlib.Omega.{arith}
 use lib.Dec.{eqb}
 use lib.ListN.{length, take}
 use lib.Seq.{getD-take}
-use borrow.Author.Tests.{eqb-true}
 use Rattle.basics.specs.Basics.{distinct}
-use Rattle.basics.proofs.Tests.{never, and-left, and-right, or-cases}
+use Rattle.basics.proofs.Tests.{and-right}
 use Rattle.grammars.specs.Grammars.{Verdict, accepted, refused}
-use Rattle.rows.specs.Rows.{maxTask, maxTasks, inRange, allRows, hasTask, allTasks}
+use Rattle.rows.specs.Rows.{maxTasks, allTasks}
 use Rattle.rows.specs.declared.Row.{Row}
 use Rattle.rows.specs.inside.Numbers.{TaskNumbers}
-use Rattle.rows.proofs.Limits.{limits, head-passes, tail-passes}
+use Rattle.rows.proofs.Tasks.{all-small}
 use Rattle.tables.specs.declared.progress.Part.{Part}
 use Rattle.tables.specs.declared.progress.Part.the-variants as P
 use Rattle.tables.specs.declared.progress.Stand.{Stand}
@@ -27,22 +25,7 @@ use Rattle.tables.specs.inside.Stands.{readBy, Counted, stageIn, Ends}
 use Rattle.tables.proofs.Readings.{Ending, at-last, ending, verdict, decided, read-is, read}
 use Rattle.tables.proofs.LineNumbers.{rows-front}
 
--- ---- tasks of rows in range are task numbers
-has-small : (t : ℕ) (rs : List Row) → hasTask t rs ≡ true → allRows inRange rs ≡ true → t ≤ maxTask
-has-small t [] h ok = never h
-has-small t (r ∷ rs) h ok =
-    elim (or-cases (eqb t (r .task)) (hasTask t rs) h) [
-      | inl e ↦
-          omega (arith, eqb-true t (r .task) e, limits r (head-passes inRange r rs ok) .task .le-high)
-      | inr e ↦ has-small t rs e (tail-passes inRange r rs ok)
-    ]
-
-all-small : (os : List ℕ) (rs : List Row) → allTasks os rs ≡ true → allRows inRange rs ≡ true → TaskNumbers os
-all-small [] rs h ok i l = absurd (omega arith)
-all-small (t ∷ os) rs h ok zero l = has-small t rs (and-left (hasTask t rs) (allTasks os rs) h) ok
-all-small (t ∷ os) rs h ok (suc i) l =
-    all-small os rs (and-right (hasTask t rs) (allTasks os rs) h) ok i (omega arith)
-
+-- ---- the ranks of a sound table are task numbers
 ranks-small : (ranked : Bool) (a : TableRead) → Accepted ranked a → TaskNumbers (a .order)
 ranks-small true a h =
     let counts = eqb (length (a .order)) (length (a .rows)) && distinct (a .order) in

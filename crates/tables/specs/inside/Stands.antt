@@ -86,7 +86,7 @@ abbrev pub Counted : Part → Stand → Type 0
 Counted P.Board s = s .position ≡ 0
 Counted P.Tasks s = s .position ≡ 0
 Counted P.Row s = (s .position < fieldCount) × (s .count + suc (s .left) ≤ maxTasks)
-Counted P.Rank s = (s .position + suc (s .left) ≡ s .count) × (s .count ≤ maxTasks)
+Counted P.Rank s = (s .position + suc (s .left) ≤ s .count) × (s .count ≤ maxTasks)
 Counted P.End s = (s .position ≤ s .count) × (s .count ≤ maxTasks)
 
 -- ---- what it shows of the text's reading, with the numbers so far
