@@ -1,18 +1,26 @@
 -- A loop that reads line by line, one step a turn: the text reads as from the next line on, and fewer bytes are left.
-use mathlib.Core.Path.{_≡_, refl, sym, ap, _∙_}
+use mathlib.Core.Path.{_≡_, refl, sym, ap, _∙_, subst}
 use mathlib.Core.Bool.{Bool, true, false}
-use mathlib.Core.List.{List}
+use mathlib.Core.List.{List, [], _∷_}
 use Prim.Native.Nat.{ℕ, zero, suc, _-_, _≤_, _<_}
 use native.Mathlib.Omega.{arith}
 use lib.Dec.{ltb}
 use lib.IntN.{ℤ}
 use lib.ListN.{length}
+use types.Run.{miss}
 use Rattle.basics.specs.Basics.{pick, isIn}
+use Rattle.basics.proofs.Tests.{true-not-false}
 use Rattle.text.specs.Text.{lineFeed}
+use Rattle.text.specs.Lines.{refusal, place}
+use Rattle.text.specs.declared.Line.{Line}
+use Rattle.text.specs.declared.Line.the-variants as L
 use Rattle.grammars.specs.Forms.{Form, Told, number, no-number, formAt}
 use Rattle.grammars.specs.Grammars.{Grammar, Expected, the-end, a-line, keyIn, Plain, Verdict, accepted, refused}
-use Rattle.grammars.specs.Grammars.{Step, goes-on, stops, onFault, onTold, onExpected, onStep, step, readFrom}
+use Rattle.grammars.specs.Grammars.{Step, goes-on, stops, onFault, onTold, onExpected, onStep, step, readFrom, read}
 use Rattle.grammars.specs.Reasons.{Passes}
+use Rattle.grammars.specs.inside.Answers.{onAnswer}
+use Rattle.grammars.specs.inside.Readers.{Reader, Ends, Takes}
+use Rattle.grammars.proofs.Answers.{NoNumber}
 use Rattle.grammars.proofs.Forms.{told-fits, told-some}
 use Rattle.grammars.proofs.Steps.{read-steps, step-onward, not-both}
 
@@ -100,3 +108,62 @@ module _ {S : Type 0} (g : Grammar S) (plain : Plain g) (text : List ℕ) (s : S
           → (1 ≤ n) × (j ≡ k)
       by-expected the-end x h = by-end (ltb at (length text)) h
       by-expected (a-line key form) x h = by-told key form x (formAt key form text at k) refl h
+
+-- ---- code that reads so, one line a turn
+module _ {P S : Type 0} (r : Reader P S) (On : P → Type 0) (g : Grammar S) (plain : Plain g) (start : S) (text : List ℕ)
+  where
+    -- while it goes on, the text reads as from where the code stands
+    pub record Going (p : P) : Type 0 where
+      pub stands : On p
+      pub same : read g start text ≡ readFrom g text (r .shows p) (r .offset p) (r .line p)
+
+    -- where the loop is, with its measure
+    pub data Standing (p : P) : ℕ → Type 0 where
+      goes : r .ended p ≡ false → Going p → Standing p (suc (length text - r .offset p))
+      done : r .ended p ≡ true → Ends r (read g start text) p → Standing p 0
+
+    pub going : {p : P} {left : ℕ} → Standing p left → r .ended p ≡ false → Going p
+    going (goes e h) go = h
+    going {p} (done e h) go = absurd (true-not-false (r .ended p) e go)
+
+    pub finished : {p : P} {left : ℕ} → Standing p left → r .ended p ≡ true → Ends r (read g start text) p
+    finished {p} (goes e h) end = absurd (true-not-false (r .ended p) end e)
+    finished (done e h) end = h
+
+    -- a turn
+    pub record Next (left : ℕ) (q : P) : Type 0 where
+      pub fewer : ℕ
+      pub less : fewer < left
+      pub there : Standing q fewer
+
+    by-step : (p : P) → Going p → (q : P) (x : Step S) → step g text (r .shows p) (r .offset p) (r .line p) ≡ x
+        → Takes r On x q → Next (suc (length text - r .offset p)) q
+    by-step p h q (goes-on t next j) e (on, w) =
+        let o = turned g plain text (r .shows p) (r .offset p) (r .line p) t next j e in
+        record {
+          fewer = suc (length text - r .offset q);
+          less = omega (arith, o .fewer, w .offset);
+          there = goes on (record {
+            stands = w .stands;
+            same = rw (w .shows, w .offset, w .line) (h .same ∙ o .same);
+          });
+        }
+    by-step p h q (stops v) e (off, w) =
+        let is = h .same ∙ ended g plain text (r .shows p) (r .offset p) (r .line p) v e in
+        record { fewer = 0; less = omega arith; there = done off (subst (λ o. Ends r o q) (sym is) w) }
+
+    pub turn : {p : P} {left : ℕ} → Standing p left → r .ended p ≡ false → (q : P)
+        → Takes r On (step g text (r .shows p) (r .offset p) (r .line p)) q → Next left q
+    turn {p} (goes e h) go q t = by-step p h q _ refl t
+    turn {p} (done e h) go q t = absurd (true-not-false (r .ended p) e go)
+
+    -- a line that answers no number ends it
+    pub ends-by : (s : S) (at k : ℕ) (l : Line) → NoNumber l → step g text s at k ≡ onAnswer g s k l → (q : P)
+        → r .ended q ≡ true → r .refused q ≡ refusal l → r .line q ≡ place l → r .shows q ≡ s → r .Whole q
+        → Takes r On (step g text s at k) q
+    ends-by s at k (L.Number v next) none e q off n j shows whole = absurd (miss (1 ∷ 2 ∷ []) 0 tt none)
+    ends-by s at k L.End none e q off n j shows whole =
+        subst (λ x. Takes r On x q) (sym e) (off, (n, shows, whole))
+    ends-by s at k (L.Refused m i) none e q off n j shows whole =
+        let some = refused-here g plain text s at k m i e .0 in
+        subst (λ x. Takes r On x q) (sym e) (off, (n, j, λ z. omega arith))

@@ -75,8 +75,8 @@ module _ (ranked : Bool) (text : List ℕ) (p : Progress) (ns : List ℕ) (ends 
       go (accepted st) e h =
           let s = p .stand in
           let last = ending st (decided ranked text .as-written st e .ends) in
-          let (stage, ranks, rows) = shown-end (s .part) s ns (h .3) (h .2) st last (h .1) in
+          let (stage, ranks, rows) = shown-end (s .part) s ns (h .2 .1) (h .2 .0) st last (h .1) in
           let is = read-is ranked text (accepted st) e ∙ ap tableAt stage in
           let fine = subst (Accepted ranked) is (read ranked text .sound (ap (λ (a : TableRead). a .refused) is)) in
-          record { is = is; sound = fine; ranks-fit = ranks; rows-fit = rows; long = h .3; small = ranks-small ranked _ fine }
+          record { is = is; sound = fine; ranks-fit = ranks; rows-fit = rows; long = h .2 .1; small = ranks-small ranked _ fine }
       go (refused n k) e h = absurd (h .2 none)
