@@ -12,7 +12,6 @@ use lib.ListN.{length}
 use borrow.Author.Tests.{ltb-true, lt-ltb}
 use Rattle.basics.specs.Basics.{pick, within}
 use Rattle.basics.proofs.Tests.{test-of, never, Within, within-true, true-within}
-use Rattle.text.specs.Text.{decimal, signed}
 use Rattle.text.specs.Lines.{maxDigits, lineAt, endAt}
 use Rattle.text.specs.declared.Line.{Line}
 use Rattle.text.specs.declared.Line.the-variants as L
@@ -26,11 +25,6 @@ use Rattle.grammars.specs.Reasons.{Passes}
 unsigned : (low high : ℕ) (z : ℤ) → fits (natural low high) z ≡ true → z ≡ pos (size z)
 unsigned low high (pos v) f = refl
 unsigned low high (negsuc n) f = never f
-
-pub written : (low high : ℕ) (z : ℤ) → fits (natural low high) z ≡ true → signed z ≡ decimal (size z)
-unfolding signed
-written low high (pos v) f = refl
-written low high (negsuc n) f = never f
 
 -- ---- what passes where a range is expected
 pub record Natural (key lock : List ℕ) (low high : ℕ) (z : ℤ) : Type 0 where

@@ -78,6 +78,10 @@ pub stepped : {S : Type 0} (x : Step S) → Stepped x
 stepped (goes-on t next j) = went t next j refl
 stepped (stops o) = stopped o refl
 
+-- what is expected is a line or the end, and a step goes on or stops
+pub no-line : {A : Type 0} {key : List ℕ} {form : Form} → a-line key form ≡ the-end → A
+no-line e = let z : _≡_ {A = ℕ} 0 1 = cc in absurd (omega arith)
+
 pub not-both : {S A : Type 0} {o : Verdict S} {t : S} {next j : ℕ} → stops o ≡ goes-on t next j → A
 not-both e = let z : _≡_ {A = ℕ} 0 1 = cc in absurd (omega arith)
 

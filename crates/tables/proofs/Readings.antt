@@ -8,6 +8,7 @@ use native.Mathlib.Omega.{arith}
 use Rattle.grammars.specs.Grammars.{the-end, Verdict, accepted, refused}
 use Rattle.grammars.specs.Grammars as Grammars
 use Rattle.grammars.specs.Claims.{Decides}
+use Rattle.grammars.proofs.Steps.{no-line}
 use Rattle.grammars.proofs.Decided.{decides, refused-some}
 use Rattle.grammars.proofs.Invariants.{holds}
 use Rattle.rows.specs.declared.Row.{Row}
@@ -22,10 +23,10 @@ pub data Ending : Stage → Type 0 where
   at-last : (b : ℕ) (rs : List Row) (os : List ℕ) → Ending (at-end b rs os)
 
 pub ending : (s : Stage) → expected s ≡ the-end → Ending s
-ending at-board e = let no-end : _≡_ {A = ℕ} 0 1 = cc in absurd (omega arith)
-ending (at-tasks b) e = let no-end : _≡_ {A = ℕ} 0 1 = cc in absurd (omega arith)
-ending (at-field n b rs vs) e = let no-end : _≡_ {A = ℕ} 0 1 = cc in absurd (omega arith)
-ending (at-rank n b rs os) e = let no-end : _≡_ {A = ℕ} 0 1 = cc in absurd (omega arith)
+ending at-board e = no-line e
+ending (at-tasks b) e = no-line e
+ending (at-field n b rs vs) e = no-line e
+ending (at-rank n b rs os) e = no-line e
 ending (at-end b rs os) e = at-last b rs os
 
 module _ (ranked : Bool) (text : List ℕ) where

@@ -9,8 +9,7 @@ use lib.ListN.{length, getD}
 use Rattle.basics.specs.Basics.{pick, isIn}
 use Rattle.basics.proofs.Tests.{true-not-false}
 use Rattle.grammars.specs.Forms.{size}
-use Rattle.grammars.specs.Reasons.{Refused, trailing, missing, malformed, out-of-range, faulty}
-use Rattle.grammars.proofs.Decided.{refused-some}
+use Rattle.grammars.proofs.Decided.{refused-some, refused-small}
 use Rattle.grammars.proofs.Invariants.{holds}
 use Rattle.rows.specs.Rows.{periodAt, worstAt, hasTask}
 use Rattle.rows.specs.declared.Row.{Row}
@@ -55,22 +54,13 @@ fault-unranked (at-rank n b rs os) v h = absurd (true-not-false false (h .asked)
 fault-unranked (at-end b rs os) v h = omega arith
 
 -- ---- and so of every text
-module _ {ranked : Bool} {s : Stage} {here : List ℕ} (high : ℕ) (three : 3 ≤ high)
-    (small : (v : ℕ) → fault s v ≤ high) where
-  refusal-small : {n : ℕ} → Refused (table ranked) s here n → n ≤ high
-  refusal-small (trailing x some) = omega arith
-  refusal-small (missing key form x none) = omega arith
-  refusal-small (malformed key form x value rest is h none) = omega arith
-  refusal-small (out-of-range key form x z rest is f out) = omega arith
-  refusal-small (faulty key form x z rest is f w m e) = omega (arith, e, small (size z))
-
 pub number-small : (ranked : Bool) (text : List ℕ) (n k : ℕ) → Fails ranked text n k → (1 ≤ n) × (n ≤ 6)
 number-small ranked text n k why = (
   refused-some (why .condition),
-  refusal-small 6 (omega arith) (fault-small (why .state)) (why .condition),
+  refused-small 6 (omega arith) (λ z. fault-small (why .state) (size z)) (why .condition),
 )
 
 pub unranked-small : (text : List ℕ) (n k : ℕ) → Fails false text n k → n ≤ 5
 unranked-small text n k why =
     let known = holds (table false) at-board (Known false) (sound false) (why .before) in
-    refusal-small 5 (omega arith) (λ v. fault-unranked (why .state) v known) (why .condition)
+    refused-small 5 (omega arith) (λ z. fault-unranked (why .state) (size z) known) (why .condition)

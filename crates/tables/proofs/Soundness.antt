@@ -12,12 +12,13 @@ use lib.IntN.{ℤ}
 use lib.ListN.{length, getD, take, length-append, List·getD-append}
 use lib.Seq.{take-append-le, take-at, getD-at, getD-take}
 use borrow.Author.Tests.{eq-eqb, eqb-true, eqb-false, not-true, ltb-false}
-use Rattle.basics.specs.Basics.{pick, within, isIn, distinct}
+use Rattle.basics.specs.Basics.{within, isIn, distinct}
 use Rattle.basics.proofs.Tests.{test-of, true-not-false, never, and-left, and-right, le-or-lt}
 use Rattle.basics.proofs.Tests.{Within, within-true, not-refused, let-through, distinct-last}
 use Rattle.text.specs.Text.{bytes}
 use Rattle.grammars.specs.Forms.{size}
 use Rattle.grammars.specs.Reasons.{Passes}
+use Rattle.grammars.proofs.Steps.{no-line}
 use Rattle.grammars.proofs.Invariants.{Invariant}
 use Rattle.grammars.proofs.Naturals.{natural-passes}
 use Rattle.rows.specs.Rows.{minTasks, maxTasks, inRange, allRows, tasksOf, hasTask, distinctRows, allTasks, isPossible}
@@ -153,16 +154,13 @@ field-known ranked n b rs vs v h p =
     let ws = vs ++ (v ∷ []) in
     let long = length-append vs (v ∷ []) in
     let good = good-next rs vs v (h .good) p in
-    let next : Bool → Stage = λ last.
-    pick last (rowsStage ranked n b (rs ++ (rowOf ws ∷ []))) (at-field n b rs ws) in
     elim (test-of (eqb (length ws) fieldCount)) [
       | inl t ↦
           let whole = eqb-true (length ws) fieldCount t in
-          subst (λ x. Known ranked (next x)) (sym t)
-          (rows-known ranked n b (rs ++ (rowOf ws ∷ [])) (rows-next rs ws whole good b n (h .rows)))
+          rw t (rows-known ranked n b (rs ++ (rowOf ws ∷ [])) (rows-next rs ws whole good b n (h .rows)))
       | inr t ↦
           let short : length ws < fieldCount = omega (arith, h .short, eqb-false (length ws) fieldCount t) in
-          subst (λ x. Known ranked (next x)) (sym t) (record { rows = h .rows; short = short; good = good })
+          rw t (record { rows = h .rows; short = short; good = good })
     ]
 
 rank-known : (ranked : Bool) (n b : ℕ) (rs : List Row) (os : List ℕ) (v : ℕ) → Ranks ranked (suc n) b rs os
@@ -196,7 +194,4 @@ sound ranked = record { begins = tt; keeps = keeps }
         field-known ranked n b rs vs (size z) h
         (record { between = natural-passes p (l .key) (l .low) (l .high) refl .between; no-fault = p .no-fault })
     keeps (at-rank n b rs os) key z h p = rank-known ranked n b rs os (size z) h (p .no-fault)
-    keeps (at-end b rs os) key z h p =
-        let x = p .is-expected in
-        let no-line : _≡_ {A = ℕ} 0 1 = cc in
-        absurd (omega arith)
+    keeps (at-end b rs os) key z h p = no-line (sym (p .is-expected))

@@ -1,6 +1,6 @@
 -- A line that the code takes in is the step of the text's reading: its number leads to the next stage and stands behind
 -- those before it, and any other answer ends the reading.
-use mathlib.Core.Path.{_≡_, refl, sym, ap, ap₂, _∙_, subst}
+use mathlib.Core.Path.{_≡_, refl, sym, ap, ap₂, _∙_}
 use mathlib.Core.Bool.{false}
 use mathlib.Core.List.{List, [], _∷_, _++_}
 use Prim.Native.Nat.{ℕ, suc, _+_, _-_, _≤_}
@@ -12,7 +12,6 @@ use Rattle.text.specs.declared.Line.{Line}
 use Rattle.text.specs.declared.Line.the-variants as L
 use Rattle.grammars.specs.Grammars.{step}
 use Rattle.grammars.specs.inside.Answers.{tested, onAnswer}
-use Rattle.grammars.specs.inside.Readers.{Takes}
 use Rattle.grammars.proofs.Answers.{NoNumber}
 use Rattle.grammars.proofs.Loops.{ends-by}
 use Rattle.tables.specs.declared.progress.Part.{Part}
@@ -55,8 +54,8 @@ module _ (p : Progress) (text : List ℕ) (at k : ℕ) (ns : List ℕ) (h : Stan
     -- ---- no number: the reading ends
     pub takes-end : NoNumber l → (q : Progress) → q ≡ endedBy s l → TakesLine p text at k ns q ns
     takes-end none q e =
-        subst (λ x. TakesLine p text at k ns x ns) (sym e)
-        (ends-by reader (On (s .ranked)) (table (s .ranked)) (table-plain (s .ranked)) here text here at k l none
+        rw e
+        (ends-by reader (On (s .ranked)) (table (s .ranked)) (table-plain (s .ranked)) text here at k l none
         (step-is l refl) (endedBy s l, ns) refl refl refl refl (h .counted, h .long))
 
     -- ---- a number: the stage after it
@@ -88,9 +87,7 @@ module _ (p : Progress) (text : List ℕ) (at k : ℕ) (ns : List ℕ) (h : Stan
       pub takes-number : (t : Stand) → t ≡ there
           → TakesLine p text at k ns (progress t false 0 (k + 1) next) (set ns (k - 1) v)
       takes-number t same =
-          subst (λ x. TakesLine p text at k ns (progress x false 0 (k + 1) next) (set ns (k - 1) v)) (sym same)
-          (subst (λ x. Takes reader (On (s .ranked)) x (progress there false 0 (k + 1) next, set ns (k - 1) v))
-          (sym (step-is (L.Number v next) e)) (
+          rw (same, step-is (L.Number v next) e) (
             refl,
             record {
               shows = ap (stageIn (there .part) there) put-behind ∙ follows .shows;
@@ -105,4 +102,4 @@ module _ (p : Progress) (text : List ℕ) (at k : ℕ) (ns : List ℕ) (h : Stan
               line = add-one k;
               offset = refl;
             },
-          ))
+          )

@@ -9,7 +9,8 @@ use lib.ListN.{length, take}
 use lib.Seq.{getD-take}
 use Rattle.basics.specs.Basics.{distinct}
 use Rattle.basics.proofs.Tests.{and-right}
-use Rattle.grammars.specs.Grammars.{Verdict, accepted, refused}
+use Rattle.grammars.specs.Grammars.{the-end, Verdict, accepted, refused}
+use Rattle.grammars.proofs.Steps.{no-line}
 use Rattle.rows.specs.Rows.{maxTasks, allTasks}
 use Rattle.rows.specs.declared.Row.{Row}
 use Rattle.rows.specs.inside.Numbers.{TaskNumbers}
@@ -18,11 +19,11 @@ use Rattle.tables.specs.declared.progress.Part.{Part}
 use Rattle.tables.specs.declared.progress.Part.the-variants as P
 use Rattle.tables.specs.declared.progress.Stand.{Stand}
 use Rattle.tables.specs.declared.progress.Progress.{Progress}
-use Rattle.tables.specs.TableLines.{Stage, at-end, TableRead, turnedDown, tableOf, tableAt, readTable}
+use Rattle.tables.specs.TableLines.{Stage, at-end, expected, TableRead, turnedDown, tableOf, tableAt, readTable}
 use Rattle.tables.specs.Claims.{Accepted}
 use Rattle.tables.specs.inside.Numbers.{lineCount, rowStart, boardIn, rowsIn, behind}
 use Rattle.tables.specs.inside.Stands.{readBy, Counted, stageIn, Ends}
-use Rattle.tables.proofs.Readings.{Ending, at-last, ending, verdict, decided, read-is, read}
+use Rattle.tables.proofs.Readings.{verdict, decided, read-is, read}
 use Rattle.tables.proofs.LineNumbers.{rows-front}
 
 -- ---- the ranks of a sound table are task numbers
@@ -43,21 +44,18 @@ pub record Whole (ranked : Bool) (text : List ℕ) (s : Stand) (ns : List ℕ) :
   pub small : TaskNumbers (behind (s .count) (s .position) ns)
 
 shown-end : (p : Part) (s : Stand) (ns : List ℕ) → length ns ≡ lineCount → Counted p s
-    → (st : Stage) → Ending st → stageIn p s (take (readBy p s) ns) ≡ st
-    → (st ≡ at-end (boardIn ns) (rowsIn (s .count) ns) (behind (s .count) (s .position) ns))
+    → expected (stageIn p s (take (readBy p s) ns)) ≡ the-end
+    → (stageIn p s (take (readBy p s) ns) ≡ at-end (boardIn ns) (rowsIn (s .count) ns) (behind (s .count) (s .position) ns))
     × (s .position ≤ s .count) × (s .count ≤ maxTasks)
-shown-end P.Board s ns long h st (at-last b rs os) e = let no-end : _≡_ {A = ℕ} 0 1 = cc in absurd (omega arith)
-shown-end P.Tasks s ns long h st (at-last b rs os) e = let no-end : _≡_ {A = ℕ} 0 1 = cc in absurd (omega arith)
-shown-end P.Row s ns long h st (at-last b rs os) e = let no-end : _≡_ {A = ℕ} 0 1 = cc in absurd (omega arith)
-shown-end P.Rank s ns long h st (at-last b rs os) e = let no-end : _≡_ {A = ℕ} 0 1 = cc in absurd (omega arith)
-shown-end P.End s ns long h st (at-last b rs os) e =
+shown-end P.Board s ns long h e = no-line e
+shown-end P.Tasks s ns long h e = no-line e
+shown-end P.Row s ns long h e = no-line e
+shown-end P.Rank s ns long h e = no-line e
+shown-end P.End s ns long h e =
     let n = rowStart (s .count) + s .position in
     let board = getD-take n ns 0 0 (omega arith) in
-    let rows = rows-front (s .count) n ns (omega arith) (omega (arith, h .0, h .1)) in (
-      sym e ∙ ap₂ (λ d qs. at-end d qs (behind (s .count) (s .position) ns)) board rows,
-      h .0,
-      h .1,
-    )
+    let rows = rows-front (s .count) n ns (omega arith) (omega (arith, h .0, h .1)) in
+    (ap₂ (λ d qs. at-end d qs (behind (s .count) (s .position) ns)) board rows, h .0, h .1)
 
 module _ (ranked : Bool) (text : List ℕ) (p : Progress) (ns : List ℕ) (ends : Ends (verdict ranked text) p ns) where
   pub read-refused : (p .refused ≡ 0 → ⊥) → readTable ranked text ≡ turnedDown (p .refused) (p .line)
@@ -74,9 +72,9 @@ module _ (ranked : Bool) (text : List ℕ) (p : Progress) (ns : List ℕ) (ends 
       go : (v : Verdict Stage) → verdict ranked text ≡ v → Ends v p ns → Whole ranked text (p .stand) ns
       go (accepted st) e h =
           let s = p .stand in
-          let last = ending st (decided ranked text .as-written st e .ends) in
-          let (stage, ranks, rows) = shown-end (s .part) s ns (h .2 .1) (h .2 .0) st last (h .1) in
-          let is = read-is ranked text (accepted st) e ∙ ap tableAt stage in
+          let last = ap expected (h .1) ∙ decided ranked text .as-written st e .ends in
+          let (stage, ranks, rows) = shown-end (s .part) s ns (h .2 .1) (h .2 .0) last in
+          let is = read-is ranked text (accepted st) e ∙ ap tableAt (sym (h .1) ∙ stage) in
           let fine = subst (Accepted ranked) is (read ranked text .sound (ap (λ (a : TableRead). a .refused) is)) in
           record { is = is; sound = fine; ranks-fit = ranks; rows-fit = rows; long = h .2 .1; small = ranks-small ranked _ fine }
       go (refused n k) e h = absurd (h .2 none)

@@ -1,6 +1,6 @@
 -- The reader's loop, as of every reader that takes a line a turn.
 use mathlib.Core.Path.{_≡_, refl, subst}
-use mathlib.Core.Bool.{Bool, true, false}
+use mathlib.Core.Bool.{Bool, false}
 use mathlib.Core.List.{List}
 use Prim.Native.Nat.{ℕ, suc, _-_}
 use lib.ListN.{length}
@@ -10,19 +10,19 @@ use Rattle.grammars.proofs.Loops as Loops
 use Rattle.tables.specs.declared.progress.Progress.{Progress}
 use Rattle.tables.specs.TableLines.{Stage, at-board, table}
 use Rattle.tables.specs.inside.Numbers.{lineCount}
-use Rattle.tables.specs.inside.Stands.{begun, stageOf, reader, On, Ends, TakesLine}
-use Rattle.tables.proofs.Keys.{table-plain}
+use Rattle.tables.specs.inside.Stands.{begun, stageOf, reader, On, TakesLine}
 
 module _ (ranked : Bool) (text : List ℕ) where
   -- all that is to be read
   abbrev pub all : Verdict Stage
   all = read (table ranked) at-board text
 
+  -- where the loop is, with its measure, and after a turn
   abbrev pub Standing : Progress → List ℕ → ℕ → Type 0
-  Standing p ns left = Loops.Standing reader (On ranked) (table ranked) (table-plain ranked) at-board text (p, ns) left
+  Standing p ns left = Loops.Standing reader (On ranked) (table ranked) at-board text (p, ns) left
 
   abbrev pub Next : ℕ → Progress → List ℕ → Type 0
-  Next left q ms = Loops.Next reader (On ranked) (table ranked) (table-plain ranked) at-board text left (q, ms)
+  Next left q ms = Loops.Next reader (On ranked) (table ranked) at-board text left (q, ms)
 
   -- before the first line
   pub begins : (ns : List ℕ) → length ns ≡ lineCount → Standing (begun ranked) ns (suc (length text - 0))
@@ -30,17 +30,10 @@ module _ (ranked : Bool) (text : List ℕ) where
       Loops.goes refl
       (record { stands = (refl, record { long = e; line = refl; counted = refl }); same = refl })
 
-  module _ {p : Progress} {ns : List ℕ} {left : ℕ} (here : Standing p ns left) where
-    pub going : p .ended ≡ false → On ranked (p, ns)
-    going go =
-        Loops.going reader (On ranked) (table ranked) (table-plain ranked) at-board text here go .stands
-
-    pub finished : p .ended ≡ true → Ends all p ns
-    finished end = Loops.finished reader (On ranked) (table ranked) (table-plain ranked) at-board text here end
-
-    pub turn : p .ended ≡ false → (q : Progress) (ms : List ℕ) → TakesLine p text (p .offset) (p .line) ns q ms
-        → Next left q ms
-    turn go q ms t =
-        Loops.turn reader (On ranked) (table ranked) (table-plain ranked) at-board text here go (q, ms)
-        (subst (λ b. Takes reader (On b) (step (table b) text (stageOf (p .stand) ns) (p .offset) (p .line)) (q, ms))
-        (going go .0) t)
+  -- a turn
+  pub turn : {p : Progress} {ns : List ℕ} {left : ℕ} → Standing p ns left → p .ended ≡ false → (q : Progress)
+      (ms : List ℕ) → TakesLine p text (p .offset) (p .line) ns q ms → Next left q ms
+  turn {p} {ns} here go q ms t =
+      Loops.turn here go (q, ms)
+      (subst (λ b. Takes reader (On b) (step (table b) text (stageOf (p .stand) ns) (p .offset) (p .line)) (q, ms))
+      (Loops.going here go .stands .0) t)
