@@ -1,13 +1,13 @@
 -- A test is true or false, joined tests are taken apart and put together, and a range's test gives its two bounds.
 use mathlib.Core.Path.{_≡_, refl, sym}
-use mathlib.Core.Bool.{Bool, true, false, _&&_, _||_}
+use mathlib.Core.Bool.{Bool, true, false, _&&_, _||_, not}
 use mathlib.Core.List.{List, [], _∷_, _++_}
 use mathlib.Core.Logic.{_⊎_, inl, inr}
 use Prim.Native.Nat.{ℕ, _≤_, _<_}
 use native.Mathlib.Omega.{arith}
 use lib.Dec.{leb, eqb}
-use borrow.Author.Tests.{leb-true, leb-false, le-leb, eqb-false, ne-eqb}
-use Rattle.basics.specs.Basics.{within, isIn}
+use borrow.Author.Tests.{leb-true, leb-false, le-leb, eqb-false, ne-eqb, not-true}
+use Rattle.basics.specs.Basics.{pick, within, isIn, distinct}
 
 -- a test's value with its equation
 pub test-of : (b : Bool) → (b ≡ true) ⊎ (b ≡ false)
@@ -48,6 +48,15 @@ pub or-right : (a b : Bool) → b ≡ true → (a || b) ≡ true
 or-right true b e = refl
 or-right false b e = e
 
+-- ---- a test that refuses by a number, 0 for none: what was not refused has passed
+pub not-refused : (b : Bool) (n : ℕ) → 0 < n → pick b n 0 ≡ 0 → b ≡ false
+not-refused true n some e = absurd (omega arith)
+not-refused false n some e = refl
+
+pub let-through : (b : Bool) (n : ℕ) → 0 < n → pick b 0 n ≡ 0 → b ≡ true
+let-through true n some e = refl
+let-through false n some e = absurd (omega arith)
+
 -- ---- numbers
 pub le-or-lt : (a b : ℕ) → (a ≤ b) ⊎ (b < a)
 le-or-lt a b = elim (test-of (leb a b)) [ inl e ↦ inl (leb-true a b e) | inr e ↦ inr (leb-false a b e) ]
@@ -72,3 +81,11 @@ eqb-swap x y e = ne-eqb y x (λ h. eqb-false x y e (sym h))
 pub in-append : (x : ℕ) (s t : List ℕ) → isIn x (s ++ t) ≡ (isIn x s || isIn x t)
 in-append x [] t = refl
 in-append x (y ∷ s) t = elim (test-of (eqb x y)) [ inl e ↦ rw e | inr e ↦ rw e (in-append x s t) ]
+
+pub distinct-last : (xs : List ℕ) (x : ℕ) → distinct xs ≡ true → isIn x xs ≡ false → distinct (xs ++ (x ∷ [])) ≡ true
+distinct-last [] x e h = refl
+distinct-last (y ∷ xs) x e h =
+    let new = not-true (isIn y xs) (and-left (not (isIn y xs)) (distinct xs) e) in
+    let o = or-neither (eqb x y) (isIn x xs) h in
+    rw (in-append y xs (x ∷ []), new, eqb-swap x y (o .0))
+    (distinct-last xs x (and-right (not (isIn y xs)) (distinct xs) e) (o .1))

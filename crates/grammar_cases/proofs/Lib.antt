@@ -1,5 +1,4 @@
 -- Laws of the toy text, cases of it and of a table, and that a table reads as it did.
-pub mod Passing
 pub mod ToyLines
 pub mod ToyCases
 pub mod TableCases

@@ -15,16 +15,15 @@ use Rattle.text.specs.Text.{bytes}
 use Rattle.text.specs.Lines.{lineAt, refusal, place}
 use Rattle.text.specs.declared.Line.{Line}
 use Rattle.text.specs.declared.Line.the-variants as L
-use Rattle.text.proofs.Lines.{Answers, tells, refuses, line-answers}
 use Rattle.grammars.specs.Forms.{natural}
 use Rattle.grammars.specs.Grammars.{a-line, Step, onStep, step, readFrom}
 use Rattle.grammars.specs.inside.Answers.{unless, tested, onAnswer}
 use Rattle.grammars.proofs.Answers.{no-test}
 use Rattle.grammars.proofs.Steps.{read-steps}
-use Rattle.grammars.proofs.Naturals.{step-line}
-use Rattle.rows.specs.Rows.{minTask, maxTask, minTasks, maxTasks, hasTask}
+use Rattle.grammars.proofs.Naturals.{step-line, Settled, a-number, a-refusal, settled}
+use Rattle.rows.specs.Rows.{minTask, maxTask, minTasks, maxTasks, fieldCount, rowOf, hasTask}
 use Rattle.rows.specs.declared.Row.{Row}
-use Rattle.tables.specs.TableLines.{minBoard, maxBoard, fieldCount, rowLineAt, rowOf, newRank}
+use Rattle.tables.specs.TableLines.{minBoard, maxBoard, rowLineAt, newRank}
 use Rattle.tables.specs.TableLines.{Stage, at-board, at-tasks, at-field, at-rank, at-end, ranksStage, rowsStage}
 use Rattle.tables.specs.TableLines.{expected, fault, after, table, TableRead, turnedDown, onVerdict, readTable}
 use Rattle.grammar_cases.specs.Nested.{onNumber, crossAt, fieldAt, rankAt, ranksFrom}
@@ -58,21 +57,6 @@ on-number test f k h (L.Number v next) = h v (L.Number v next)
 on-number test f k h L.End = refl
 on-number test f k h (L.Refused n j) = refl
 
--- ---- a tested line has a number or a refusal
-data Told : Line → Type 0 where
-  a-number : (v next : ℕ) → Told (L.Number v next)
-  a-refusal : (n k : ℕ) → Told (L.Refused (suc n) k)
-
--- whatever its test is
-told : {low high : ℕ} {text : List ℕ} {at k : ℕ} {l : Line} (f : ℕ → ℕ) → Answers low high text at k l
-    → Told (tested f l k)
-told {k = k} f (tells v next w h i) = by (f v)
-  where
-    by : (n : ℕ) → Told (unless n (L.Number v next) k)
-    by zero = a-number v next
-    by (suc n) = a-refusal n k
-told {k = k} f (refuses n) = a-refusal n k
-
 module _ (ranked : Bool) (text : List ℕ) where
   -- what the grammar answers from a stage's line on
   abbrev from : Stage → ℕ → ℕ → TableRead
@@ -96,11 +80,11 @@ module _ (ranked : Bool) (text : List ℕ) where
   line-same s key low high at k x l is F goes stops =
       from-steps s at k
       ∙ ap onward (step-line (table ranked) text s at k key low high x)
-      ∙ by _ (told (fault s) (line-answers key low high text at k))
+      ∙ by _ (settled (fault s) key low high text at k)
       ∙ ap F (sym is)
     where
-      by : (l : Line) → Told l → onward (onAnswer (table ranked) s k l) ≡ F l
-      by l (a-number v next) = goes v next
+      by : (l : Line) → Settled low high l → onward (onAnswer (table ranked) s k l) ≡ F l
+      by l (a-number v next w) = goes v next
       by l (a-refusal n j) = stops n j
 
   -- n rank lines and the end

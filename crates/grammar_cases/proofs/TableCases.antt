@@ -4,13 +4,13 @@ use mathlib.Core.Bool.{true, false}
 use mathlib.Core.List.{List, [], _∷_}
 use Prim.Native.Nat.{ℕ}
 use Prim.Native.String.{String}
+use Rattle.text.specs.Text.{lined}
 use Rattle.text.specs.Lines.{lineAt, numberOf}
 use Rattle.grammars.specs.Forms.{formAt}
 use Rattle.grammars.specs.Grammars.{readFor}
 use Rattle.rows.specs.Rows.{row}
 use Rattle.rows.specs.declared.Row.{Row}
 use Rattle.tables.specs.TableLines.{readTable, tableOf, turnedDown}
-use Rattle.grammar_cases.specs.Quoted.{lined}
 use Rattle.grammar_cases.specs.Nested.{nested}
 
 -- the table with another line for its third task, and lines behind it

@@ -3,10 +3,10 @@ use mathlib.Core.Path.{_≡_, refl}
 use mathlib.Core.List.{List, [], _∷_}
 use Prim.Native.String.{String}
 use lib.IntN.{pos, negsuc}
+use Rattle.text.specs.Text.{lined}
 use Rattle.text.specs.Lines.{lineAt, numberOf}
 use Rattle.grammars.specs.Forms.{formAt}
 use Rattle.grammars.specs.Grammars.{Verdict, accepted, refused, readFor, read}
-use Rattle.grammar_cases.specs.Quoted.{lined}
 use Rattle.grammar_cases.specs.ToyLines.{Stage, at-count, at-end, toy}
 
 abbrev reads : List String → Verdict Stage

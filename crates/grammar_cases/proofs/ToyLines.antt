@@ -1,7 +1,6 @@
 -- The toy text's laws, each by the law that every grammar has: a text is accepted as it is written or refused for its
 -- reason, the marks of an accepted text rise, and what is written reads back.
 use mathlib.Core.Path.{_≡_, refl, sym, ap, subst}
-use mathlib.Core.Bool.{Bool, true, false}
 use mathlib.Core.List.{List, [], _∷_, _++_, append-assoc, append-nil}
 use Prim.Native.Nat.{ℕ, zero, suc, _≤_, _<_}
 use native.Mathlib.Omega.{arith}
@@ -10,7 +9,7 @@ use lib.IntN.{ℤ, pos}
 use lib.ListN.{length}
 use borrow.Author.Tests.{lt-ltb, ltb-true}
 use Rattle.basics.specs.Basics.{pick}
-use Rattle.basics.proofs.Tests.{within-true}
+use Rattle.basics.proofs.Tests.{let-through, within-true}
 use Rattle.text.specs.Text.{bytes, signed}
 use Rattle.grammars.specs.Forms.{size}
 use Rattle.grammars.specs.Grammars.{Plain, accepted, read}
@@ -18,12 +17,11 @@ use Rattle.grammars.specs.Reasons.{Passes}
 use Rattle.grammars.specs.Claims.{Decides, Writes, done, then}
 use Rattle.grammars.proofs.Decided.{decides}
 use Rattle.grammars.proofs.Invariants.{Invariant, accepted-holds}
-use Rattle.grammars.proofs.Naturals.{natural-passes}
+use Rattle.grammars.proofs.Naturals.{natural-passes, in-range-passes, integer-passes, passed-integer}
 use Rattle.grammars.proofs.Written.{reads-back}
 use Rattle.grammar_cases.specs.ToyLines.{maxMarks, minMark, maxMark, notAbove, Mark, lastFrom}
 use Rattle.grammar_cases.specs.ToyLines.{Stage, at-count, at-mark, at-drift, at-end, marksStage, after, toy}
 use Rattle.grammar_cases.specs.ToyLines.{Above, Rising, none, next, marksText, toyText}
-use Rattle.grammar_cases.proofs.Passing.{in-range-passes, integer-passes, passed-integer}
 
 -- no key has a line feed
 plain : Plain toy
@@ -54,11 +52,6 @@ marks-known : (n : ℕ) (ms : List Mark) → Rising 0 ms → Known (marksStage n
 marks-known zero ms h = h
 marks-known (suc n) ms h = h
 
--- a number that was not refused passed its test
-let-through : (b : Bool) → pick b 0 notAbove ≡ 0 → b ≡ true
-let-through true e = refl
-let-through false e = absurd (omega arith)
-
 -- every number that passes keeps what is known
 known : Invariant toy at-count Known
 known = record { begins = tt; keeps = keeps }
@@ -66,7 +59,7 @@ known = record { begins = tt; keeps = keeps }
     keeps : (s : Stage) (key : List ℕ) (z : ℤ) → Known s → Passes toy s key z → Known (after s z)
     keeps at-count key z h p = marks-known (size z) [] none
     keeps (at-mark n ms) key z h p =
-        let test = let-through (ltb (lastFrom 0 ms) (size z)) (p .no-fault) in
+        let test = let-through (ltb (lastFrom 0 ms) (size z)) notAbove (omega arith) (p .no-fault) in
         let passed = natural-passes p (bytes "mark=") minMark maxMark refl in
         let between = within-true minMark maxMark (size z) (passed .between) in
         (h, ltb-true (lastFrom 0 ms) (size z) test, between .le-high)

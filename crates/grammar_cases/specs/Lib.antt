@@ -1,4 +1,3 @@
 -- A next text at the price of a page, and the reading of a table before it was a grammar.
-pub mod Quoted
 pub mod ToyLines
 pub mod Nested

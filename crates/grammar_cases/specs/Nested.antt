@@ -10,9 +10,9 @@ use Rattle.text.specs.Text.{bytes}
 use Rattle.text.specs.Lines.{lineAt, refusal, place}
 use Rattle.text.specs.declared.Line.{Line}
 use Rattle.text.specs.declared.Line.the-variants as L
-use Rattle.rows.specs.Rows.{minTask, maxTask, minTasks, maxTasks, hasTask}
+use Rattle.rows.specs.Rows.{minTask, maxTask, minTasks, maxTasks, fieldCount, rowOf, hasTask}
 use Rattle.rows.specs.declared.Row.{Row}
-use Rattle.tables.specs.TableLines.{minBoard, maxBoard, fieldCount, rowLineAt, rowOf, TableRead, turnedDown, tableOf}
+use Rattle.tables.specs.TableLines.{minBoard, maxBoard, rowLineAt, TableRead, turnedDown, tableOf}
 
 -- what is done with the number of a line and the offset after it, or else with any other answer
 abbrev pub onNumber : {A : Type 0} → Line → (ℕ → ℕ → A) → A → A

@@ -1,17 +1,13 @@
 -- One line of a reading: it moves on past a byte at least, so the fuel never decides, and what is read from a line on
 -- is what is read after it.
 use mathlib.Core.Path.{_≡_, refl, ap, _∙_}
-use mathlib.Core.Bool.{_&&_}
 use mathlib.Core.List.{List, _++_}
 use mathlib.Core.Logic.{inl, inr}
-use Prim.Native.Nat.{ℕ, zero, suc, _+_, _-_, _≤_, _<_}
+use Prim.Native.Nat.{ℕ, zero, suc, _-_, _≤_, _<_}
 use native.Mathlib.Omega.{arith}
-use lib.Dec.{ltb}
 use lib.IntN.{ℤ}
-use lib.ListN.{length, drop, length-drop}
-use borrow.Author.Tests.{ltb-true}
-use Rattle.basics.specs.Basics.{within}
-use Rattle.basics.proofs.Tests.{test-of, and-left}
+use lib.ListN.{length, drop}
+use Rattle.basics.proofs.Tests.{test-of}
 use Rattle.text.specs.Lines.{begins, lineAt}
 use Rattle.text.specs.declared.Line.{Line}
 use Rattle.text.specs.declared.Line.the-variants as L
@@ -81,6 +77,10 @@ pub data Stepped {S : Type 0} (x : Step S) : Type 0 where
 pub stepped : {S : Type 0} (x : Step S) → Stepped x
 stepped (goes-on t next j) = went t next j refl
 stepped (stops o) = stopped o refl
+
+-- what is expected is a line or the end, and a step goes on or stops
+pub no-line : {A : Type 0} {key : List ℕ} {form : Form} → a-line key form ≡ the-end → A
+no-line e = let z : _≡_ {A = ℕ} 0 1 = cc in absurd (omega arith)
 
 pub not-both : {S A : Type 0} {o : Verdict S} {t : S} {next j : ℕ} → stops o ≡ goes-on t next j → A
 not-both e = let z : _≡_ {A = ℕ} 0 1 = cc in absurd (omega arith)

@@ -1,2 +1,3 @@
 -- What functions promise each other.
 pub mod Answers
+pub mod Readers

@@ -7,7 +7,7 @@ use mathlib.Core.Option.{Option, none, some}
 use Prim.Native.Nat.{ℕ}
 use Prim.Native.String.{String}
 use lib.IntN.{ℤ, pos, negsuc}
-use Rattle.text.specs.Text.{bytes, lineFeed}
+use Rattle.text.specs.Text.{lined}
 use Rattle.rows.specs.Rows.{row, tasksOf}
 use Rattle.rows.specs.declared.Row.{Row}
 use Rattle.responses.specs.Figures.{latest, isLate, earliest, jitter, margin}
@@ -48,11 +48,6 @@ Holds (reviewer text output) = reviewerPrints text ≡ output
 abbrev pub AllHold : List Case → Type 0
 AllHold [] = Unit {0}
 AllHold (c ∷ cs) = Holds c × AllHold cs
-
--- lines, each with its line feed
-abbrev pub lined : List String → List ℕ
-lined [] = []
-lined (s ∷ ss) = bytes s ++ (lineFeed ∷ lined ss)
 
 -- the paper's rows and table, with the betas of tasks 11, 12 and 13
 abbrev pub row11 : ℕ → Row

@@ -5,7 +5,7 @@ use mathlib.Core.List.{List, [], _∷_, _++_}
 use Prim.Native.Nat.{ℕ, suc, _<_}
 use Prim.Native.String.{String}
 use lib.ListN.{length}
-use Rattle.text.specs.Text.{bytes, decimal, keyLine}
+use Rattle.text.specs.Text.{bytes, lined, decimal, keyLine}
 use Rattle.rows.specs.Rows.{maxTasks}
 use Rattle.rows.specs.declared.Row.{Row}
 use Rattle.boards.specs.Claims.{NoneLate}
@@ -13,7 +13,7 @@ use Rattle.boards.specs.Witnesses.{exampleOrder}
 use Rattle.plans.specs.Entries.{entries}
 use Rattle.plans.specs.Plans.{planText}
 use Rattle.plans.specs.Outcomes.{writes, refuses}
-use Rattle.ranks.specs.Cases.{lined, row11, row12, row13, table}
+use Rattle.ranks.specs.Cases.{row11, row12, row13, table}
 use Rattle.tables.specs.Claims.{Tells, Fails}
 use Rattle.ranks.specs.Demands.{EveryOrderFails, ByRule, PlanDemands}
 use Rattle.ranks.specs.Demands.{Given, FirstLate, ReviewDemands}

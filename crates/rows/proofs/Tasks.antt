@@ -2,11 +2,17 @@
 use mathlib.Core.Path.{_≡_, refl, ap}
 use mathlib.Core.Bool.{Bool, true, false}
 use mathlib.Core.List.{List, [], _∷_, _++_}
-use Prim.Native.Nat.{ℕ, suc}
+use mathlib.Core.Logic.{inl, inr}
+use Prim.Native.Nat.{ℕ, zero, suc, _≤_}
+use native.Mathlib.Omega.{arith}
 use lib.Dec.{eqb}
 use lib.ListN.{length, getD}
+use borrow.Author.Tests.{eqb-true}
+use Rattle.basics.proofs.Tests.{never, and-left, and-right, or-cases}
 use Rattle.rows.specs.declared.Row.{Row}
-use Rattle.rows.specs.Rows.{noRow, tasksOf, positionOf, rowFor, rowsFor}
+use Rattle.rows.specs.Rows.{maxTask, noRow, inRange, allRows, tasksOf, hasTask, positionOf, rowFor, rowsFor, allTasks}
+use Rattle.rows.specs.inside.Numbers.{TaskNumbers}
+use Rattle.rows.proofs.Limits.{limits, head-passes, tail-passes}
 
 pub tasks-length : (rs : List Row) → length (tasksOf rs) ≡ length rs
 tasks-length [] = refl
@@ -16,7 +22,31 @@ pub tasks-last : (rs : List Row) (r : Row) → tasksOf (rs ++ (r ∷ [])) ≡ ta
 tasks-last [] r = refl
 tasks-last (x ∷ rs) r = ap (λ l. x .task ∷ l) (tasks-last rs r)
 
--- past the last row stands no row
+-- ---- tasks that some rows have
+pub all-tasks-last : (ts : List ℕ) (t : ℕ) (rs : List Row) → allTasks ts rs ≡ true → hasTask t rs ≡ true
+    → allTasks (ts ++ (t ∷ [])) rs ≡ true
+all-tasks-last [] t rs e h = rw h
+all-tasks-last (x ∷ ts) t rs e h =
+    rw (and-left (hasTask x rs) (allTasks ts rs) e)
+    (all-tasks-last ts t rs (and-right (hasTask x rs) (allTasks ts rs) e) h)
+
+-- those of rows in range are task numbers
+has-small : (t : ℕ) (rs : List Row) → hasTask t rs ≡ true → allRows inRange rs ≡ true → t ≤ maxTask
+has-small t [] h ok = never h
+has-small t (r ∷ rs) h ok =
+    elim (or-cases (eqb t (r .task)) (hasTask t rs) h) [
+      | inl e ↦
+          omega (arith, eqb-true t (r .task) e, limits r (head-passes inRange r rs ok) .task .le-high)
+      | inr e ↦ has-small t rs e (tail-passes inRange r rs ok)
+    ]
+
+pub all-small : (ts : List ℕ) (rs : List Row) → allTasks ts rs ≡ true → allRows inRange rs ≡ true → TaskNumbers ts
+all-small [] rs h ok i l = absurd (omega arith)
+all-small (t ∷ ts) rs h ok zero l = has-small t rs (and-left (hasTask t rs) (allTasks ts rs) h) ok
+all-small (t ∷ ts) rs h ok (suc i) l =
+    all-small ts rs (and-right (hasTask t rs) (allTasks ts rs) h) ok i (omega arith)
+
+-- ---- the row of a task; past the last row stands no row
 first-or : (b : Bool) (r : Row) (rs : List Row) (i : ℕ) (x : Row) → getD rs i noRow ≡ x
     → getD (r ∷ rs) (elim b [ true ↦ 0 | false ↦ suc i ]) noRow ≡ elim b [ true ↦ r | false ↦ x ]
 first-or true r rs i x e = refl

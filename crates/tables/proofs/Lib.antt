@@ -1,4 +1,5 @@
 -- Laws of tables as text, and of the reader's way through one.
+pub mod RowLines
 pub mod Keys
 pub mod Soundness
 pub mod Readings

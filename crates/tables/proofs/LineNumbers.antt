@@ -2,14 +2,15 @@
 -- them grows by that number.
 use mathlib.Core.Path.{_≡_, sym, ap, ap₂, _∙_}
 use mathlib.Core.List.{List, [], _∷_, _++_}
-use Prim.Native.Nat.{ℕ, suc, _+_, _*_, _≤_}
+use Prim.Native.Nat.{ℕ, suc, _*_, _≤_}
 use native.Mathlib.Omega.{arith}
-use lib.ListN.{length, take, drop, length-drop, take-append-drop}
+use lib.ListN.{length, take, drop, length-drop, take-append-drop, List·getD-append}
 use lib.Seq.{drop-drop, drop-append-le, length-take-le}
 use Rattle.rows.specs.Rows.{fieldCount, rowOf}
+use Rattle.rows.specs.declared.Row.{Row}
 use Rattle.rows.specs.inside.Numbers.{rowsOf}
 use Rattle.rows.proofs.RowNumbers.{rows-snoc, rows-kept}
-use Rattle.tables.specs.inside.Numbers.{headCount, rowStart, rowsIn}
+use Rattle.tables.specs.inside.Numbers.{headCount, rowStart, boardIn, rowsIn}
 
 -- the row that begins behind n rows
 pub rows-next : (ws : List ℕ) (n : ℕ) → rowsIn (suc n) ws ≡ rowsIn n ws ++ (rowOf (drop (rowStart n) ws) ∷ [])
@@ -17,14 +18,23 @@ rows-next ws n =
     rows-snoc n (drop headCount ws)
     ∙ ap (λ xs. rowsIn n ws ++ (rowOf xs ∷ [])) (drop-drop (fieldCount * n) headCount ws)
 
+pub board-stays : (ws ys : List ℕ) → 1 ≤ length ws → boardIn (ws ++ ys) ≡ boardIn ws
+board-stays ws ys h = List·getD-append ws ys 0 0 h
+
 module _ (ws ys : List ℕ) (n : ℕ) (h : rowStart n ≤ length ws) where
   pub rows-stay : rowsIn n (ws ++ ys) ≡ rowsIn n ws
   rows-stay =
       ap (rowsOf n) (drop-append-le headCount ws ys (omega arith))
       ∙ rows-kept n (drop headCount ws) ys (omega (arith, length-drop headCount ws))
 
-  pub behind-grows : drop (rowStart n) (ws ++ ys) ≡ drop (rowStart n) ws ++ ys
+  behind-grows : drop (rowStart n) (ws ++ ys) ≡ drop (rowStart n) ws ++ ys
   behind-grows = drop-append-le (rowStart n) ws ys h
+
+  -- whatever is made of the three
+  pub grows : {A : Type 0} (F : ℕ → List Row → List ℕ → A)
+      → F (boardIn (ws ++ ys)) (rowsIn n (ws ++ ys)) (drop (rowStart n) (ws ++ ys))
+      ≡ F (boardIn ws) (rowsIn n ws) (drop (rowStart n) ws ++ ys)
+  grows F = rw (board-stays ws ys (omega arith), rows-stay, behind-grows)
 
   -- the last number of a row makes one row more
   pub row-made : rowsIn (suc n) (ws ++ ys) ≡ rowsIn n ws ++ (rowOf (drop (rowStart n) ws ++ ys) ∷ [])

@@ -1,26 +1,18 @@
 -- Every text is accepted as it is written, or refused for its reason: as every grammar decides, and since a table's
 -- reading ends at its last line only.
 use mathlib.Core.Path.{_≡_, refl, sym, ap, _∙_, subst}
-use mathlib.Core.Bool.{Bool, true, false, _&&_, not}
-use mathlib.Core.List.{List, [], _∷_}
-use mathlib.Core.Logic.{inl, inr}
-use Prim.Native.Nat.{ℕ, zero, suc}
+use mathlib.Core.Bool.{Bool}
+use mathlib.Core.List.{List}
+use Prim.Native.Nat.{ℕ}
 use native.Mathlib.Omega.{arith}
-use lib.Dec.{ltb}
-use lib.ListN.{length, getD}
-use Rattle.basics.specs.Basics.{pick, isIn}
-use Rattle.basics.proofs.Tests.{test-of, never}
-use Rattle.grammars.specs.Forms.{size}
 use Rattle.grammars.specs.Grammars.{the-end, Verdict, accepted, refused}
 use Rattle.grammars.specs.Grammars as Grammars
-use Rattle.grammars.specs.Reasons.{Refused, trailing, missing, malformed, out-of-range, faulty}
 use Rattle.grammars.specs.Claims.{Decides}
+use Rattle.grammars.proofs.Steps.{no-line}
 use Rattle.grammars.proofs.Decided.{decides, refused-some}
 use Rattle.grammars.proofs.Invariants.{holds}
-use Rattle.rows.specs.Rows.{hasTask}
 use Rattle.rows.specs.declared.Row.{Row}
-use Rattle.tables.specs.TableLines.{anyNumber, newTask, atMost, newRank, RowLine, rowLine, rowLines, rowLineAt}
-use Rattle.tables.specs.TableLines.{Stage, at-board, at-tasks, at-field, at-rank, at-end, expected, fault, table}
+use Rattle.tables.specs.TableLines.{Stage, at-board, at-tasks, at-field, at-rank, at-end, expected, table}
 use Rattle.tables.specs.TableLines.{TableRead, turnedDown, tableOf, onVerdict, readTable}
 use Rattle.tables.specs.Claims.{Accepted, Tells, Fails, Read}
 use Rattle.tables.proofs.Keys.{table-plain}
@@ -31,10 +23,10 @@ pub data Ending : Stage → Type 0 where
   at-last : (b : ℕ) (rs : List Row) (os : List ℕ) → Ending (at-end b rs os)
 
 pub ending : (s : Stage) → expected s ≡ the-end → Ending s
-ending at-board e = let no-end : _≡_ {A = ℕ} 0 1 = cc in absurd (omega arith)
-ending (at-tasks b) e = let no-end : _≡_ {A = ℕ} 0 1 = cc in absurd (omega arith)
-ending (at-field n b rs vs) e = let no-end : _≡_ {A = ℕ} 0 1 = cc in absurd (omega arith)
-ending (at-rank n b rs os) e = let no-end : _≡_ {A = ℕ} 0 1 = cc in absurd (omega arith)
+ending at-board e = no-line e
+ending (at-tasks b) e = no-line e
+ending (at-field n b rs vs) e = no-line e
+ending (at-rank n b rs os) e = no-line e
 ending (at-end b rs os) e = at-last b rs os
 
 module _ (ranked : Bool) (text : List ℕ) where

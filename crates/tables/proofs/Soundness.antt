@@ -12,56 +12,25 @@ use lib.IntN.{ℤ}
 use lib.ListN.{length, getD, take, length-append, List·getD-append}
 use lib.Seq.{take-append-le, take-at, getD-at, getD-take}
 use borrow.Author.Tests.{eq-eqb, eqb-true, eqb-false, not-true, ltb-false}
-use Rattle.basics.specs.Basics.{pick, within, isIn, distinct}
-use Rattle.basics.proofs.Tests.{test-of, true-not-false, never, and-left, and-right, or-neither, le-or-lt}
-use Rattle.basics.proofs.Tests.{Within, within-true, eqb-swap, in-append}
+use Rattle.basics.specs.Basics.{within, isIn, distinct}
+use Rattle.basics.proofs.Tests.{test-of, true-not-false, never, and-left, and-right, le-or-lt}
+use Rattle.basics.proofs.Tests.{Within, within-true, not-refused, let-through, distinct-last}
 use Rattle.text.specs.Text.{bytes}
 use Rattle.grammars.specs.Forms.{size}
 use Rattle.grammars.specs.Reasons.{Passes}
+use Rattle.grammars.proofs.Steps.{no-line}
 use Rattle.grammars.proofs.Invariants.{Invariant}
 use Rattle.grammars.proofs.Naturals.{natural-passes}
-use Rattle.rows.specs.Rows.{minTask, maxTask, minTicks, maxTicks, minAlpha, maxAlpha, minBeta, maxBeta}
 use Rattle.rows.specs.Rows.{minTasks, maxTasks, inRange, allRows, tasksOf, hasTask, distinctRows, allTasks, isPossible}
 use Rattle.rows.specs.declared.Row.{Row}
-use Rattle.rows.proofs.Tasks.{tasks-last}
-use Rattle.rows.proofs.Limits.{in-range}
+use Rattle.rows.proofs.Tasks.{tasks-last, all-tasks-last}
+use Rattle.rows.proofs.Limits.{in-range, append-passes}
 use Rattle.rows.specs.Rows.{taskAt, periodAt, worstAt, bestAt, alphaAt, betaAt, fieldCount, rowOf}
-use Rattle.tables.specs.TableLines.{minBoard, maxBoard}
-use Rattle.tables.specs.TableLines.{rowLineAt, newTask, atMost, newRank}
+use Rattle.tables.specs.TableLines.{minBoard, maxBoard, exceeding, repeated, impossible}
+use Rattle.tables.specs.TableLines.{rowLineAt, atMost, newRank}
 use Rattle.tables.specs.TableLines.{Stage, at-board, at-tasks, at-field, at-rank, at-end, ranksStage, rowsStage}
 use Rattle.tables.specs.TableLines.{fault, after, table, tableOf}
 use Rattle.tables.specs.Claims.{Accepted}
-
--- ---- lists with one more at the end
-distinct-last : (xs : List ℕ) (x : ℕ) → distinct xs ≡ true → isIn x xs ≡ false → distinct (xs ++ (x ∷ [])) ≡ true
-distinct-last [] x e h = refl
-distinct-last (y ∷ xs) x e h =
-    let new = not-true (isIn y xs) (and-left (not (isIn y xs)) (distinct xs) e) in
-    let o = or-neither (eqb x y) (isIn x xs) h in
-    rw (in-append y xs (x ∷ []), new, eqb-swap x y (o .0))
-    (distinct-last xs x (and-right (not (isIn y xs)) (distinct xs) e) (o .1))
-
-all-rows-last : (f : Row → Bool) (rs : List Row) (r : Row) → allRows f rs ≡ true → f r ≡ true
-    → allRows f (rs ++ (r ∷ [])) ≡ true
-all-rows-last f [] r e h = rw h
-all-rows-last f (x ∷ rs) r e h =
-    rw (and-left (f x) (allRows f rs) e) (all-rows-last f rs r (and-right (f x) (allRows f rs) e) h)
-
-all-tasks-last : (os : List ℕ) (v : ℕ) (rs : List Row) → allTasks os rs ≡ true → hasTask v rs ≡ true
-    → allTasks (os ++ (v ∷ [])) rs ≡ true
-all-tasks-last [] v rs e h = rw h
-all-tasks-last (x ∷ os) v rs e h =
-    rw (and-left (hasTask x rs) (allTasks os rs) e)
-    (all-tasks-last os v rs (and-right (hasTask x rs) (allTasks os rs) e) h)
-
--- ---- a test that refuses nothing has passed
-not-refused : (b : Bool) (n : ℕ) → pick b (suc n) 0 ≡ 0 → b ≡ false
-not-refused true n e = absurd (omega arith)
-not-refused false n e = refl
-
-let-through : (b : Bool) (n : ℕ) → pick b 0 (suc n) ≡ 0 → b ≡ true
-let-through true n e = refl
-let-through false n e = absurd (omega arith)
 
 -- ---- what is known at each stage
 -- the rows so far, of n in all
@@ -117,7 +86,7 @@ module _ (rs : List Row) where
     at-most i j h l is =
         let passed = sym is ∙ g i (omega arith) .no-fault in
         let limit = getD-take i vs j 0 h in
-        let test = not-refused (ltb (getD (take i vs) j 0) (getD vs i 0)) 3 passed in
+        let test = not-refused (ltb (getD (take i vs) j 0) (getD vs i 0)) exceeding (omega arith) passed in
         omega (arith, limit, ltb-false (getD (take i vs) j 0) (getD vs i 0) test)
 
     row-in-range : inRange (rowOf vs) ≡ true
@@ -136,7 +105,7 @@ module _ (rs : List Row) where
         })
 
     row-new : hasTask (rowOf vs .task) rs ≡ false
-    row-new = not-refused (hasTask (getD vs taskAt 0) rs) 4 (g taskAt (omega arith) .no-fault)
+    row-new = not-refused (hasTask (getD vs taskAt 0) rs) repeated (omega arith) (g taskAt (omega arith) .no-fault)
 
     -- and the rows with it are as the rows before it
     rows-next : (b n : ℕ) → Rows b (length rs + suc n) rs
@@ -144,7 +113,7 @@ module _ (rs : List Row) where
     rows-next b n h = record {
       board = h .board;
       count = subst (Within minTasks maxTasks) (omega (arith, length-append rs (rowOf vs ∷ []))) (h .count);
-      ranges = all-rows-last inRange rs (rowOf vs) (h .ranges) row-in-range;
+      ranges = append-passes inRange rs (rowOf vs ∷ []) (h .ranges) (rw row-in-range);
       once = ap distinct (tasks-last rs (rowOf vs)) ∙ distinct-last (tasksOf rs) (rowOf vs .task) (h .once) row-new;
     }
 
@@ -185,22 +154,19 @@ field-known ranked n b rs vs v h p =
     let ws = vs ++ (v ∷ []) in
     let long = length-append vs (v ∷ []) in
     let good = good-next rs vs v (h .good) p in
-    let next : Bool → Stage = λ last.
-    pick last (rowsStage ranked n b (rs ++ (rowOf ws ∷ []))) (at-field n b rs ws) in
     elim (test-of (eqb (length ws) fieldCount)) [
       | inl t ↦
           let whole = eqb-true (length ws) fieldCount t in
-          subst (λ x. Known ranked (next x)) (sym t)
-          (rows-known ranked n b (rs ++ (rowOf ws ∷ [])) (rows-next rs ws whole good b n (h .rows)))
+          rw t (rows-known ranked n b (rs ++ (rowOf ws ∷ [])) (rows-next rs ws whole good b n (h .rows)))
       | inr t ↦
           let short : length ws < fieldCount = omega (arith, h .short, eqb-false (length ws) fieldCount t) in
-          subst (λ x. Known ranked (next x)) (sym t) (record { rows = h .rows; short = short; good = good })
+          rw t (record { rows = h .rows; short = short; good = good })
     ]
 
 rank-known : (ranked : Bool) (n b : ℕ) (rs : List Row) (os : List ℕ) (v : ℕ) → Ranks ranked (suc n) b rs os
     → newRank rs os v ≡ 0 → Known ranked (ranksStage n b rs (os ++ (v ∷ [])))
 rank-known ranked n b rs os v h e =
-    let both = let-through (hasTask v rs && not (isIn v os)) 5 e in
+    let both = let-through (hasTask v rs && not (isIn v os)) impossible (omega arith) e in
     let new = not-true (isIn v os) (and-right (hasTask v rs) (not (isIn v os)) both) in
     ranks-known ranked n b rs (os ++ (v ∷ []))
     (record {
@@ -228,7 +194,4 @@ sound ranked = record { begins = tt; keeps = keeps }
         field-known ranked n b rs vs (size z) h
         (record { between = natural-passes p (l .key) (l .low) (l .high) refl .between; no-fault = p .no-fault })
     keeps (at-rank n b rs os) key z h p = rank-known ranked n b rs os (size z) h (p .no-fault)
-    keeps (at-end b rs os) key z h p =
-        let x = p .is-expected in
-        let no-line : _≡_ {A = ℕ} 0 1 = cc in
-        absurd (omega arith)
+    keeps (at-end b rs os) key z h p = no-line (sym (p .is-expected))

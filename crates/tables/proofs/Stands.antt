@@ -1,30 +1,28 @@
 -- Where the code stands shows the stage of the text's reading: the same line is expected, the same numbers are refused,
 -- and each number leads to the stand that shows the next stage.
-use mathlib.Core.Path.{_≡_, refl, sym, ap, ap₂, _∙_, subst}
+use mathlib.Core.Path.{_≡_, refl, sym, ap, ap₂, _∙_}
 use mathlib.Core.Bool.{Bool, true, false}
 use mathlib.Core.List.{List, [], _∷_, _++_}
 use mathlib.Core.Logic.{inl, inr}
-use Prim.Native.Nat.{ℕ, zero, suc, _+_, _-_, _*_, _≤_, _<_}
-use native.Mathlib.Numerals.{add-one}
+use Prim.Native.Nat.{ℕ, zero, suc, _+_, _≤_, _<_}
 use native.Mathlib.Omega.{arith}
-use lib.Dec.{eqb, ltb}
-use lib.ListN.{length, take, drop, length-append, length-drop, drop-of-length-le, List·getD-append}
+use lib.Dec.{eqb}
+use lib.ListN.{length, take, drop, length-append, length-drop, drop-of-length-le}
 use denote.Enum.Declared.{tagOf}
 use types.Run.{OneOf, miss}
-use borrow.Author.Tests.{eq-eqb, ne-eqb, eqb-true, eqb-false}
+use borrow.Author.Tests.{eqb-true, eqb-false}
 use Rattle.basics.specs.Basics.{pick}
-use Rattle.basics.proofs.Tests.{test-of, within-true}
+use Rattle.basics.proofs.Tests.{test-of}
 use Rattle.text.specs.Text.{bytes}
 use Rattle.text.specs.Lines.{lineAt}
 use Rattle.text.specs.declared.Line.{Line}
 use Rattle.text.specs.declared.Line.the-variants as L
 use Rattle.text.proofs.Line as T
-use Rattle.text.proofs.Lines.{Answers, tells, refuses, line-answers}
 use Rattle.grammars.specs.Grammars.{step}
-use Rattle.grammars.specs.inside.Answers.{unless, tested, onAnswer}
-use Rattle.grammars.proofs.Naturals.{step-line, step-end}
+use Rattle.grammars.specs.inside.Answers.{tested, onAnswer}
+use Rattle.grammars.proofs.Naturals.{number-within, no-number-at-end, step-line, step-end}
 use Rattle.rows.specs.Rows.{minTask, maxTask, minTasks, maxTasks}
-use Rattle.rows.specs.Rows.{fieldCount, rowOf}
+use Rattle.rows.specs.Rows.{fieldCount}
 use Rattle.tables.specs.declared.progress.Part.{Part}
 use Rattle.tables.specs.declared.progress.Part.the-variants as P
 use Rattle.tables.specs.declared.progress.Stand.{Stand}
@@ -34,42 +32,13 @@ use Rattle.tables.specs.inside.Numbers.{headCount, lineCount, rowStart, 
 use Rattle.tables.specs.inside.Stands.{fieldLine, lineHere, faultIn, stand, ranksNext, rowsNext, afterField}
 use Rattle.tables.specs.inside.Stands.{standAfter, readBy, Counted, stageIn, progress, endedBy}
 use Rattle.rows.proofs.RowNumbers.{rows-length, between-length}
-use Rattle.tables.proofs.LineNumbers.{rows-stay, rows-front, row-made, behind-grows}
+use Rattle.tables.proofs.LineNumbers.{board-stays, grows, row-made, rows-front}
 
--- ---- as the code's tests tell them
-pub ranks-some : (ranked : Bool) (count named left : ℕ) → (left ≡ 0 → ⊥)
-    → stand P.Rank ranked count (left - 1) named ≡ ranksNext ranked count named left
-ranks-some ranked count named zero h = absurd (h refl)
-ranks-some ranked count named (suc n) h = ap (λ m. stand P.Rank ranked count m named) (omega arith)
-
-pub rows-some : (ranked : Bool) (count left : ℕ) → (left ≡ 0 → ⊥)
-    → stand P.Row ranked count (left - 1) 0 ≡ rowsNext ranked count left
-rows-some ranked count zero h = absurd (h refl)
-rows-some ranked count (suc n) h = ap (λ m. stand P.Row ranked count m 0) (omega arith)
-
-module _ (s : Stand) where
-  abbrev last : Stand
-  last = rowsNext (s .ranked) (suc (s .count)) (s .left)
-
-  abbrev further : ℕ → Stand
-  further i = stand P.Row (s .ranked) (s .count) (s .left) i
-
-  pub field-last : s .position + 1 ≡ fieldCount → rowsNext (s .ranked) (s .count + 1) (s .left) ≡ afterField s
-  field-last e =
-      ap (λ n. rowsNext (s .ranked) n (s .left)) (add-one (s .count))
-      ∙ sym (ap (λ b. pick b last (further (suc (s .position))))
-      (eq-eqb (suc (s .position)) fieldCount (sym (add-one (s .position)) ∙ e)))
-
-  pub field-next : (s .position + 1 ≡ fieldCount → ⊥) → further (s .position + 1) ≡ afterField s
-  field-next h =
-      ap further (add-one (s .position))
-      ∙ sym (ap (λ b. pick b last (further (suc (s .position))))
-      (ne-eqb (suc (s .position)) fieldCount (λ e. h (add-one (s .position) ∙ e))))
-
-  pub ends-else : (l : Line) → OneOf (0 ∷ 1 ∷ []) (tagOf T.the-type l) → progress s true 0 0 0 ≡ endedBy s l
-  ends-else (L.Number v next) h = refl
-  ends-else L.End h = refl
-  ends-else (L.Refused n k) h = absurd (miss (0 ∷ 1 ∷ []) 2 tt h)
+-- a line that is neither a number nor refused is the end
+pub ends-else : (s : Stand) (l : Line) → OneOf (0 ∷ 1 ∷ []) (tagOf T.the-type l) → progress s true 0 0 0 ≡ endedBy s l
+ends-else s (L.Number v next) h = refl
+ends-else s L.End h = refl
+ends-else s (L.Refused n k) h = absurd (miss (0 ∷ 1 ∷ []) 2 tt h)
 
 -- ---- the step from a stage that is shown
 module _ (ranked : Bool) (text : List ℕ) (at k : ℕ) (s : Stand) (ns : List ℕ) (long : length ns ≡ lineCount) where
@@ -109,36 +78,30 @@ pub record Follows (ranked : Bool) (st : Stage) (read : ℕ) (t : Stand) (xs : L
   pub counted : Counted (t .part) t
   pub read-is : readBy (t .part) t ≡ read
 
+-- the stage and the count by other names
+renamed : {ranked : Bool} {st st′ : Stage} {n n′ : ℕ} {t : Stand} {xs : List ℕ} → Follows ranked st n t xs
+    → st ≡ st′ → n ≡ n′ → Follows ranked st′ n′ t xs
+renamed r e f =
+    record { asked = r .asked; shows = r .shows ∙ e; counted = r .counted; read-is = r .read-is ∙ f }
+
 module _ (ranked : Bool) (count : ℕ) (few : count ≤ maxTasks) (xs : List ℕ) where
-  ranks-follow : (named n : ℕ) → named + n ≤ count → (0 < n → named + n ≡ count)
+  ranks-follow : (named n : ℕ) → named + n ≤ count
       → Follows ranked (ranksStage n (boardIn xs) (rowsIn count xs) (drop (rowStart count) xs))
       (rowStart count + named) (ranksNext ranked count named n) xs
-  ranks-follow named zero l e = record { asked = refl; shows = refl; counted = (omega arith, few); read-is = refl }
-  ranks-follow named (suc n) l e =
-      record { asked = refl; shows = refl; counted = (e (omega arith), few); read-is = refl }
+  ranks-follow named zero l = record { asked = refl; shows = refl; counted = (omega arith, few); read-is = refl }
+  ranks-follow named (suc n) l = record { asked = refl; shows = refl; counted = (l, few); read-is = refl }
 
   rows-follow : (n : ℕ) → count + n ≤ maxTasks → length xs ≡ rowStart count
       → Follows ranked (rowsStage ranked n (boardIn xs) (rowsIn count xs)) (rowStart count) (rowsNext ranked count n) xs
   rows-follow zero l e =
       let none = drop-of-length-le xs {i = rowStart count} (omega arith) in
       let as-many = rows-length count (drop headCount xs) in
-      let r = ranks-follow 0 (pick ranked count 0) (at-most ranked) (all-of ranked) in
-      record {
-        asked = r .asked;
-        shows =
-            r .shows
-            ∙ ap₂ (λ m os. ranksStage (pick ranked m 0) (boardIn xs) (rowsIn count xs) os) (sym as-many) none;
-        counted = r .counted;
-        read-is = r .read-is ∙ omega arith;
-      }
+      renamed (ranks-follow 0 (pick ranked count 0) (at-most ranked))
+      (ap₂ (λ m os. ranksStage (pick ranked m 0) (boardIn xs) (rowsIn count xs) os) (sym as-many) none) (omega arith)
     where
       at-most : (b : Bool) → 0 + pick b count 0 ≤ count
       at-most true = omega arith
       at-most false = omega arith
-
-      all-of : (b : Bool) → 0 < pick b count 0 → 0 + pick b count 0 ≡ count
-      all-of true h = omega arith
-      all-of false h = absurd (omega arith)
   rows-follow (suc n) l e =
       let none = drop-of-length-le xs {i = rowStart count} (omega arith) in
       record {
@@ -152,69 +115,34 @@ module _ (ranked : Bool) (count left position : ℕ) (ws : List ℕ) (v : ℕ) w
   abbrev more : List ℕ
   more = ws ++ (v ∷ [])
 
-  board-stays : 1 ≤ length ws → boardIn more ≡ boardIn ws
-  board-stays h = List·getD-append ws (v ∷ []) 0 0 h
-
   field-follows : length ws ≡ rowStart count + position → position < fieldCount → count + suc left ≤ maxTasks
       → Follows ranked (after ranked (stageIn P.Row (stand P.Row ranked count left position) ws) v)
       (suc (rowStart count + position)) (afterField (stand P.Row ranked count left position)) more
   field-follows e h l =
       let vs = drop (rowStart count) ws in
-      let rs = rowsIn count ws in
       let long : length (vs ++ (v ∷ [])) ≡ suc position =
       length-append vs (v ∷ []) ∙ omega (arith, length-drop (rowStart count) ws) in
-      let same-board = board-stays (omega arith) in
-      let choose : Bool → Stage = λ b.
-      pick b (rowsStage ranked left (boardIn ws) (rs ++ (rowOf (vs ++ (v ∷ [])) ∷ [])))
-      (at-field left (boardIn ws) rs (vs ++ (v ∷ []))) in
-      let chosen : Bool → Stand = λ b.
-      pick b (rowsNext ranked (suc count) left) (stand P.Row ranked count left (suc position)) in
-      let test-is : eqb (length (vs ++ (v ∷ []))) fieldCount ≡ eqb (suc position) fieldCount =
-      ap (λ n. eqb n fieldCount) long in
-      subst (λ b. Follows ranked (choose b) (suc (rowStart count + position)) (chosen (eqb (suc position) fieldCount)) more)
-      (sym test-is)
+      rw long
       (elim (test-of (eqb (suc position) fieldCount)) [
         | inl t ↦
             let last = eqb-true (suc position) fieldCount t in
             let whole : length more ≡ rowStart (suc count) = length-append ws (v ∷ []) ∙ omega arith in
-            let r = rows-follow ranked (suc count) (omega arith) more left (omega arith) whole in
-            let there : rowStart (suc count) ≡ suc (rowStart count + position) = omega arith in
-            rw t (record {
-              asked = r .asked;
-              shows =
-                  r .shows
-                  ∙ ap₂ (rowsStage ranked left) same-board (row-made ws (v ∷ []) count (omega arith));
-              counted = r .counted;
-              read-is = r .read-is ∙ there;
-            })
+            rw t
+            (renamed (rows-follow ranked (suc count) (omega arith) more left (omega arith) whole)
+            (ap₂ (rowsStage ranked left) (board-stays ws (v ∷ []) (omega arith)) (row-made ws (v ∷ []) count (omega arith)))
+            (omega arith))
         | inr t ↦
             let on = eqb-false (suc position) fieldCount t in
-            rw t (record {
-              asked = refl;
-              shows =
-                  ap₂ (λ b qs. at-field left b qs (drop (rowStart count) more)) same-board
-                  (rows-stay ws (v ∷ []) count (omega arith))
-                  ∙ ap (at-field left (boardIn ws) rs) (behind-grows ws (v ∷ []) count (omega arith));
-              counted = (omega arith, l);
-              read-is = omega arith;
-            })
+            let shows = grows ws (v ∷ []) count (omega arith) (at-field left) in
+            rw t (record { asked = refl; shows = shows; counted = (omega arith, l); read-is = omega arith })
       ])
 
-  rank-follows : length ws ≡ rowStart count + position → position + suc left ≡ count → count ≤ maxTasks
+  rank-follows : length ws ≡ rowStart count + position → position + suc left ≤ count → count ≤ maxTasks
       → Follows ranked (after ranked (stageIn P.Rank (stand P.Rank ranked count left position) ws) v)
       (suc (rowStart count + position)) (ranksNext ranked count (suc position) left) more
   rank-follows e h l =
-      let r = ranks-follow ranked count l more (suc position) left (omega arith) (λ some. omega arith) in
-      record {
-        asked = r .asked;
-        shows =
-            r .shows
-            ∙ ap₂ (λ b qs. ranksStage left b qs (drop (rowStart count) more)) (board-stays (omega arith))
-            (rows-stay ws (v ∷ []) count (omega arith))
-            ∙ ap (ranksStage left (boardIn ws) (rowsIn count ws)) (behind-grows ws (v ∷ []) count (omega arith));
-        counted = r .counted;
-        read-is = r .read-is ∙ omega arith;
-      }
+      renamed (ranks-follow ranked count l more (suc position) left (omega arith))
+      (grows ws (v ∷ []) count (omega arith) (ranksStage left)) (omega arith)
 
 -- what a number has to be, beside what the numbers before it say
 abbrev pub Taken : Part → ℕ → Type 0
@@ -230,23 +158,11 @@ pub stand-follows : (p : Part) (ranked : Bool) (count left position : ℕ) (ws :
     → Follows ranked (after ranked (stageIn p s ws) v) (suc (readBy p s)) (standAfter p s v) (ws ++ (v ∷ []))
 stand-follows P.Board ranked count left position ws v e h w =
     let none = drop-of-length-le ws {i = 0} (omega arith) in
-    record {
-      asked = refl;
-      shows = ap (λ xs. at-tasks (boardIn (xs ++ (v ∷ [])))) none;
-      counted = refl;
-      read-is = refl;
-    }
+    record { asked = refl; shows = ap (λ xs. at-tasks (boardIn (xs ++ (v ∷ [])))) none; counted = refl; read-is = refl }
 stand-follows P.Tasks ranked count left position ws v e h w =
     let long : length (ws ++ (v ∷ [])) ≡ rowStart 0 = length-append ws (v ∷ []) ∙ omega arith in
-    let r = rows-follow ranked 0 (omega arith) (ws ++ (v ∷ [])) v (omega arith) long in
-    record {
-      asked = r .asked;
-      shows =
-          r .shows
-          ∙ ap (λ b. rowsStage ranked v b []) (board-stays ranked count left position ws v (omega arith));
-      counted = r .counted;
-      read-is = r .read-is;
-    }
+    renamed (rows-follow ranked 0 (omega arith) (ws ++ (v ∷ [])) v (omega arith) long)
+    (ap (λ b. rowsStage ranked v b []) (board-stays ws (v ∷ []) (omega arith))) refl
 stand-follows P.Row ranked count left position ws v e h w =
     field-follows ranked count left position ws v e (h .0) (h .1)
 stand-follows P.Rank ranked count left position ws v e h w =
@@ -257,26 +173,8 @@ stand-follows P.End ranked count left position ws v e h w = absurd w
 pub answer-taken : (p : Part) (i : ℕ) (fault : ℕ → ℕ) (text : List ℕ) (at k v next : ℕ)
     → tested fault (lineHere p i text at k) k ≡ L.Number v next → Taken p v
 answer-taken P.Board i fault text at k v next e = tt
-answer-taken P.Tasks i fault text at k v next e = go _ (line-answers (bytes "tasks=") minTasks maxTasks text at k) e
-  where
-    kept : (n u past : ℕ) → unless n (L.Number u past) k ≡ L.Number v next → u ≡ v
-    kept zero u past h = cc
-    kept (suc n) u past h = let no-line : _≡_ {A = ℕ} 0 1 = cc in absurd (omega arith)
-
-    go : (l : Line) → Answers minTasks maxTasks text at k l → tested fault l k ≡ L.Number v next → v ≤ maxTasks
-    go l (tells u past w o i) h =
-        omega (arith, kept (fault u) u past h, within-true minTasks maxTasks u w .le-high)
-    go l (refuses n) h = let no-line : _≡_ {A = ℕ} 0 1 = cc in absurd (omega arith)
+answer-taken P.Tasks i fault text at k v next e =
+    number-within fault (bytes "tasks=") minTasks maxTasks text at k v next e .le-high
 answer-taken P.Row i fault text at k v next e = tt
 answer-taken P.Rank i fault text at k v next e = tt
-answer-taken P.End i fault text at k v next e =
-    elim (test-of (ltb at (length text))) [
-      | inl t ↦
-          let h : L.Refused 1 k ≡ L.Number v next = rw t at e in
-          let no-line : _≡_ {A = ℕ} 0 1 = cc in
-          omega arith
-      | inr t ↦
-          let h : L.End ≡ L.Number v next = rw t at e in
-          let no-line : _≡_ {A = ℕ} 0 1 = cc in
-          omega arith
-    ]
+answer-taken P.End i fault text at k v next e = no-number-at-end fault text at k v next e

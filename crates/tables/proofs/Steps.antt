@@ -1,6 +1,6 @@
 -- A line that the code takes in is the step of the text's reading: its number leads to the next stage and stands behind
 -- those before it, and any other answer ends the reading.
-use mathlib.Core.Path.{_≡_, refl, sym, ap, ap₂, _∙_, subst}
+use mathlib.Core.Path.{_≡_, refl, sym, ap, ap₂, _∙_}
 use mathlib.Core.Bool.{false}
 use mathlib.Core.List.{List, [], _∷_, _++_}
 use Prim.Native.Nat.{ℕ, suc, _+_, _-_, _≤_}
@@ -8,13 +8,12 @@ use native.Mathlib.Numerals.{add-one}
 use native.Mathlib.Omega.{arith}
 use lib.ListN.{length, take, set, length-set}
 use lib.Seq.{length-take-le, take-suc-set}
-use types.Run.{miss}
 use Rattle.text.specs.declared.Line.{Line}
 use Rattle.text.specs.declared.Line.the-variants as L
 use Rattle.grammars.specs.Grammars.{step}
 use Rattle.grammars.specs.inside.Answers.{tested, onAnswer}
 use Rattle.grammars.proofs.Answers.{NoNumber}
-use Rattle.grammars.proofs.Loops.{refused-here}
+use Rattle.grammars.proofs.Loops.{ends-by}
 use Rattle.tables.specs.declared.progress.Part.{Part}
 use Rattle.tables.specs.declared.progress.Part.the-variants as P
 use Rattle.tables.specs.declared.progress.Stand.{Stand}
@@ -22,7 +21,7 @@ use Rattle.tables.specs.declared.progress.Progress.{Progress}
 use Rattle.tables.specs.TableLines.{Stage, after, table}
 use Rattle.tables.specs.inside.Numbers.{lineCount}
 use Rattle.tables.specs.inside.Stands.{lineHere, faultIn, standAfter, readBy, Counted, stageIn, stageOf}
-use Rattle.tables.specs.inside.Stands.{Stands, progress, endedBy, Takes, TakesLine}
+use Rattle.tables.specs.inside.Stands.{Stands, progress, endedBy, reader, On, TakesLine}
 use Rattle.tables.proofs.Keys.{table-plain}
 use Rattle.tables.proofs.Stands.{step-shown, Follows, stand-follows, answer-taken}
 
@@ -53,18 +52,11 @@ module _ (p : Progress) (text : List ℕ) (at k : ℕ) (ns : List ℕ) (h : Stan
         ∙ ap (onAnswer (table (s .ranked)) here k) (sym is ∙ e)
 
     -- ---- no number: the reading ends
-    ends-so : (x : Line) → l ≡ x → NoNumber x → TakesLine p text at k ns (endedBy s x) ns
-    ends-so (L.Number v next) e none = absurd (miss (1 ∷ 2 ∷ []) 0 tt none)
-    ends-so L.End e none =
-        subst (λ w. Takes (s .ranked) w (endedBy s L.End) ns) (sym (step-is L.End e)) (refl, (refl, refl, h .counted, h .long))
-    ends-so (L.Refused n j) e none =
-        let some =
-        refused-here (table (s .ranked)) (table-plain (s .ranked)) text here at k n j (step-is (L.Refused n j) e) .0 in
-        subst (λ w. Takes (s .ranked) w (endedBy s (L.Refused n j)) ns) (sym (step-is (L.Refused n j) e))
-        (refl, (refl, refl, λ z. omega arith))
-
     pub takes-end : NoNumber l → (q : Progress) → q ≡ endedBy s l → TakesLine p text at k ns q ns
-    takes-end none q e = subst (λ x. TakesLine p text at k ns x ns) (sym e) (ends-so l refl none)
+    takes-end none q e =
+        rw e
+        (ends-by reader (On (s .ranked)) (table (s .ranked)) (table-plain (s .ranked)) text here at k l none
+        (step-is l refl) (endedBy s l, ns) refl refl refl refl (h .counted, h .long))
 
     -- ---- a number: the stage after it
     module _ (v next : ℕ) (e : l ≡ L.Number v next) where
@@ -95,19 +87,19 @@ module _ (p : Progress) (text : List ℕ) (at k : ℕ) (ns : List ℕ) (h : Stan
       pub takes-number : (t : Stand) → t ≡ there
           → TakesLine p text at k ns (progress t false 0 (k + 1) next) (set ns (k - 1) v)
       takes-number t same =
-          subst (λ x. TakesLine p text at k ns (progress x false 0 (k + 1) next) (set ns (k - 1) v)) (sym same)
-          (subst (λ x. Takes (s .ranked) x (progress there false 0 (k + 1) next) (set ns (k - 1) v))
-          (sym (step-is (L.Number v next) e)) (
+          rw (same, step-is (L.Number v next) e) (
             refl,
             record {
-              asked = follows .asked;
               shows = ap (stageIn (there .part) there) put-behind ∙ follows .shows;
-              stands = record {
-                long = length-set ns (k - 1) v ∙ h .long;
-                line = omega (arith, h .line, follows .read-is);
-                counted = follows .counted;
-              };
+              stands = (
+                follows .asked,
+                record {
+                  long = length-set ns (k - 1) v ∙ h .long;
+                  line = omega (arith, h .line, follows .read-is);
+                  counted = follows .counted;
+                },
+              );
               line = add-one k;
               offset = refl;
             },
-          ))
+          )

@@ -1,48 +1,32 @@
 -- The table that the code has read, once its reading has ended: the text's own, with the numbers of its lines.
 use mathlib.Core.Path.{_≡_, refl, sym, ap, ap₂, _∙_, subst}
-use mathlib.Core.Bool.{Bool, true, false, _&&_, _||_}
-use mathlib.Core.List.{List, [], _∷_}
-use mathlib.Core.Logic.{inl, inr}
-use Prim.Native.Nat.{ℕ, zero, suc, _+_, _≤_, _<_}
+use mathlib.Core.Bool.{Bool, true, false, _&&_}
+use mathlib.Core.List.{List}
+use Prim.Native.Nat.{ℕ, _+_, _≤_}
 use native.Mathlib.Omega.{arith}
 use lib.Dec.{eqb}
-use lib.ListN.{length, getD, take}
+use lib.ListN.{length, take}
 use lib.Seq.{getD-take}
-use borrow.Author.Tests.{eqb-true}
 use Rattle.basics.specs.Basics.{distinct}
-use Rattle.basics.proofs.Tests.{test-of, never, and-left, and-right, or-cases}
-use Rattle.grammars.specs.Grammars.{Verdict, accepted, refused}
-use Rattle.rows.specs.Rows.{maxTask, maxTasks, inRange, allRows, hasTask, allTasks}
+use Rattle.basics.proofs.Tests.{and-right}
+use Rattle.grammars.specs.Grammars.{the-end, Verdict, accepted, refused}
+use Rattle.grammars.proofs.Steps.{no-line}
+use Rattle.rows.specs.Rows.{maxTasks, allTasks}
 use Rattle.rows.specs.declared.Row.{Row}
 use Rattle.rows.specs.inside.Numbers.{TaskNumbers}
-use Rattle.rows.proofs.Limits.{limits, head-passes, tail-passes}
+use Rattle.rows.proofs.Tasks.{all-small}
 use Rattle.tables.specs.declared.progress.Part.{Part}
 use Rattle.tables.specs.declared.progress.Part.the-variants as P
 use Rattle.tables.specs.declared.progress.Stand.{Stand}
 use Rattle.tables.specs.declared.progress.Progress.{Progress}
-use Rattle.tables.specs.TableLines.{Stage, at-end, TableRead, turnedDown, tableOf, tableAt, readTable}
+use Rattle.tables.specs.TableLines.{Stage, at-end, expected, TableRead, turnedDown, tableOf, tableAt, readTable}
 use Rattle.tables.specs.Claims.{Accepted}
 use Rattle.tables.specs.inside.Numbers.{lineCount, rowStart, boardIn, rowsIn, behind}
-use Rattle.tables.specs.inside.Stands.{readBy, Counted, stageIn, stageOf, Ends}
-use Rattle.tables.proofs.Readings.{Ending, at-last, ending, verdict, decided, read-is, read}
+use Rattle.tables.specs.inside.Stands.{readBy, Counted, stageIn, Ends}
+use Rattle.tables.proofs.Readings.{verdict, decided, read-is, read}
 use Rattle.tables.proofs.LineNumbers.{rows-front}
 
--- ---- tasks of rows in range are task numbers
-has-small : (t : ℕ) (rs : List Row) → hasTask t rs ≡ true → allRows inRange rs ≡ true → t ≤ maxTask
-has-small t [] h ok = never h
-has-small t (r ∷ rs) h ok =
-    elim (or-cases (eqb t (r .task)) (hasTask t rs) h) [
-      | inl e ↦
-          omega (arith, eqb-true t (r .task) e, limits r (head-passes inRange r rs ok) .task .le-high)
-      | inr e ↦ has-small t rs e (tail-passes inRange r rs ok)
-    ]
-
-all-small : (os : List ℕ) (rs : List Row) → allTasks os rs ≡ true → allRows inRange rs ≡ true → TaskNumbers os
-all-small [] rs h ok i l = absurd (omega arith)
-all-small (t ∷ os) rs h ok zero l = has-small t rs (and-left (hasTask t rs) (allTasks os rs) h) ok
-all-small (t ∷ os) rs h ok (suc i) l =
-    all-small os rs (and-right (hasTask t rs) (allTasks os rs) h) ok i (omega arith)
-
+-- ---- the ranks of a sound table are task numbers
 ranks-small : (ranked : Bool) (a : TableRead) → Accepted ranked a → TaskNumbers (a .order)
 ranks-small true a h =
     let counts = eqb (length (a .order)) (length (a .rows)) && distinct (a .order) in
@@ -60,21 +44,18 @@ pub record Whole (ranked : Bool) (text : List ℕ) (s : Stand) (ns : List ℕ) :
   pub small : TaskNumbers (behind (s .count) (s .position) ns)
 
 shown-end : (p : Part) (s : Stand) (ns : List ℕ) → length ns ≡ lineCount → Counted p s
-    → (st : Stage) → Ending st → stageIn p s (take (readBy p s) ns) ≡ st
-    → (st ≡ at-end (boardIn ns) (rowsIn (s .count) ns) (behind (s .count) (s .position) ns))
+    → expected (stageIn p s (take (readBy p s) ns)) ≡ the-end
+    → (stageIn p s (take (readBy p s) ns) ≡ at-end (boardIn ns) (rowsIn (s .count) ns) (behind (s .count) (s .position) ns))
     × (s .position ≤ s .count) × (s .count ≤ maxTasks)
-shown-end P.Board s ns long h st (at-last b rs os) e = let no-end : _≡_ {A = ℕ} 0 1 = cc in absurd (omega arith)
-shown-end P.Tasks s ns long h st (at-last b rs os) e = let no-end : _≡_ {A = ℕ} 0 1 = cc in absurd (omega arith)
-shown-end P.Row s ns long h st (at-last b rs os) e = let no-end : _≡_ {A = ℕ} 0 1 = cc in absurd (omega arith)
-shown-end P.Rank s ns long h st (at-last b rs os) e = let no-end : _≡_ {A = ℕ} 0 1 = cc in absurd (omega arith)
-shown-end P.End s ns long h st (at-last b rs os) e =
+shown-end P.Board s ns long h e = no-line e
+shown-end P.Tasks s ns long h e = no-line e
+shown-end P.Row s ns long h e = no-line e
+shown-end P.Rank s ns long h e = no-line e
+shown-end P.End s ns long h e =
     let n = rowStart (s .count) + s .position in
     let board = getD-take n ns 0 0 (omega arith) in
-    let rows = rows-front (s .count) n ns (omega arith) (omega (arith, h .0, h .1)) in (
-      sym e ∙ ap₂ (λ d qs. at-end d qs (behind (s .count) (s .position) ns)) board rows,
-      h .0,
-      h .1,
-    )
+    let rows = rows-front (s .count) n ns (omega arith) (omega (arith, h .0, h .1)) in
+    (ap₂ (λ d qs. at-end d qs (behind (s .count) (s .position) ns)) board rows, h .0, h .1)
 
 module _ (ranked : Bool) (text : List ℕ) (p : Progress) (ns : List ℕ) (ends : Ends (verdict ranked text) p ns) where
   pub read-refused : (p .refused ≡ 0 → ⊥) → readTable ranked text ≡ turnedDown (p .refused) (p .line)
@@ -91,9 +72,9 @@ module _ (ranked : Bool) (text : List ℕ) (p : Progress) (ns : List ℕ) (ends 
       go : (v : Verdict Stage) → verdict ranked text ≡ v → Ends v p ns → Whole ranked text (p .stand) ns
       go (accepted st) e h =
           let s = p .stand in
-          let last = ending st (decided ranked text .as-written st e .ends) in
-          let (stage, ranks, rows) = shown-end (s .part) s ns (h .3) (h .2) st last (h .1) in
-          let is = read-is ranked text (accepted st) e ∙ ap tableAt stage in
+          let last = ap expected (h .1) ∙ decided ranked text .as-written st e .ends in
+          let (stage, ranks, rows) = shown-end (s .part) s ns (h .2 .1) (h .2 .0) last in
+          let is = read-is ranked text (accepted st) e ∙ ap tableAt (sym (h .1) ∙ stage) in
           let fine = subst (Accepted ranked) is (read ranked text .sound (ap (λ (a : TableRead). a .refused) is)) in
-          record { is = is; sound = fine; ranks-fit = ranks; rows-fit = rows; long = h .3; small = ranks-small ranked _ fine }
+          record { is = is; sound = fine; ranks-fit = ranks; rows-fit = rows; long = h .2 .1; small = ranks-small ranked _ fine }
       go (refused n k) e h = absurd (h .2 none)

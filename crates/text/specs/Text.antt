@@ -16,6 +16,11 @@ bytes (String._∷_ c s) = code c ∷ bytes s
 abbrev pub lineFeed : ℕ
 lineFeed = 10
 
+-- quoted lines, each with its line feed
+abbrev pub lined : List String → List ℕ
+lined [] = []
+lined (s ∷ ss) = bytes s ++ (lineFeed ∷ lined ss)
+
 abbrev pub digitZero : ℕ
 digitZero = 48
 

@@ -2,7 +2,7 @@
 use mathlib.Core.Path.{_≡_}
 use mathlib.Core.Bool.{Bool, true, false}
 use mathlib.Core.List.{List}
-use Prim.Native.Nat.{ℕ, zero, suc, _+_, _*_, _≤_, _<_}
+use Prim.Native.Nat.{ℕ, zero, suc, _+_, _≤_, _<_}
 use lib.Dec.{eqb}
 use lib.ListN.{length, take, drop}
 use Rattle.basics.specs.Basics.{pick}
@@ -10,7 +10,9 @@ use Rattle.text.specs.Text.{bytes}
 use Rattle.text.specs.Lines.{lineAt, endAt, refusal, place}
 use Rattle.text.specs.declared.Line.{Line}
 use Rattle.grammars.specs.inside.Answers.{tested}
-use Rattle.grammars.specs.Grammars.{Verdict, accepted, refused, Step, goes-on, stops, step}
+use Rattle.grammars.specs.inside.Readers.{Reader, Takes}
+use Rattle.grammars.specs.inside.Readers as Readers
+use Rattle.grammars.specs.Grammars.{Verdict, step}
 use Rattle.rows.specs.Rows.{minTask, maxTask, minTasks, maxTasks}
 use Rattle.rows.specs.Rows.{fieldCount}
 use Rattle.tables.specs.declared.progress.Part.{Part}
@@ -86,7 +88,7 @@ abbrev pub Counted : Part → Stand → Type 0
 Counted P.Board s = s .position ≡ 0
 Counted P.Tasks s = s .position ≡ 0
 Counted P.Row s = (s .position < fieldCount) × (s .count + suc (s .left) ≤ maxTasks)
-Counted P.Rank s = (s .position + suc (s .left) ≡ s .count) × (s .count ≤ maxTasks)
+Counted P.Rank s = (s .position + suc (s .left) ≤ s .count) × (s .count ≤ maxTasks)
 Counted P.End s = (s .position ≤ s .count) × (s .count ≤ maxTasks)
 
 -- ---- what it shows of the text's reading, with the numbers so far
@@ -121,25 +123,26 @@ begun ranked = progress (start ranked) false 0 1 0
 abbrev pub endedBy : Stand → Line → Progress
 endedBy s l = progress s true (refusal l) (place l) 0
 
--- the reading ended: all is read, or it is refused
+-- ---- the code as a reader: what its state and the numbers show of the text's reading
+abbrev pub reader : Reader (Progress × List ℕ) Stage
+reader = record {
+  ended = λ x. x .0 .ended;
+  refused = λ x. x .0 .refused;
+  line = λ x. x .0 .line;
+  offset = λ x. x .0 .offset;
+  shows = λ x. stageOf (x .0 .stand) (x .1);
+  Whole = λ x. Counted (x .0 .stand .part) (x .0 .stand) × (length (x .1) ≡ lineCount);
+}
+
+-- before its line
+abbrev pub On : Bool → Progress × List ℕ → Type 0
+On ranked x = (x .0 .stand .ranked ≡ ranked) × Stands (x .0 .stand) (x .0 .line) (x .1)
+
 abbrev pub Ends : Verdict Stage → Progress → List ℕ → Type 0
-Ends (accepted s) p ns =
-    (p .refused ≡ 0) × (stageOf (p .stand) ns ≡ s) × Counted (p .stand .part) (p .stand) × (length ns ≡ lineCount)
-Ends (refused n k) p ns = (p .refused ≡ n) × (p .line ≡ k) × (p .refused ≡ 0 → ⊥)
+Ends v p ns = Readers.Ends reader v (p, ns)
 
-pub record Goes (ranked : Bool) (s : Stage) (next k : ℕ) (p : Progress) (ns : List ℕ) : Type 0 where
-  pub asked : p .stand .ranked ≡ ranked
-  pub shows : stageOf (p .stand) ns ≡ s
-  pub stands : Stands (p .stand) k ns
-  pub line : p .line ≡ k
-  pub offset : p .offset ≡ next
-
--- what a line makes of it
-abbrev pub Takes : Bool → Step Stage → Progress → List ℕ → Type 0
-Takes ranked (goes-on s next k) p ns = (p .ended ≡ false) × Goes ranked s next k p ns
-Takes ranked (stops v) p ns = (p .ended ≡ true) × Ends v p ns
-
+-- past the line that it takes
 abbrev pub TakesLine : Progress → List ℕ → ℕ → ℕ → List ℕ → Progress → List ℕ → Type 0
 TakesLine p text at k ns q ms =
     let ranked = p .stand .ranked in
-    Takes ranked (step (table ranked) text (stageOf (p .stand) ns) at k) q ms
+    Takes reader (On ranked) (step (table ranked) text (stageOf (p .stand) ns) at k) (q, ms)

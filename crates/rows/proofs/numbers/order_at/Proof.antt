@@ -1,11 +1,10 @@
 -- `rows::numbers::order_at` meets its contract. Invariant: the ranks passed stand at the front of the array.
-use mathlib.Core.Path.{_≡_, refl, sym, ap, ap₂, _∙_}
+use mathlib.Core.Path.{_≡_, sym, ap, ap₂, _∙_}
 use Prim.Native.Nat.{_+_, _-_, _≤_}
 use native.Mathlib.Numerals.{add-one}
 use native.Mathlib.Omega.{arith}
 use lib.ListN.{getD, set}
-use Rattle.rows.specs.declared.Order.{Order}
-use Rattle.rows.specs.inside.Arrays.{padded, ranking}
+use Rattle.rows.specs.inside.Arrays.{padded}
 use Rattle.rows.proofs.Arrays.{padded-next}
 use Rattle.rows.specs.inside.Numbers.{between}
 use Rattle.rows.proofs.RowNumbers.{between-length, between-none, between-next, between-at}

@@ -5,15 +5,6 @@ use Rattle.tables.proofs.Steps.{takes-end, number-room, takes-number, l
 use Rattle.tables.proofs.progress.take_line.Statement.{statement}
 use Rattle.tables.proofs.progress.take_line.Tie as tie
 
-expected-line-requires : tie.Need-expected-line-requires
-expected-line-requires c κs = search needs
-
-enum-known-answer : tie.Need-enum-known-answer
-enum-known-answer c = search needs
-
-ended-by-requires : tie.Need-ended-by-requires
-ended-by-requires c κs = search needs
-
 returns : tie.Need-returns
 returns c =
     let m = c .before in
@@ -21,12 +12,6 @@ returns c =
     let a = s .args in
     takes-end (a .before) (a .text .now) (a .offset) (a .line) (a .numbers .now) (s .pre) (m .before .expected-line .result)
     (m .before .expected-line .ensures) (m .match .keys2) (c .ended-by .result) (c .ended-by .ensures)
-
-sub-at : tie.Need-sub-at
-sub-at c = search needs
-
-mul-numbers : tie.Need-mul-numbers
-mul-numbers c = search needs
 
 element-write-numbers : tie.Need-element-write-numbers
 element-write-numbers c =
@@ -39,9 +24,6 @@ element-write-numbers c =
       number-room (a .before) (a .text .now) (a .offset) (a .line) (a .numbers .now) (s .pre) _
           (c .before .before .before .expected-line .ensures) (d .0 .0) (d .0 .1 .0) (d .1),
     )
-
-after-requires : tie.Need-after-requires
-after-requires c κs = search needs
 
 add-t17 : tie.Need-add-t17
 add-t17 c =
@@ -61,13 +43,13 @@ pub take-line-spec : {M : Type 1} → statement M
 take-line-spec =
     tie.close
     (tie.spec
-    expected-line-requires
-    enum-known-answer
-    ended-by-requires
+    (λ c κs. search needs)
+    (λ c. search needs)
+    (λ c κs. search needs)
     returns
-    sub-at
-    mul-numbers
+    (λ c. search needs)
+    (λ c. search needs)
     element-write-numbers
-    after-requires
+    (λ c κs. search needs)
     add-t17
     returns-2)

@@ -35,10 +35,11 @@ use mir.Syntax.{Lifetime, mut, w8, w32}
 use mir.Val.{ofList, vbool, vstruct}
 use types.Part.{store-in}
 use types.Run.{Below, un}
+use Rattle.grammars.proofs.Loops.{finished, going}
 use Rattle.tables.specs.declared.progress.Progress.{Progress}
 use Rattle.tables.specs.inside.Numbers.{lineCount}
 use Rattle.tables.specs.inside.Stands.{Ends, Stands, TakesLine, begun}
-use Rattle.tables.proofs.Turns.{Next, Standing, all, begins, finished, going, turn}
+use Rattle.tables.proofs.Turns.{Next, Standing, all, begins, turn}
 use Rattle.tables.proofs.progress.Progress as P
 use Rattle.tables.proofs.progress.Progress.Laws as P′
 use Rattle.tables.proofs.progress.Progress.start as start
@@ -99,7 +100,7 @@ record St (ranked : Bool) (text : List ℕ) : Type 0 where
   ns : List ℕ
   left : ℕ
   is : Is P.the-row p (pval p ∷ [])
-  stands : Standing ranked text p ns (p .offset) (p .line) left
+  stands : Standing ranked text p ns left
 
 module _ {ranked : Bool} {text : List ℕ} where
   abbrev Nearer : St ranked text → St ranked text → Type 0
@@ -113,13 +114,13 @@ module _ {ranked : Bool} {text : List ℕ} where
       → length ns ≡ lineCount → St ranked text
   opened p e ip ns h =
       let l = suc (length text - 0) in
-      let there = subst (λ z. Standing ranked text z ns (z .offset) (z .line) l) (sym e) (begins ranked text ns h) in
+      let there = subst (λ z. Standing ranked text z ns l) (sym e) (begins ranked text ns h) in
       record { p = p; ns = ns; left = l; is = ip; stands = there }
 
   module _ (x : St ranked text) (go : Holds (not (x .p .ended))) (p′ : Progress) (ms : List ℕ)
       (t : TakesLine (x .p) text (x .p .offset) (x .p .line) (x .ns) p′ ms) where
-    moved : Next ranked text (x .p) (x .ns) (x .p .offset) (x .p .line) (x .left) p′ ms
-    moved = turn ranked text _ _ _ _ (x .left) (x .stands) (not-ended (x .p .ended) go) p′ ms t
+    moved : Next ranked text (x .left) p′ ms
+    moved = turn ranked text (x .stands) (not-ended (x .p .ended) go) p′ ms t
 
     -- one line more
     abbrev next : Is P.the-row p′ (pval p′ ∷ []) → St ranked text
@@ -284,7 +285,7 @@ module _ {M : Type 1} (𝓤 : URA M) (H : Heap 𝓤) (A : Atoms 𝓤) (W : Given
         pick ! (λ ε. split ! $ nothing ! $ move ! (3 ∷ 0 ∷ []) $ join ! $ move ! (5 ∷ 0 ∷ []) $ join ! $
         move ! (0 ∷ 3 ∷ 1 ∷ []) $
         use3 W (raw (TakeLine 𝓤 H A mem run .pre (to-line x α ε)))
-        (goes-line x α ε (going ranked (s .now) _ _ _ _ _ (x .stands) (not-ended _ go) .stands)) $
+        (goes-line x α ε (going (x .stands) (not-ended _ go) .stands .1)) $
         -- [what `take_line` asks; what is had of the numbers; what the text owns; _10; …]
         calls-left ! (fmOf 𝓤 H (W .laws) 𝓣) take-line.ended (take-line.clauses 𝓤 H A mem run) (known .take-line)
         (to-line x α ε) (tokens x α) refl
@@ -320,7 +321,7 @@ module _ {M : Type 1} (𝓤 : URA M) (H : Heap 𝓤) (A : Atoms 𝓤) (W : Given
         move ! (18 ∷ 19 ∷ []) $ free1 ! $ move ! (16 ∷ 17 ∷ []) $ free1 ! $ move ! (14 ∷ 15 ∷ []) $ free1 ! $
         move ! (12 ∷ 13 ∷ []) $ free1 ! $ move ! (10 ∷ 11 ∷ []) $ free1 ! $ move ! (8 ∷ 9 ∷ []) $ free1 ! $
         move ! (6 ∷ 7 ∷ []) $ free1 ! $ move ! (4 ∷ 5 ∷ []) $ free1 ! $ free0 ! $ drop ! $
-        by ! (exits x (finished ranked (s .now) _ _ _ _ _ (x .stands) (is-ended _ none))))
+        by ! (exits x (finished (x .stands) (is-ended _ none))))
 
     -- the loop, and the rest of the body
     looped : (x : State) → Sq W (At x) (runs C Λ En t-3 (atRet En Post))

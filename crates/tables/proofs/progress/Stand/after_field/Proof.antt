@@ -1,31 +1,24 @@
 -- `tables::progress::Stand::after_field` meets its contract.
-use mathlib.Core.Path.{sym, ap, _∙_}
+use Prim.Native.Nat.{suc}
 use native.Mathlib.Numerals.{add-one}
+use native.Mathlib.Omega.{arith}
 use borrow.Author.Tests.{eq-eqb, ne-eqb}
 use borrow.Author.Needs.{needs}
-use Rattle.basics.specs.Basics.{pick}
-use Rattle.tables.specs.declared.progress.Part.the-variants as P
-use Rattle.tables.specs.inside.Stands.{stand, rowsNext}
-use Rattle.tables.proofs.Stands.{field-last, field-next}
+use Rattle.rows.specs.Rows.{fieldCount}
 use Rattle.tables.proofs.progress.Stand.after_field.Statement.{statement}
 use Rattle.tables.proofs.progress.Stand.after_field.Tie as tie
-
-add-more : tie.Need-add-more
-add-more c = search needs
-
-add-rows-next : tie.Need-add-rows-next
-add-rows-next c = search needs
-
-rows-next-requires : tie.Need-rows-next-requires
-rows-next-requires c κs = search needs
 
 returns : tie.Need-returns
 returns c =
     let s = c .before .before .before .before .args .self in
-    c .rows-next .ensures ∙ field-last s (c .before .before .if1 .taken)
+    rw (eq-eqb (suc (s .position)) fieldCount (omega arith), ← add-one (s .count)) (c .rows-next .ensures)
 
 returns-2 : tie.Need-returns-2
-returns-2 c = field-next (c .before .before .args .self) (c .if1 .left)
+returns-2 c =
+    let s = c .before .before .args .self in
+    rw (add-one (s .position), ne-eqb (suc (s .position)) fieldCount (λ e. omega arith))
 
 pub after-field-spec : {M : Type 1} → statement M
-after-field-spec = tie.close (tie.spec add-more add-rows-next rows-next-requires returns returns-2)
+after-field-spec =
+    tie.close
+    (tie.spec (λ c. search needs) (λ c. search needs) (λ c κs. search needs) returns returns-2)
