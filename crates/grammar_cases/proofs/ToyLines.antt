@@ -9,7 +9,7 @@ use lib.IntN.{ℤ, pos}
 use lib.ListN.{length}
 use borrow.Author.Tests.{lt-ltb, ltb-true}
 use Rattle.basics.specs.Basics.{pick}
-use Rattle.basics.proofs.Tests.{let-through, within-true}
+use Rattle.basics.proofs.Tests.{let-through}
 use Rattle.text.specs.Text.{bytes, signed}
 use Rattle.grammars.specs.Forms.{size}
 use Rattle.grammars.specs.Grammars.{Plain, accepted, read}
@@ -60,8 +60,7 @@ known = record { begins = tt; keeps = keeps }
     keeps at-count key z h p = marks-known (size z) [] none
     keeps (at-mark n ms) key z h p =
         let test = let-through (ltb (lastFrom 0 ms) (size z)) notAbove (omega arith) (p .no-fault) in
-        let passed = natural-passes p (bytes "mark=") minMark maxMark refl in
-        let between = within-true minMark maxMark (size z) (passed .between) in
+        let between = natural-passes p (bytes "mark=") minMark maxMark refl in
         (h, ltb-true (lastFrom 0 ms) (size z) test, between .le-high)
     keeps (at-drift n ms v) key z (h, above, in-range) p =
         let m : Mark = record { mark = v; drift = z } in

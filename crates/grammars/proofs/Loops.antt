@@ -15,7 +15,7 @@ use Rattle.text.specs.Lines.{refusal, place}
 use Rattle.text.specs.declared.Line.{Line}
 use Rattle.text.specs.declared.Line.the-variants as L
 use Rattle.grammars.specs.Forms.{Form, Told, number, no-number, formAt}
-use Rattle.grammars.specs.Grammars.{Grammar, Expected, the-end, a-line, keyIn, Plain, Verdict, accepted, refused}
+use Rattle.grammars.specs.Grammars.{Grammar, Expected, the-end, a-line, keyIn, Plain, accepted, refused}
 use Rattle.grammars.specs.Grammars.{Step, goes-on, stops, onFault, onTold, onExpected, onStep, step, readFrom, read}
 use Rattle.grammars.specs.inside.Answers.{onAnswer}
 use Rattle.grammars.specs.inside.Readers.{Reader, Ends, Takes}
@@ -26,19 +26,12 @@ use Rattle.grammars.proofs.Steps.{read-steps, step-onward, not-both}
 -- ---- a step: it goes on past a byte at least, so the bytes that are left are the loop's measure, and what is read stays
 -- the same; or it ends
 module _ {S : Type 0} (g : Grammar S) (text : List ℕ) (s : S) (at k : ℕ) where
-  abbrev onward : Step S → Verdict S
-  onward x = onStep x (readFrom g text)
-
-  goes-same : (t : S) (next j : ℕ) → step g text s at k ≡ goes-on t next j
-      → readFrom g text s at k ≡ readFrom g text t next j
-  goes-same t next j e = read-steps g text s at k ∙ ap onward e
+  step-same : (x : Step S) → step g text s at k ≡ x → readFrom g text s at k ≡ onStep x (readFrom g text)
+  step-same x e = read-steps g text s at k ∙ ap (λ y. onStep y (readFrom g text)) e
 
   goes-fewer : (t : S) (next j : ℕ) → step g text s at k ≡ goes-on t next j → length text - next < length text - at
   goes-fewer t next j e =
       let past = step-onward g text s at k t next j e .0 in omega (arith, past .further, past .inside)
-
-  stops-same : (v : Verdict S) → step g text s at k ≡ stops v → readFrom g text s at k ≡ v
-  stops-same v e = read-steps g text s at k ∙ ap onward e
 
   -- its refusals have a number, and the line where it ends
   refused-here : Plain g → (n j : ℕ) → step g text s at k ≡ stops (refused n j) → (1 ≤ n) × (j ≡ k)
@@ -97,7 +90,7 @@ module _ {P S : Type 0} {r : Reader P S} {On : P → Type 0} {g : Grammar S} {st
       → step g text (r .shows p) (r .offset p) (r .line p) ≡ x → Takes r On x q
       → Next r On g start text (suc (length text - r .offset p)) q
   by-step h q (goes-on t next j) e (on, w) =
-      let same = goes-same g text (r .shows p) (r .offset p) (r .line p) t next j e in
+      let same = step-same g text (r .shows p) (r .offset p) (r .line p) (goes-on t next j) e in
       let fewer = goes-fewer g text (r .shows p) (r .offset p) (r .line p) t next j e in
       record {
         fewer = suc (length text - r .offset q);
@@ -105,7 +98,7 @@ module _ {P S : Type 0} {r : Reader P S} {On : P → Type 0} {g : Grammar S} {st
         there = goes on (record { stands = w .stands; same = rw (w .shows, w .offset, w .line) (h .same ∙ same) });
       }
   by-step h q (stops v) e (off, w) =
-      let is = h .same ∙ stops-same g text (r .shows p) (r .offset p) (r .line p) v e in
+      let is = h .same ∙ step-same g text (r .shows p) (r .offset p) (r .line p) (stops v) e in
       record { fewer = 0; less = omega arith; there = done off (subst (λ o. Ends r o q) (sym is) w) }
 
   pub turn : {left : ℕ} → Standing r On g start text p left → r .ended p ≡ false → (q : P)

@@ -7,11 +7,11 @@ use mathlib.Core.Logic.{inl, inr}
 use Prim.Native.Nat.{ℕ, zero, suc, _^_, _≤_, _<_}
 use native.Mathlib.Omega.{arith}
 use lib.Dec.{ltb}
-use lib.IntN.{ℤ, pos, negsuc}
+use lib.IntN.{ℤ, pos}
 use lib.ListN.{length}
 use borrow.Author.Tests.{ltb-true, lt-ltb}
 use Rattle.basics.specs.Basics.{pick, within}
-use Rattle.basics.proofs.Tests.{test-of, never, Within, within-true, true-within}
+use Rattle.basics.proofs.Tests.{test-of, Within, within-true, true-within}
 use Rattle.text.specs.Lines.{maxDigits, lineAt, endAt}
 use Rattle.text.specs.declared.Line.{Line}
 use Rattle.text.specs.declared.Line.the-variants as L
@@ -21,27 +21,13 @@ use Rattle.grammars.specs.Grammars.{Grammar, the-end, a-line, onFault, o
 use Rattle.grammars.specs.inside.Answers.{unless, tested, onAnswer}
 use Rattle.grammars.specs.Reasons.{Passes}
 
--- ---- a number without a sign
-unsigned : (low high : ℕ) (z : ℤ) → fits (natural low high) z ≡ true → z ≡ pos (size z)
-unsigned low high (pos v) f = refl
-unsigned low high (negsuc n) f = never f
-
--- ---- what passes where a range is expected
-pub record Natural (key lock : List ℕ) (low high : ℕ) (z : ℤ) : Type 0 where
-  pub same-key : key ≡ lock
-  pub no-sign : z ≡ pos (size z)
-  pub between : within low high (size z) ≡ true
-
+-- ---- a number that passes where a range is expected is in it
 pub natural-passes : {S : Type 0} {g : Grammar S} {s : S} {key : List ℕ} {z : ℤ} → Passes g s key z
-    → (lock : List ℕ) (low high : ℕ) → g .expected s ≡ a-line lock (natural low high) → Natural key lock low high z
+    → (lock : List ℕ) (low high : ℕ) → g .expected s ≡ a-line lock (natural low high) → Within low high (size z)
 natural-passes {key = key} {z = z} p lock low high x =
     let same : a-line key (p .form) ≡ a-line lock (natural low high) = sym (p .is-expected) ∙ x in
     let is : p .form ≡ natural low high = cc in
-    record {
-      same-key = cc;
-      no-sign = unsigned low high z (subst (λ f. fits f z ≡ true) is (p .is-number));
-      between = subst (λ f. inRange f z ≡ true) is (p .in-range);
-    }
+    within-true low high (size z) (subst (λ f. inRange f z ≡ true) is (p .in-range))
 
 -- ---- and which numbers pass: those in the range, where the range itself can be written, which computes
 module _ {S : Type 0} {g : Grammar S} {s : S} {key : List ℕ} where

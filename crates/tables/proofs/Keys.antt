@@ -6,8 +6,7 @@ use lib.ListN.{length}
 use Rattle.basics.specs.Basics.{isIn}
 use Rattle.text.specs.Text.{lineFeed}
 use Rattle.grammars.specs.Grammars.{Plain}
-use Rattle.tables.specs.TableLines.{rowLineAt}
-use Rattle.tables.specs.TableLines.{at-board, at-tasks, at-field, at-rank, at-end, table}
+use Rattle.tables.specs.TableLines.{rowLineAt, at-board, at-tasks, at-field, at-rank, at-end, table}
 use Rattle.tables.proofs.RowLines.{at-each}
 
 key-plain : (i : ℕ) → isIn lineFeed (rowLineAt i .key) ≡ false

@@ -12,9 +12,9 @@ use lib.IntN.{ℤ}
 use lib.ListN.{length, getD, take, length-append, List·getD-append}
 use lib.Seq.{take-append-le, take-at, getD-at, getD-take}
 use borrow.Author.Tests.{eq-eqb, eqb-true, eqb-false, not-true, ltb-false}
-use Rattle.basics.specs.Basics.{within, isIn, distinct}
+use Rattle.basics.specs.Basics.{isIn, distinct}
 use Rattle.basics.proofs.Tests.{test-of, true-not-false, never, and-left, and-right, le-or-lt}
-use Rattle.basics.proofs.Tests.{Within, within-true, not-refused, let-through, distinct-last}
+use Rattle.basics.proofs.Tests.{Within, not-refused, let-through, distinct-last}
 use Rattle.text.specs.Text.{bytes}
 use Rattle.grammars.specs.Forms.{size}
 use Rattle.grammars.specs.Reasons.{Passes}
@@ -42,7 +42,7 @@ pub record Rows (b n : ℕ) (rs : List Row) : Type 0 where
 
 -- each number of a row passed where it stands
 pub record FieldPasses (rs : List Row) (vs : List ℕ) (i v : ℕ) : Type 0 where
-  between : within (rowLineAt i .low) (rowLineAt i .high) v ≡ true
+  between : Within (rowLineAt i .low) (rowLineAt i .high) v
   no-fault : rowLineAt i .fault rs vs v ≡ 0
 
 abbrev pub Good : List Row → List ℕ → Type 0
@@ -92,7 +92,7 @@ module _ (rs : List Row) where
     row-in-range : inRange (rowOf vs) ≡ true
     row-in-range =
         let in-limits : (i : ℕ) → i < fieldCount → Within (rowLineAt i .low) (rowLineAt i .high) (getD vs i 0) =
-        λ i h. within-true (rowLineAt i .low) (rowLineAt i .high) (getD vs i 0) (g i (omega arith) .between) in
+        λ i h. g i (omega arith) .between in
         in-range (rowOf vs) (record {
           task = in-limits taskAt (omega arith);
           period = in-limits periodAt (omega arith);
@@ -182,16 +182,14 @@ sound ranked = record { begins = tt; keeps = keeps }
   where
     keeps : (s : Stage) (key : List ℕ) (z : ℤ) → Known ranked s → Passes (table ranked) s key z
         → Known ranked (after ranked s (size z))
-    keeps at-board key z h p =
-        within-true minBoard maxBoard (size z) (natural-passes p (bytes "board=") minBoard maxBoard refl .between)
+    keeps at-board key z h p = natural-passes p (bytes "board=") minBoard maxBoard refl
     keeps (at-tasks b) key z h p =
-        let count = within-true minTasks maxTasks (size z)
-        (natural-passes p (bytes "tasks=") minTasks maxTasks refl .between) in
+        let count = natural-passes p (bytes "tasks=") minTasks maxTasks refl in
         rows-known ranked (size z) b []
         (record { board = h; count = rw (zero-add (size z)) count; ranges = refl; once = refl })
     keeps (at-field n b rs vs) key z h p =
         let l = rowLineAt (length vs) in
         field-known ranked n b rs vs (size z) h
-        (record { between = natural-passes p (l .key) (l .low) (l .high) refl .between; no-fault = p .no-fault })
+        (record { between = natural-passes p (l .key) (l .low) (l .high) refl; no-fault = p .no-fault })
     keeps (at-rank n b rs os) key z h p = rank-known ranked n b rs os (size z) h (p .no-fault)
     keeps (at-end b rs os) key z h p = no-line (sym (p .is-expected))

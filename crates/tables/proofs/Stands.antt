@@ -21,8 +21,7 @@ use Rattle.text.proofs.Line as T
 use Rattle.grammars.specs.Grammars.{step}
 use Rattle.grammars.specs.inside.Answers.{tested, onAnswer}
 use Rattle.grammars.proofs.Naturals.{number-within, no-number-at-end, step-line, step-end}
-use Rattle.rows.specs.Rows.{minTask, maxTask, minTasks, maxTasks}
-use Rattle.rows.specs.Rows.{fieldCount}
+use Rattle.rows.specs.Rows.{minTask, maxTask, minTasks, maxTasks, fieldCount}
 use Rattle.tables.specs.declared.progress.Part.{Part}
 use Rattle.tables.specs.declared.progress.Part.the-variants as P
 use Rattle.tables.specs.declared.progress.Stand.{Stand}

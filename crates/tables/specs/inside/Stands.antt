@@ -13,8 +13,7 @@ use Rattle.grammars.specs.inside.Answers.{tested}
 use Rattle.grammars.specs.inside.Readers.{Reader, Takes}
 use Rattle.grammars.specs.inside.Readers as Readers
 use Rattle.grammars.specs.Grammars.{Verdict, step}
-use Rattle.rows.specs.Rows.{minTask, maxTask, minTasks, maxTasks}
-use Rattle.rows.specs.Rows.{fieldCount}
+use Rattle.rows.specs.Rows.{minTask, maxTask, minTasks, maxTasks, fieldCount}
 use Rattle.tables.specs.declared.progress.Part.{Part}
 use Rattle.tables.specs.declared.progress.Part.the-variants as P
 use Rattle.tables.specs.declared.progress.Stand.{Stand}
