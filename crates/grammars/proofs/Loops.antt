@@ -16,15 +16,16 @@ use Rattle.text.specs.declared.Line.{Line}
 use Rattle.text.specs.declared.Line.the-variants as L
 use Rattle.grammars.specs.Forms.{Form, Told, number, no-number, formAt}
 use Rattle.grammars.specs.Grammars.{Grammar, Expected, the-end, a-line, keyIn, Plain, accepted, refused}
-use Rattle.grammars.specs.Grammars.{Step, goes-on, stops, onFault, onTold, onExpected, onStep, step, readFrom, read}
+use Rattle.grammars.specs.Grammars.{Step, goes-on, stops, onFault, onTold, onExpected, onStep, step}
+use Rattle.grammars.specs.Grammars.{readFrom, read}
 use Rattle.grammars.specs.inside.Answers.{onAnswer}
 use Rattle.grammars.specs.inside.Readers.{Reader, Ends, Takes}
 use Rattle.grammars.proofs.Answers.{NoNumber}
 use Rattle.grammars.proofs.Forms.{told-some}
 use Rattle.grammars.proofs.Steps.{read-steps, step-onward, not-both}
 
--- ---- a step: it goes on past a byte at least, so the bytes that are left are the loop's measure, and what is read stays
--- the same; or it ends
+-- ---- a step: it goes on past a byte at least, so the bytes that are left are the loop's measure; or it ends; and what
+-- is read stays the same
 module _ {S : Type 0} (g : Grammar S) (text : List ℕ) (s : S) (at k : ℕ) where
   step-same : (x : Step S) → step g text s at k ≡ x → readFrom g text s at k ≡ onStep x (readFrom g text)
   step-same x e = read-steps g text s at k ∙ ap (λ y. onStep y (readFrom g text)) e

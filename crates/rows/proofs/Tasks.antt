@@ -10,7 +10,8 @@ use lib.ListN.{length, getD}
 use borrow.Author.Tests.{eqb-true}
 use Rattle.basics.proofs.Tests.{never, and-left, and-right, or-cases}
 use Rattle.rows.specs.declared.Row.{Row}
-use Rattle.rows.specs.Rows.{maxTask, noRow, inRange, allRows, tasksOf, hasTask, positionOf, rowFor, rowsFor, allTasks}
+use Rattle.rows.specs.Rows.{maxTask, noRow, inRange, allRows, tasksOf, hasTask, positionOf, rowFor, rowsFor}
+use Rattle.rows.specs.Rows.{allTasks}
 use Rattle.rows.specs.inside.Numbers.{TaskNumbers}
 use Rattle.rows.proofs.Limits.{limits, head-passes, tail-passes}
 

@@ -57,7 +57,8 @@ module _ (ranked : Bool) (text : List ℕ) where
           let known = holds (table ranked) at-board (Known ranked) (sound ranked) (written .whole) in
           record {
             sound = λ z. subst (Accepted ranked) (sym is) known;
-            as-written = λ z. subst (λ (a : TableRead). Tells ranked text (a .board) (a .rows) (a .order)) (sym is) written;
+            as-written = λ z.
+                subst (λ (a : TableRead). Tells ranked text (a .board) (a .rows) (a .order)) (sym is) written;
             reason = λ n z. absurd (omega (arith, ap (λ (a : TableRead). a .refused) is));
             accepts = accepts;
             refuses = refuses;

@@ -1,4 +1,5 @@
--- A text's refusal has a number from 1 to 6, and without rank lines from 1 to 5: no stage of such a text expects a rank.
+-- A text's refusal has a number from 1 to 6, and without rank lines from 1 to 5: no stage of such a text expects a
+-- rank.
 use mathlib.Core.Path.{refl}
 use mathlib.Core.Bool.{Bool, true, false, _&&_, not}
 use mathlib.Core.List.{List}

@@ -126,10 +126,11 @@ module _ (ranked : Bool) (count left position : ℕ) (ws : List ℕ) (v : ℕ) w
         | inl t ↦
             let last = eqb-true (suc position) fieldCount t in
             let whole : length more ≡ rowStart (suc count) = length-append ws (v ∷ []) ∙ omega arith in
+            let board = board-stays ws (v ∷ []) (omega arith) in
+            let rows = row-made ws (v ∷ []) count (omega arith) in
             rw t
             (renamed (rows-follow ranked (suc count) (omega arith) more left (omega arith) whole)
-            (ap₂ (rowsStage ranked left) (board-stays ws (v ∷ []) (omega arith)) (row-made ws (v ∷ []) count (omega arith)))
-            (omega arith))
+            (ap₂ (rowsStage ranked left) board rows) (omega arith))
         | inr t ↦
             let on = eqb-false (suc position) fieldCount t in
             let shows = grows ws (v ∷ []) count (omega arith) (at-field left) in

@@ -38,7 +38,8 @@ line-small s k ns h =
     let few = few-read (s .part) s (h .counted) in (omega (arith, h .line), omega (arith, h .line))
 
 module _ (p : Progress) (text : List ℕ) (at k : ℕ) (ns : List ℕ) (h : Stands (p .stand) k ns) (l : Line)
-    (is : l ≡ tested (faultIn (p .stand .part) (p .stand) ns) (lineHere (p .stand .part) (p .stand .position) text at k) k)
+    (is : l
+    ≡ tested (faultIn (p .stand .part) (p .stand) ns) (lineHere (p .stand .part) (p .stand .position) text at k) k)
   where
     abbrev s : Stand
     s = p .stand

@@ -19,7 +19,7 @@ use Rattle.tables.specs.declared.progress.Part.{Part}
 use Rattle.tables.specs.declared.progress.Part.the-variants as P
 use Rattle.tables.specs.declared.progress.Stand.{Stand}
 use Rattle.tables.specs.declared.progress.Progress.{Progress}
-use Rattle.tables.specs.TableLines.{Stage, at-end, expected, TableRead, turnedDown, tableOf, tableAt, readTable}
+use Rattle.tables.specs.TableLines.{Stage, at-end, expected, TableRead, turnedDown, tableAt, readTable}
 use Rattle.tables.specs.Claims.{Accepted}
 use Rattle.tables.specs.inside.Numbers.{lineCount, rowStart, boardIn, rowsIn, behind}
 use Rattle.tables.specs.inside.Stands.{readBy, Counted, stageIn, Ends}
@@ -35,9 +35,12 @@ ranks-small true a h =
 ranks-small false a h = λ i l. absurd (omega (arith, ap length (h .no-ranks refl)))
 
 -- ---- the end of a table is shown by the end of the code's reading only
+abbrev pub endIn : Stand → List ℕ → Stage
+endIn s ns = at-end (boardIn ns) (rowsIn (s .count) ns) (behind (s .count) (s .position) ns)
+
 pub record Whole (ranked : Bool) (text : List ℕ) (s : Stand) (ns : List ℕ) : Type 0 where
-  pub is : readTable ranked text ≡ tableOf (boardIn ns) (rowsIn (s .count) ns) (behind (s .count) (s .position) ns)
-  pub sound : Accepted ranked (tableOf (boardIn ns) (rowsIn (s .count) ns) (behind (s .count) (s .position) ns))
+  pub is : readTable ranked text ≡ tableAt (endIn s ns)
+  pub sound : Accepted ranked (tableAt (endIn s ns))
   pub ranks-fit : s .position ≤ s .count
   pub rows-fit : s .count ≤ maxTasks
   pub long : length ns ≡ lineCount
@@ -45,7 +48,7 @@ pub record Whole (ranked : Bool) (text : List ℕ) (s : Stand) (ns : List ℕ) :
 
 shown-end : (p : Part) (s : Stand) (ns : List ℕ) → length ns ≡ lineCount → Counted p s
     → expected (stageIn p s (take (readBy p s) ns)) ≡ the-end
-    → (stageIn p s (take (readBy p s) ns) ≡ at-end (boardIn ns) (rowsIn (s .count) ns) (behind (s .count) (s .position) ns))
+    → (stageIn p s (take (readBy p s) ns) ≡ endIn s ns)
     × (s .position ≤ s .count) × (s .count ≤ maxTasks)
 shown-end P.Board s ns long h e = no-line e
 shown-end P.Tasks s ns long h e = no-line e
@@ -76,5 +79,6 @@ module _ (ranked : Bool) (text : List ℕ) (p : Progress) (ns : List ℕ) (ends 
           let (stage, ranks, rows) = shown-end (s .part) s ns (h .2 .1) (h .2 .0) last in
           let is = read-is ranked text (accepted st) e ∙ ap tableAt (sym (h .1) ∙ stage) in
           let fine = subst (Accepted ranked) is (read ranked text .sound (ap (λ (a : TableRead). a .refused) is)) in
-          record { is = is; sound = fine; ranks-fit = ranks; rows-fit = rows; long = h .2 .1; small = ranks-small ranked _ fine }
+          let small = ranks-small ranked (tableAt (endIn s ns)) fine in
+          record { is = is; sound = fine; ranks-fit = ranks; rows-fit = rows; long = h .2 .1; small = small }
       go (refused n k) e h = absurd (h .2 none)

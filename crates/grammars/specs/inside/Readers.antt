@@ -1,4 +1,5 @@
--- Promised between functions: code that reads a text by a grammar line by line, and what its state shows of the reading.
+-- Promised between functions: code that reads a text by a grammar line by line, and what its state shows of the
+-- reading.
 use mathlib.Core.Path.{_≡_}
 use mathlib.Core.Bool.{Bool, true, false}
 use Prim.Native.Nat.{ℕ}

@@ -1,5 +1,5 @@
--- `tables::read_table` meets its contract: what the numbers of the lines make is the text's table. Invariant of the loop:
--- the rows passed stand at the front of the array.
+-- `tables::read_table` meets its contract: what the numbers of the lines make is the text's table. Invariant of the
+-- loop: the rows passed stand at the front of the array.
 use mathlib.Core.Path.{_≡_, sym, ap, _∙_}
 use mathlib.Core.List.{List}
 use Prim.Native.Nat.{ℕ, _+_, _-_, _*_, _≤_}

@@ -10,7 +10,7 @@ returns c =
     let m = c .before in
     let s = m .before .before .before .before .before .before in
     let a = s .args in
-    takes-end (a .before) (a .text .now) (a .offset) (a .line) (a .numbers .now) (s .pre) (m .before .expected-line .result)
+    takes-end (a .before) (a .text .now) (a .offset) (a .line) (a .numbers .now) (s .pre) _
     (m .before .expected-line .ensures) (m .match .keys2) (c .ended-by .result) (c .ended-by .ensures)
 
 element-write-numbers : tie.Need-element-write-numbers

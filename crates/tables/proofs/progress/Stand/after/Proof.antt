@@ -15,7 +15,8 @@ after-field-requires c κs =
 add-ranks-next : tie.Need-add-ranks-next
 add-ranks-next c =
     let s = c .before .before .before in
-    let h = subst (λ p. Counted p (s .args .self)) (c .before .enum-told4 .given .1) (s .pre) in omega (arith, h .0, h .1)
+    let h = subst (λ p. Counted p (s .args .self)) (c .before .enum-told4 .given .1) (s .pre) in
+    omega (arith, h .0, h .1)
 
 returns : tie.Need-returns
 returns c = rw (c .enum-told .given .1)
