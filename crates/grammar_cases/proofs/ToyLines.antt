@@ -15,10 +15,10 @@ use Rattle.grammars.specs.Forms.{size}
 use Rattle.grammars.specs.Grammars.{Plain, accepted, read}
 use Rattle.grammars.specs.Reasons.{Passes}
 use Rattle.grammars.specs.Claims.{Decides, Writes, done, then}
-use Rattle.grammars.proofs.Decided.{decides}
+use Rattle.grammars.proofs.Decision.{decides}
 use Rattle.grammars.proofs.Invariants.{Invariant, accepted-holds}
 use Rattle.grammars.proofs.Naturals.{natural-passes, in-range-passes, integer-passes, passed-integer}
-use Rattle.grammars.proofs.Written.{reads-back}
+use Rattle.grammars.proofs.RoundTrip.{reads-back}
 use Rattle.grammar_cases.specs.ToyLines.{maxMarks, minMark, maxMark, notAbove, Mark, lastFrom}
 use Rattle.grammar_cases.specs.ToyLines.{Stage, at-count, at-mark, at-drift, at-end, marksStage, after, toy}
 use Rattle.grammar_cases.specs.ToyLines.{Above, Rising, none, next, marksText, toyText}

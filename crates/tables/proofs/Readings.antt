@@ -9,7 +9,7 @@ use Rattle.grammars.specs.Grammars.{the-end, Verdict, accepted, refused}
 use Rattle.grammars.specs.Grammars as Grammars
 use Rattle.grammars.specs.Claims.{Decides}
 use Rattle.grammars.proofs.Steps.{no-line}
-use Rattle.grammars.proofs.Decided.{decides, refused-some}
+use Rattle.grammars.proofs.Decision.{decides, refused-some}
 use Rattle.grammars.proofs.Invariants.{holds}
 use Rattle.rows.specs.declared.Row.{Row}
 use Rattle.tables.specs.TableLines.{Stage, at-board, at-tasks, at-field, at-rank, at-end, expected, table}

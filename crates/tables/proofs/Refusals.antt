@@ -10,7 +10,7 @@ use lib.ListN.{length, getD}
 use Rattle.basics.specs.Basics.{pick, isIn}
 use Rattle.basics.proofs.Tests.{true-not-false}
 use Rattle.grammars.specs.Forms.{size}
-use Rattle.grammars.proofs.Decided.{refused-some, refused-small}
+use Rattle.grammars.proofs.Decision.{refused-some, refused-small}
 use Rattle.grammars.proofs.Invariants.{holds}
 use Rattle.rows.specs.Rows.{periodAt, worstAt, hasTask}
 use Rattle.rows.specs.declared.Row.{Row}

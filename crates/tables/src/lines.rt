@@ -90,71 +90,50 @@ fn new_rank(numbers: &[u64], count: usize, named: usize, answer: Line, line: u32
 // The line at a position within a row.
 fn row_line(
     text: &[u8],
-    offset: usize,
+    at: usize,
     line: u32,
     count: usize,
     position: usize,
     numbers: &[u64],
 ) -> Line
     requires { ⌜ (position < fieldCount) × (count < maxTasks) × (length (now numbers) ≡ lineCount) ⌝ }
-    ensures { λ r. ⌜ r ≡ rowLineTested count position (now (numbers .entry)) (now (text .entry)) offset line ⌝ }
+    ensures { λ r. ⌜ r ≡ rowLineTested count position (now (numbers .entry)) (now (text .entry)) at line ⌝ }
 {
     let start = HEAD + FIELDS * count;
     match position {
         TASK => {
-            let answer = line_at(text, offset, line, b"task=", Row::TASK_MIN, Row::TASK_MAX);
+            let answer = line_at(text, at, line, b"task=", Row::TASK_MIN, Row::TASK_MAX);
             new_task(numbers, count, answer, line)
         }
-        PERIOD => line_at(
-            text,
-            offset,
-            line,
-            b"period=",
-            Row::TICKS_MIN,
-            Row::TICKS_MAX,
-        ),
+        PERIOD => line_at(text, at, line, b"period=", Row::TICKS_MIN, Row::TICKS_MAX),
         WORST => {
-            let answer = line_at(
-                text,
-                offset,
-                line,
-                b"worst=",
-                Row::TICKS_MIN,
-                Row::TICKS_MAX,
-            );
+            let answer = line_at(text, at, line, b"worst=", Row::TICKS_MIN, Row::TICKS_MAX);
             at_most(numbers[start + PERIOD], answer, line)
         }
         BEST => {
-            let answer = line_at(text, offset, line, b"best=", Row::TICKS_MIN, Row::TICKS_MAX);
+            let answer = line_at(text, at, line, b"best=", Row::TICKS_MIN, Row::TICKS_MAX);
             at_most(numbers[start + WORST], answer, line)
         }
-        ALPHA => line_at(
-            text,
-            offset,
-            line,
-            b"alpha=",
-            Row::ALPHA_MIN,
-            Row::ALPHA_MAX,
-        ),
-        _ => line_at(text, offset, line, b"beta=", Row::BETA_MIN, Row::BETA_MAX),
+        ALPHA => line_at(text, at, line, b"alpha=", Row::ALPHA_MIN, Row::ALPHA_MAX),
+        _ => line_at(text, at, line, b"beta=", Row::BETA_MIN, Row::BETA_MAX),
     }
 }
 
 // The line that is expected, at an offset.
-pub fn expected_line(text: &[u8], offset: usize, line: u32, stand: Stand, numbers: &[u64]) -> Line
+pub fn expected_line(text: &[u8], at: usize, line: u32, stand: Stand, numbers: &[u64]) -> Line
     requires { ⌜ Stands stand line (now numbers) ⌝ }
     ensures { λ r. ⌜ r ≡ tested (faultIn (stand .part) stand (now (numbers .entry)))
-        (lineHere (stand .part) (stand .position) (now (text .entry)) offset line) line ⌝ }
+        (lineHere (stand .part) (stand .position) (now (text .entry)) at line) line ⌝ }
 {
     let part = stand.part;
     match part {
-        Part::Board => line_at(text, offset, line, b"board=", BOARD_MIN, BOARD_MAX),
-        Part::Tasks => line_at(text, offset, line, b"tasks=", TASKS_MIN, TASKS_MAX),
-        Part::Row => row_line(text, offset, line, stand.count, stand.position, numbers),
+        Part::Board => line_at(text, at, line, b"board=", BOARD_MIN, BOARD_MAX),
+        Part::Tasks => line_at(text, at, line, b"tasks=", TASKS_MIN, TASKS_MAX),
+        Part::Row => row_line(text, at, line, stand.count, stand.position, numbers),
         Part::Rank => {
-            let answer = line_at(text, offset, line, b"rank=", Row::TASK_MIN, Row::TASK_MAX);
+            let answer = line_at(text, at, line, b"rank=", Row::TASK_MIN, Row::TASK_MAX);
             new_rank(numbers, stand.count, stand.position, answer, line)
         }
-        Part::End => end_at(text, offset, line),
+        Part::End => end_at(text, at, line),
     }
 }
