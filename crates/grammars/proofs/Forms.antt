@@ -16,7 +16,7 @@ use Rattle.text.specs.Text.{lineFeed, decimal, signed, keyLine}
 use Rattle.text.specs.Lines.{maxDigits, begins, lineAt}
 use Rattle.text.proofs.Decimals.{decimal-number, numeral-or-not}
 use Rattle.text.proofs.Lines as T
-use Rattle.grammars.specs.Forms.{Form, natural, integer, size, fits, inRange, Told, number, no-number}
+use Rattle.grammars.specs.Forms.{Form, natural, integer, size, fits, inForm, Told, number, no-number}
 use Rattle.grammars.specs.Forms.{plainly, negated, minus, highest, formAt}
 use Rattle.grammars.proofs.Signs.{signed-key, signed-key-plain, signed-begins, signed-value, unsigned-begins}
 use Rattle.grammars.proofs.Signs.{decimal-unsigned}
@@ -176,7 +176,7 @@ module _ (key : List ℕ) (plain : isIn lineFeed key ≡ false) where
         ∙ sym (T.key-line-length key (minus ++ value))
 
     module _ (z : ℤ) (rest : List ℕ) (is : here ≡ keyLine key (signed z) ++ rest) where
-      pub form-outside : (form : Form) → fits form z ≡ true → inRange form z ≡ false
+      pub form-outside : (form : Form) → fits form z ≡ true → inForm form z ≡ false
           → formAt key form text at k ≡ no-number 3
       unfolding formAt signed
       form-outside integer f w = never (sym w)
@@ -187,12 +187,12 @@ module _ (key : List ℕ) (plain : isIn lineFeed key ≡ false) where
           go (pos v) e g o = ap plainly (T.line-outside key plain low high text at k v rest e (few v g) o)
           go (negsuc n) e g o = never g
 
-      pub form-number : (form : Form) → fits form z ≡ true → inRange form z ≡ true
+      pub form-number : (form : Form) → fits form z ≡ true → inForm form z ≡ true
           → formAt key form text at k ≡ number z (at + length (keyLine key (signed z)))
       unfolding formAt signed
       form-number form f w = go form z is f w
         where
-          go : (x : Form) (y : ℤ) → here ≡ keyLine key (signed y) ++ rest → fits x y ≡ true → inRange x y ≡ true
+          go : (x : Form) (y : ℤ) → here ≡ keyLine key (signed y) ++ rest → fits x y ≡ true → inForm x y ≡ true
               → formAt key x text at k ≡ number y (at + length (keyLine key (signed y)))
           go (natural low high) (pos v) e g o =
               ap plainly (T.line-number key plain low high text at k v rest e (few v g) o)
@@ -214,21 +214,21 @@ module _ (key : List ℕ) (plain : isIn lineFeed key ≡ false) where
 -- ---- a number that a line tells is one of its form, in its range
 pub told-fits : (key : List ℕ) → isIn lineFeed key ≡ false → (form : Form) (text : List ℕ) (at k : ℕ) (z : ℤ) (next : ℕ)
     → formAt key form text at k ≡ number z next
-    → (fits form z ≡ true) × (inRange form z ≡ true)
+    → (fits form z ≡ true) × (inForm form z ≡ true)
 told-fits key plain form text at k z next e =
     elim (says key plain form (drop at text)) [
       | nothing none ↦ other (form-missing key plain text at k form none)
       | no-numeral value rest is h none ↦ other (form-malformed key plain text at k form value rest is h none)
-      | numeral y rest is f ↦ elim (test-of (inRange form y)) [
+      | numeral y rest is f ↦ elim (test-of (inForm form y)) [
         | inl w ↦
             let told = form-number key plain text at k y rest is form f w in
             let same : y ≡ z = cc in
-            (subst (λ x. fits form x ≡ true) same f, subst (λ x. inRange form x ≡ true) same w)
+            (subst (λ x. fits form x ≡ true) same f, subst (λ x. inForm form x ≡ true) same w)
         | inr w ↦ other (form-outside key plain text at k y rest is form f w)
       ]
     ]
   where
-    other : {n : ℕ} → formAt key form text at k ≡ no-number n → (fits form z ≡ true) × (inRange form z ≡ true)
+    other : {n : ℕ} → formAt key form text at k ≡ no-number n → (fits form z ≡ true) × (inForm form z ≡ true)
     other f = let no : _≡_ {A = ℕ} 0 1 = cc in absurd (omega arith)
 
 -- ---- and no number is a refusal with a number
@@ -238,7 +238,7 @@ told-some key plain form text at k n e =
     elim (says key plain form (drop at text)) [
       | nothing none ↦ some (form-missing key plain text at k form none)
       | no-numeral value rest is h none ↦ some (form-malformed key plain text at k form value rest is h none)
-      | numeral y rest is f ↦ elim (test-of (inRange form y)) [
+      | numeral y rest is f ↦ elim (test-of (inForm form y)) [
         | inl w ↦
             let told = form-number key plain text at k y rest is form f w in
             let no : _≡_ {A = ℕ} 0 1 = cc in

@@ -16,7 +16,7 @@ use Rattle.text.specs.Lines.{maxDigits, lineAt, endAt}
 use Rattle.text.specs.declared.Line.{Line}
 use Rattle.text.specs.declared.Line.the-variants as L
 use Rattle.text.proofs.Lines.{Answers, tells, refuses, line-answers}
-use Rattle.grammars.specs.Forms.{natural, integer, size, fits, inRange, plainly, formAt}
+use Rattle.grammars.specs.Forms.{natural, integer, size, fits, inForm, plainly, formAt}
 use Rattle.grammars.specs.Grammars.{Grammar, the-end, a-line, onFault, onTold, onExpected, step}
 use Rattle.grammars.specs.inside.Answers.{unless, tested, onAnswer}
 use Rattle.grammars.specs.Reasons.{Passes}
@@ -27,7 +27,7 @@ pub natural-passes : {S : Type 0} {g : Grammar S} {s : S} {key : List ℕ} {z : 
 natural-passes {key = key} {z = z} p lock low high x =
     let same : a-line key (p .form) ≡ a-line lock (natural low high) = sym (p .is-expected) ∙ x in
     let is : p .form ≡ natural low high = cc in
-    within-true low high (size z) (subst (λ f. inRange f z ≡ true) is (p .in-range))
+    within-true low high (size z) (subst (λ f. inForm f z ≡ true) is (p .in-range))
 
 -- ---- and which numbers pass: those in the range, where the range itself can be written, which computes
 module _ {S : Type 0} {g : Grammar S} {s : S} {key : List ℕ} where

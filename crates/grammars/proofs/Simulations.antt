@@ -10,7 +10,7 @@ use lib.ListN.{length}
 use Rattle.basics.specs.Basics.{isIn}
 use Rattle.basics.proofs.Tests.{test-of}
 use Rattle.text.specs.Text.{lineFeed}
-use Rattle.grammars.specs.Forms.{Form, fits, inRange, Told, number, no-number, formAt}
+use Rattle.grammars.specs.Forms.{Form, fits, inForm, Told, number, no-number, formAt}
 use Rattle.grammars.specs.Grammars.{Grammar, Expected, the-end, a-line, keyIn, Plain, Verdict, accepted, refused}
 use Rattle.grammars.specs.Grammars.{onFault, onTold, onExpected, onStep, readFor, readFrom}
 use Rattle.grammars.specs.Reasons.{Passes}
@@ -22,7 +22,7 @@ pub record Simulates {C S : Type 0} (h : Grammar C) (g : Grammar S) (R : C → S
   pub same-line : (c : C) (s : S) → R c s → h .expected c ≡ g .expected s
   pub same-fault : (c : C) (s : S) (key : List ℕ) (form : Form) (z : ℤ) → R c s → g .expected s ≡ a-line key form
       → fits form z ≡ true
-      → inRange form z ≡ true
+      → inForm form z ≡ true
       → h .fault c z ≡ g .fault s z
   pub same-state : (c : C) (s : S) (key : List ℕ) (z : ℤ) → R c s → Passes g s key z → R (h .after c z) (g .after s z)
 
@@ -37,7 +37,7 @@ module _ {C S : Type 0} (h : Grammar C) (g : Grammar S) (R : C → S → Type 0)
       (ih : (d : C) (t : S) (next j : ℕ) → R d t → Alike R (F d next j) (G t next j))
       (c : C) (s : S) (at k : ℕ) (r : R c s) where
     by-fault : (key : List ℕ) (form : Form) → g .expected s ≡ a-line key form → (z : ℤ) (next : ℕ)
-        → fits form z ≡ true → inRange form z ≡ true → (n : ℕ) → g .fault s z ≡ n
+        → fits form z ≡ true → inForm form z ≡ true → (n : ℕ) → g .fault s z ≡ n
         → Alike R (onStep (onFault h c z next k n) F) (onStep (onFault g s z next k n) G)
     by-fault key form x z next f w zero e =
         ih (h .after c z) (g .after s z) next (suc k)

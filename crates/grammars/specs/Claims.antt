@@ -8,7 +8,7 @@ use Rattle.text.specs.Text.{signed, keyLine}
 use Rattle.grammars.specs.Grammars.{Grammar, the-end, accepted, refused, read}
 use Rattle.grammars.specs.Reasons.{Passes, Reaches, Refused}
 
--- the text's lines lead to the state, and nothing follows
+-- the text's lines lead to the state, and nothing follows; `lines` is the number of the line after the last
 pub record AsWritten {S : Type 0} (g : Grammar S) (start : S) (text : List ℕ) (s : S) : Type 0 where
   pub lines : ℕ
   pub whole : Reaches g start text lines s []

@@ -7,7 +7,7 @@ use lib.IntN.{ℤ, pos, negsuc}
 use lib.ListN.{drop}
 use Rattle.basics.specs.Basics.{pick, within}
 use Rattle.text.specs.Text.{bytes}
-use Rattle.text.specs.Lines.{maxDigits, malformed, begins, lineAt}
+use Rattle.text.specs.Lines.{maxDigits, malformed, begins, lineAt, refusal}
 use Rattle.text.specs.declared.Line.{Line}
 use Rattle.text.specs.declared.Line.the-variants as L
 
@@ -27,9 +27,9 @@ fits (natural low high) (pos v) = ltb v (10 ^ maxDigits)
 fits (natural low high) (negsuc n) = false
 fits integer z = ltb (size z) (10 ^ maxDigits)
 
-abbrev pub inRange : Form → ℤ → Bool
-inRange (natural low high) z = within low high (size z)
-inRange integer z = true
+abbrev pub inForm : Form → ℤ → Bool
+inForm (natural low high) z = within low high (size z)
+inForm integer z = true
 
 -- a number with the offset after its line, or a refusal
 pub data Told : Type 0 where
@@ -38,8 +38,8 @@ pub data Told : Type 0 where
 
 abbrev pub plainly : Line → Told
 plainly (L.Number v next) = number (pos v) next
-plainly L.End = no-number 0
-plainly (L.Refused n k) = no-number n
+plainly L.End = no-number (refusal L.End)
+plainly (L.Refused n k) = no-number (refusal (L.Refused n k))
 
 -- a number after a sign, which is not 0
 abbrev pub belowZero : ℕ → ℕ → Told
@@ -48,8 +48,8 @@ belowZero (suc n) next = number (negsuc n) next
 
 abbrev pub negated : Line → Told
 negated (L.Number v next) = belowZero v next
-negated L.End = no-number 0
-negated (L.Refused n k) = no-number n
+negated L.End = no-number (refusal L.End)
+negated (L.Refused n k) = no-number (refusal (L.Refused n k))
 
 abbrev pub minus : List ℕ
 minus = bytes "-"

@@ -8,6 +8,7 @@ use lib.IntN.{ℤ}
 use lib.ListN.{length}
 use Rattle.basics.specs.Basics.{pick, isIn}
 use Rattle.text.specs.Text.{lineFeed}
+use Rattle.text.specs.Lines.{missing}
 use Rattle.grammars.specs.Forms.{Form, Told, number, no-number, formAt}
 
 -- what is to stand next: nothing more, or a line with a key and a number
@@ -51,7 +52,7 @@ onTold g s k (number z next) = onFault g s z next k (g .fault s z)
 onTold g s k (no-number n) = stops (refused n k)
 
 abbrev pub onExpected : {S : Type 0} → Grammar S → List ℕ → S → ℕ → ℕ → Expected → Step S
-onExpected g text s at k the-end = stops (pick (ltb at (length text)) (refused 1 k) (accepted s))
+onExpected g text s at k the-end = stops (pick (ltb at (length text)) (refused missing k) (accepted s))
 onExpected g text s at k (a-line key form) = onTold g s k (formAt key form text at k)
 
 -- the line k that begins at an offset
@@ -64,7 +65,7 @@ onStep (stops o) f = o
 
 -- line by line, while there is fuel
 unfoldable pub readFor : {S : Type 0} → ℕ → Grammar S → List ℕ → S → ℕ → ℕ → Verdict S
-readFor zero g text s at k = refused 1 k
+readFor zero g text s at k = refused missing k
 readFor (suc fuel) g text s at k = onStep (step g text s at k) (λ t next j. readFor fuel g text t next j)
 
 -- from the line k that begins at an offset; each line has a byte, so there is fuel enough

@@ -5,28 +5,31 @@ ghost use Prim.Native.Nat.{_*_, _≤_, _<_};
 ghost use lib.ListN.{length, take};
 ghost use Rattle.rows.specs.Rows.{maxTasks, inRange};
 ghost use Rattle.orders.specs.inside.Numbers.{numbersRoom, rowIn, rowsIn, RowPut};
+use rows::ALPHA;
+use rows::BEST;
+use rows::BETA;
+use rows::FIELDS;
 use rows::MAX_TASKS;
+use rows::PERIOD;
 use rows::Row;
-
-// How many numbers a row has.
-const ROW_NUMBERS: usize = 6;
+use rows::WORST;
 
 // Room for the numbers of all rows.
-pub const NUMBERS: usize = ROW_NUMBERS * MAX_TASKS;
+pub const NUMBERS: usize = FIELDS * MAX_TASKS;
 
 // Row i of the numbers.
 pub fn row_at(numbers: &[u64; NUMBERS], i: usize) -> Row
     requires { ⌜ (i < maxTasks) × (inRange (rowIn (now numbers) i) ≡ true) ⌝ }
     ensures { λ r. ⌜ r ≡ rowIn (now (numbers .entry)) i ⌝ }
 {
-    let at = ROW_NUMBERS * i;
+    let at = FIELDS * i;
     Row {
         task: numbers[at] as u32,
-        period: numbers[at + 1] as u32,
-        worst: numbers[at + 2] as u32,
-        best: numbers[at + 3] as u32,
-        alpha: numbers[at + 4] as u32,
-        beta: numbers[at + 5],
+        period: numbers[at + PERIOD] as u32,
+        worst: numbers[at + WORST] as u32,
+        best: numbers[at + BEST] as u32,
+        alpha: numbers[at + ALPHA] as u32,
+        beta: numbers[at + BETA],
     }
 }
 
@@ -35,13 +38,13 @@ fn put_row(numbers: &mut [u64; NUMBERS], i: usize, row: Row)
     requires { ⌜ (i < maxTasks) × (numbersRoom ≤ length (now numbers)) ⌝ }
     ensures { λ _. ⌜ RowPut (now (numbers .entry)) i row (now (numbers .exit)) ⌝ }
 {
-    let at = ROW_NUMBERS * i;
+    let at = FIELDS * i;
     numbers[at] = row.task as u64;
-    numbers[at + 1] = row.period as u64;
-    numbers[at + 2] = row.worst as u64;
-    numbers[at + 3] = row.best as u64;
-    numbers[at + 4] = row.alpha as u64;
-    numbers[at + 5] = row.beta;
+    numbers[at + PERIOD] = row.period as u64;
+    numbers[at + WORST] = row.worst as u64;
+    numbers[at + BEST] = row.best as u64;
+    numbers[at + ALPHA] = row.alpha as u64;
+    numbers[at + BETA] = row.beta;
 }
 
 // The rows of a lent table are put among the numbers, one after another.

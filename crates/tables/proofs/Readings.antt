@@ -56,6 +56,7 @@ module _ (ranked : Bool) (text : List ℕ) where
           let is = read-is (accepted (at-end b rs os)) e in
           let known = holds (table ranked) at-board (Known ranked) (sound ranked) (written .whole) in
           record {
+            each-line = refl;
             sound = λ z. subst (Accepted ranked) (sym is) known;
             as-written = λ z.
                 subst (λ (a : TableRead). Tells ranked text (a .board) (a .rows) (a .order)) (sym is) written;
@@ -72,6 +73,7 @@ module _ (ranked : Bool) (text : List ℕ) where
           let is = read-is (refused n k) e in
           let number : readTable ranked text .refused ≡ n = ap (λ (a : TableRead). a .refused) is in
           record {
+            each-line = refl;
             sound = λ z. absurd (omega (arith, number));
             as-written = λ z. absurd (omega (arith, number));
             reason = λ m z.

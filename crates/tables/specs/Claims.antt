@@ -6,9 +6,9 @@ use mathlib.Core.List.{List, []}
 use Prim.Native.Nat.{ℕ, suc, _≤_}
 use lib.ListN.{length}
 use Rattle.grammars.specs.Claims.{AsWritten, Reason}
-use Rattle.rows.specs.Rows.{minTasks, maxTasks, inRange, allRows, distinctRows, isPossible}
+use Rattle.rows.specs.Rows.{minTasks, maxTasks, fieldCount, inRange, allRows, distinctRows, isPossible}
 use Rattle.rows.specs.declared.Row.{Row}
-use Rattle.tables.specs.TableLines.{minBoard, maxBoard, at-board, at-end, table}
+use Rattle.tables.specs.TableLines.{minBoard, maxBoard, rowLines, at-board, at-end, table}
 use Rattle.tables.specs.TableLines.{TableRead, tableOf, turnedDown, readTable}
 
 -- an accepted table
@@ -32,6 +32,8 @@ Fails ranked text n k = Reason (table ranked) at-board text n k
 
 -- every text is accepted as it is written, or refused for its reason
 pub record Read (ranked : Bool) (text : List ℕ) : Type 0 where
+  -- a row has as many numbers as its lines
+  pub each-line : length rowLines ≡ fieldCount
   pub sound : readTable ranked text .refused ≡ 0 → Accepted ranked (readTable ranked text)
   pub as-written :
       readTable ranked text .refused ≡ 0
@@ -39,5 +41,6 @@ pub record Read (ranked : Bool) (text : List ℕ) : Type 0 where
   pub reason :
       (n : ℕ) → readTable ranked text .refused ≡ suc n → Fails ranked text (suc n) (readTable ranked text .line)
   -- and the other way round: what the lines say decides the answer
-  pub accepts : (b : ℕ) (rs : List Row) (os : List ℕ) → Tells ranked text b rs os → readTable ranked text ≡ tableOf b rs os
+  pub accepts :
+      (b : ℕ) (rs : List Row) (os : List ℕ) → Tells ranked text b rs os → readTable ranked text ≡ tableOf b rs os
   pub refuses : (n k : ℕ) → Fails ranked text n k → readTable ranked text ≡ turnedDown n k

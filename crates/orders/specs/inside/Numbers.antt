@@ -3,11 +3,11 @@ use mathlib.Core.Path.{_≡_}
 use mathlib.Core.List.{List, [], _∷_}
 use Prim.Native.Nat.{ℕ, zero, suc, _+_, _*_}
 use lib.ListN.{length, getD}
-use Rattle.rows.specs.Rows.{maxTasks, row}
+use Rattle.rows.specs.Rows.{maxTasks, periodAt, worstAt, bestAt, alphaAt, betaAt, fieldCount, row}
 use Rattle.rows.specs.declared.Row.{Row}
 
 abbrev pub rowNumbers : ℕ
-rowNumbers = 6
+rowNumbers = fieldCount
 
 -- room for the numbers of all rows
 abbrev pub numbersRoom : ℕ
@@ -17,8 +17,8 @@ numbersRoom = rowNumbers * maxTasks
 abbrev pub rowIn : List ℕ → ℕ → Row
 rowIn ns i =
     let at = rowNumbers * i in
-    row (getD ns at 0) (getD ns (at + 1) 0) (getD ns (at + 2) 0) (getD ns (at + 3) 0) (getD ns (at + 4) 0)
-    (getD ns (at + 5) 0)
+    row (getD ns at 0) (getD ns (at + periodAt) 0) (getD ns (at + worstAt) 0) (getD ns (at + bestAt) 0)
+    (getD ns (at + alphaAt) 0) (getD ns (at + betaAt) 0)
 
 -- k rows from row i on, and as many rows as a table can have
 unfoldable pub rowsInFrom : List ℕ → ℕ → ℕ → List Row
