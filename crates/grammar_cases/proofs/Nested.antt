@@ -26,7 +26,7 @@ use Rattle.rows.specs.declared.Row.{Row}
 use Rattle.tables.specs.TableLines.{minBoard, maxBoard, rowLineAt, newRank}
 use Rattle.tables.specs.TableLines.{Stage, at-board, at-tasks, at-field, at-rank, at-end, ranksStage, rowsStage}
 use Rattle.tables.specs.TableLines.{expected, fault, after, table, TableRead, turnedDown, onVerdict, readTable}
-use Rattle.grammar_cases.specs.Nested.{onNumber, crossAt, fieldAt, rankAt, ranksFrom}
+use Rattle.grammar_cases.specs.Nested.{onNumber, keyAt, lowAt, highAt, crossAt, fieldAt, rankAt, ranksFrom}
 use Rattle.grammar_cases.specs.Nested.{Fields, fields, fieldsFrom, rowsFrom, tasksFrom, nested}
 
 -- ---- the nested reading's tests are the grammar's
@@ -39,7 +39,19 @@ refused-unless : (b : Bool) (n k : ℕ) (l : Line) → pick b l (L.Refused (suc 
 refused-unless true n k l = refl
 refused-unless false n k l = refl
 
--- at each position of a row
+-- at each position of a row: the line that is expected
+line-expected : (i : ℕ) (text : List ℕ) (at k : ℕ)
+    → lineAt (keyAt i) (lowAt i) (highAt i) text at k
+    ≡ lineAt (rowLineAt i .key) (rowLineAt i .low) (rowLineAt i .high) text at k
+line-expected zero text at k = refl
+line-expected (suc zero) text at k = refl
+line-expected (suc (suc zero)) text at k = refl
+line-expected (suc (suc (suc zero))) text at k = refl
+line-expected (suc (suc (suc (suc zero)))) text at k = refl
+line-expected (suc (suc (suc (suc (suc zero))))) text at k = refl
+line-expected (suc (suc (suc (suc (suc (suc i)))))) text at k = refl
+
+-- and the test of its number
 cross-tested : (i : ℕ) (vs : List ℕ) (rs : List Row) (k v : ℕ) (l : Line)
     → crossAt i vs rs k v l ≡ unless (rowLineAt i .fault rs vs v) l k
 cross-tested zero vs rs k v l = refused-where (hasTask v rs) 4 k l
@@ -127,7 +139,8 @@ module _ (ranked : Bool) (text : List ℕ) where
         let line = lineAt (x .key) (x .low) (x .high) text at k in
         line-same (at-field n b rs vs) (x .key) (x .low) (x .high) at k refl (fieldAt i vs rs text at k)
         (subst (λ j. fieldAt j vs rs text at k ≡ tested (x .fault rs vs) line k) (sym e)
-        (on-number (λ v l. crossAt (length vs) vs rs k v l) (x .fault rs vs) k (cross-tested (length vs) vs rs k) line))
+        (ap (λ l. onNumber l (λ v next. crossAt (length vs) vs rs k v l) l) (line-expected (length vs) text at k)
+        ∙ on-number (λ v l. crossAt (length vs) vs rs k v l) (x .fault rs vs) k (cross-tested (length vs) vs rs k) line))
         (λ l. onFields (onNumber l (λ v next. fieldsFrom m (suc i) (vs ++ (v ∷ [])) rs text next (suc k))
         (fields (refusal l) (place l) [] 0)))
         goes

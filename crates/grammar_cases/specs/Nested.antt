@@ -10,15 +10,44 @@ use Rattle.text.specs.Text.{bytes}
 use Rattle.text.specs.Lines.{lineAt, refusal, place}
 use Rattle.text.specs.declared.Line.{Line}
 use Rattle.text.specs.declared.Line.the-variants as L
-use Rattle.rows.specs.Rows.{minTask, maxTask, minTasks, maxTasks, fieldCount, rowOf, hasTask}
+use Rattle.rows.specs.Rows.{minTask, maxTask, minTicks, maxTicks, minAlpha, maxAlpha, minBeta, maxBeta}
+use Rattle.rows.specs.Rows.{minTasks, maxTasks, fieldCount, rowOf, hasTask}
 use Rattle.rows.specs.declared.Row.{Row}
-use Rattle.tables.specs.TableLines.{minBoard, maxBoard, rowLineAt, TableRead, turnedDown, tableOf}
+use Rattle.tables.specs.TableLines.{minBoard, maxBoard, TableRead, turnedDown, tableOf}
 
 -- what is done with the number of a line and the offset after it, or else with any other answer
 abbrev pub onNumber : {A : Type 0} → Line → (ℕ → ℕ → A) → A → A
 onNumber (L.Number v next) f x = f v next
 onNumber L.End f x = x
 onNumber (L.Refused n k) f x = x
+
+-- the key of each line of a row, and the range of its number; none past them
+abbrev pub keyAt : ℕ → List ℕ
+keyAt zero = bytes "task="
+keyAt (suc zero) = bytes "period="
+keyAt (suc (suc zero)) = bytes "worst="
+keyAt (suc (suc (suc zero))) = bytes "best="
+keyAt (suc (suc (suc (suc zero)))) = bytes "alpha="
+keyAt (suc (suc (suc (suc (suc zero))))) = bytes "beta="
+keyAt (suc (suc (suc (suc (suc (suc n)))))) = []
+
+abbrev pub lowAt : ℕ → ℕ
+lowAt zero = minTask
+lowAt (suc zero) = minTicks
+lowAt (suc (suc zero)) = minTicks
+lowAt (suc (suc (suc zero))) = minTicks
+lowAt (suc (suc (suc (suc zero)))) = minAlpha
+lowAt (suc (suc (suc (suc (suc zero))))) = minBeta
+lowAt (suc (suc (suc (suc (suc (suc n)))))) = 0
+
+abbrev pub highAt : ℕ → ℕ
+highAt zero = maxTask
+highAt (suc zero) = maxTicks
+highAt (suc (suc zero)) = maxTicks
+highAt (suc (suc (suc zero))) = maxTicks
+highAt (suc (suc (suc (suc zero)))) = maxAlpha
+highAt (suc (suc (suc (suc (suc zero))))) = maxBeta
+highAt (suc (suc (suc (suc (suc (suc n)))))) = 0
 
 -- the tests of a number beside its range: vs are the row's numbers before it, rs the rows before the row
 abbrev pub crossAt : ℕ → List ℕ → List Row → ℕ → ℕ → Line → Line
@@ -31,7 +60,7 @@ crossAt (suc (suc (suc (suc n)))) vs rs k v l = l
 -- the line of a row at a position
 abbrev pub fieldAt : ℕ → List ℕ → List Row → List ℕ → ℕ → ℕ → Line
 fieldAt i vs rs text at k =
-    let l = lineAt (rowLineAt i .key) (rowLineAt i .low) (rowLineAt i .high) text at k in
+    let l = lineAt (keyAt i) (lowAt i) (highAt i) text at k in
     onNumber l (λ v next. crossAt i vs rs k v l) l
 
 -- a rank line names a task of the table that was not named yet

@@ -1,5 +1,5 @@
--- A rank has at most 82 bytes, and the three lines before the ranks at most 28, so a plan of twelve ranks has at most
--- 1,012: every plan of rows in range has room. A refusal's three lines have at most 35.
+-- A rank has at most 82 bytes, and the three lines before the ranks at most 28, so a plan of n ranks has at most
+-- 28 + 82 n: every plan of rows in range has room. A refusal's three lines have at most 35.
 use mathlib.Core.Path.{_≡_, refl, sym, ap, _∙_}
 use mathlib.Core.Bool.{true, false}
 use mathlib.Core.List.{List, [], _∷_, _++_, append-nil}
