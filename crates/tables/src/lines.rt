@@ -78,10 +78,10 @@ fn new_rank(numbers: &[u64], count: usize, named: usize, answer: Line, line: u32
     let Line::Number(value, _) = answer else {
         return answer;
     };
-    let start = HEAD + FIELDS * count;
-    let known = has_task(numbers, HEAD, count, value);
-    let again = is_among(numbers, start, named, value);
-    if known & !again {
+    if has_task(numbers, HEAD, count, value) {
+        if is_among(numbers, HEAD + FIELDS * count, named, value) {
+            return Line::Refused(IMPOSSIBLE, line);
+        }
         return answer;
     }
     Line::Refused(IMPOSSIBLE, line)

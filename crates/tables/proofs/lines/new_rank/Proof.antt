@@ -14,13 +14,28 @@ returns c =
 
 returns-2 : tie.Need-returns-2
 returns-2 c =
-    let answer = c .before .before .before .before .answer .given .1 in
-    rw (answer, ← c .before .before .has-task .ensures, ← c .before .is-among .ensures, c .if1 .taken)
+    let call = c .before .before .before in
+    rw (
+      call .before .before .answer .given .1,
+      ← call .has-task .ensures,
+      c .before .before .if1 .taken,
+      ← c .before .is-among .ensures,
+      c .if2 .taken,
+    )
 
 returns-3 : tie.Need-returns-3
 returns-3 c =
-    let answer = c .before .before .before .before .answer .given .1 in
-    rw (answer, ← c .before .before .has-task .ensures, ← c .before .is-among .ensures, c .if1 .left)
+    let call = c .before .before .before in
+    rw (
+      call .before .before .answer .given .1,
+      ← call .has-task .ensures,
+      c .before .before .if1 .taken,
+      ← c .before .is-among .ensures,
+      c .if2 .left,
+    )
+
+returns-4 : tie.Need-returns-4
+returns-4 c = rw (c .before .before .before .answer .given .1, ← c .before .has-task .ensures, c .if1 .left)
 
 pub new-rank-spec : {M : Type 1} → statement M
 new-rank-spec =
@@ -28,9 +43,10 @@ new-rank-spec =
     (tie.spec
     (λ c. search needs)
     returns
-    (λ c. search needs)
-    (λ c. search needs)
     (λ c κs. search needs)
+    (λ c. search needs)
+    (λ c. search needs)
     (λ c κs. search needs)
     returns-2
-    returns-3)
+    returns-3
+    returns-4)
