@@ -1,21 +1,23 @@
--- The figures are those of document 03, whose definitions stand here as they stand there.
+-- The figures are those of document 03, whose definitions stand here as they stand there: a job takes at most the row's
+-- worst, and the rows below hold nothing up.
 use mathlib.Core.Path.{_≡_, refl, ap, ap₂, sym, _∙_}
 use mathlib.Core.Bool.{Bool, true, false, _&&_, not, cond}
 use mathlib.Core.Logic.{inl, inr}
 use mathlib.Core.List.{List, [], _∷_, map}
 use Prim.Native.Nat.{ℕ, zero, suc, _+_, _-_, _*_, _≤_, _<_}
-use native.Mathlib.Nat.{sub-zero}
+use native.Mathlib.Nat.{sub-zero, add-zero}
 use native.Mathlib.Omega.{arith}
 use borrow.Author.Tests.{ltb-true, ltb-false, eqb-true, eqb-false, leb-true, leb-false, lt-ltb, le-ltb}
 use lib.Dec.{eqb, ltb, leb}
 use lib.IntN.{ℤ, pos, negsuc, subℕ}
 use lib.Signed.{leZ}
+use Rattle.rows.specs.Rows as R
 use Rattle.rows.specs.Rows.{timesInRange, allRows}
 use Rattle.rows.specs.declared.Row.{Row}
 use Rattle.rows.proofs.Limits.{times}
 use Rattle.responses.specs.declared.Figures.{Figures}
 use Rattle.responses.specs.Extremes.{largest}
-use Rattle.responses.specs.Interference.{ceiling, largestFixed}
+use Rattle.responses.specs.Interference.{ceiling, leastFixed, largestFixed}
 use Rattle.basics.specs.Basics.{pick}
 use Rattle.basics.proofs.Tests.{test-of}
 use Rattle.responses.specs.Figures.{worstLoad, bestLoad, worstIn, bestIn}
@@ -71,12 +73,18 @@ isStable t rs = not (isLate t rs) && leb (cost t rs) (t .beta)
 
 -- ---- sums
 worst-is : (x : ℕ) (rs : List Row) → worstSum x rs ≡ worstIn x rs
+unfolding R.cost
 worst-is x [] = refl
 worst-is x (r ∷ rs) = ap₂ (λ (k s : ℕ). k * r .worst + s) (sym (sub-zero (ceiling x (r .period)))) (worst-is x rs)
 
 best-is : (x : ℕ) (rs : List Row) → bestSum x rs ≡ bestIn x rs
 best-is x [] = refl
 best-is x (r ∷ rs) = ap (λ (s : ℕ). (ceiling x (r .period) - 1) * r .best + s) (best-is x rs)
+
+-- what W's equation adds to the interference
+base-is : (t : Row) (below : List Row) → R.cost t + F.blocking below ≡ t .worst
+unfolding R.cost F.blocking
+base-is t below = add-zero (t .worst)
 
 -- ---- the iterations: one step, by its tests
 abbrev step : Bool → Bool → ℕ → ℕ → ℕ
@@ -85,7 +93,7 @@ step past same w next = elim past [ true ↦ 0 | false ↦ elim same [ true ↦ 
 -- raised from w, which is at most what it takes and every fixed point, W is found
 raised : (t : Row) (rs : List Row) (f w : ℕ) → 1 ≤ w → w ≤ t .worst + worstIn w rs
     → ((v : ℕ) → 1 ≤ v → v ≡ t .worst + worstIn v rs → v ≤ t .period → w ≤ v)
-    → t .period < f + w → latestFrom f t rs w ≡ F.latest t rs
+    → t .period < f + w → latestFrom f t rs w ≡ leastFixed (t .worst) (t .period) (map worstLoad rs)
 raised t rs zero w h k l m =
     least-none (t .worst) (t .period) (map worstLoad rs) (λ v a e b. omega (arith, l v a e b))
 raised t rs (suc f) w h k l m =
@@ -137,32 +145,34 @@ less-is a b = elim (test-of (leb b a)) [
 ]
 
 -- ---- figures of rows whose times are in range
-module _ (t : Row) (rs : List Row) (ht : timesInRange t ≡ true) (hr : allRows timesInRange rs ≡ true) where
-  pub latest-is : latest t rs ≡ F.latest t rs
+module _ (t : Row) (rs below : List Row) (ht : timesInRange t ≡ true) (hr : allRows timesInRange rs ≡ true) where
+  pub latest-is : latest t rs ≡ F.latest t rs below
+  unfolding R.cost
   latest-is =
       let l = times t ht in
       raised t rs (suc (t .period)) (t .worst) (omega arith) (omega arith) (λ v a e b. omega arith) (omega arith)
+      ∙ sym (ap (λ (b : ℕ). leastFixed b (t .period) (map worstLoad rs)) (base-is t below))
 
-  from-latest : (w : ℕ) → w ≡ F.latest t rs → earliestFrom w t rs w ≡ largestFixed (t .best) w (map bestLoad rs)
+  from-latest : (w : ℕ) → w ≡ F.latest t rs below → earliestFrom w t rs w ≡ largestFixed (t .best) w (map bestLoad rs)
   unfolding largest
   from-latest zero e = refl
   from-latest (suc w) e =
       let l = times t ht in
-      let r = responses t rs ht hr (omega arith) in
+      let r = responses t rs below ht hr (omega arith) in
       let b : t .best + bestIn (suc w) rs ≤ suc w = rw e (r .best-fits) in
       lowered t rs (suc w) (suc w) (suc w) (l .best-some) b (omega arith) b (λ v a c. c) (omega arith)
 
-  pub earliest-is : earliest t rs ≡ F.earliest t rs
+  pub earliest-is : earliest t rs ≡ F.earliest t rs below
   earliest-is = from-latest (latest t rs) latest-is
       ∙ ap (λ (w : ℕ). largestFixed (t .best) w (map bestLoad rs)) latest-is
 
-  cost-is : cost t rs ≡ 1000 * F.earliest t rs + t .alpha * F.jitter t rs
+  cost-is : cost t rs ≡ 1000 * F.earliest t rs below + t .alpha * F.jitter t rs below
   cost-is = ap₂ (λ (w e : ℕ). 1000 * e + t .alpha * (w - e)) latest-is earliest-is
 
-  pub margin-is : margin t rs ≡ F.margin t rs
+  pub margin-is : margin t rs ≡ F.margin t rs below
   margin-is = less-is (t .beta) (cost t rs) ∙ ap (subℕ (t .beta)) cost-is
 
-  pub stable-is : isStable t rs ≡ F.isStable t rs
+  pub stable-is : isStable t rs ≡ F.isStable t rs below
   stable-is =
       ap₂ (λ (w : ℕ) (b : Bool). not (eqb w 0) && b) latest-is
       (sym (not-below-zero (t .beta) (cost t rs)) ∙ ap (λ (c : ℕ). leZ (pos 0) (subℕ (t .beta) c)) cost-is)
@@ -179,9 +189,9 @@ Say ok late w e j m s x =
     × (x .margin ≡ pick on m (pos 0))
     × (x .stable ≡ (on && s))
 
-abbrev pub FiguresSay : Row → List Row → Figures → Type 0
-FiguresSay t rs x =
-    Say (F.inLimits t rs) (isLate t rs) (latest t rs) (earliest t rs) (jitter t rs) (margin t rs) (isStable t rs) x
+abbrev pub FiguresSay : Row → List Row → List Row → Figures → Type 0
+FiguresSay t rs below x =
+    Say (F.inLimits t rs below) (isLate t rs) (latest t rs) (earliest t rs) (jitter t rs) (margin t rs) (isStable t rs) x
 
 -- by cases: rows out of the limits, a row that is late, and one that is not
 said : (ok l l′ : Bool) (w w′ e e′ : ℕ) (m m′ : ℤ) (s : Bool)
@@ -193,11 +203,11 @@ said true l false w w′ e e′ m m′ s h =
     let g = h refl in
     rw (g .0, g .1, g .2, g .3, g .4) (refl, refl, refl, refl, refl, refl, refl)
 
-pub figures-say : (t : Row) (rs : List Row) → FiguresSay t rs (F.figuresOf t rs)
-figures-say t rs =
-    said (F.inLimits t rs) (isLate t rs) (F.isLate t rs) (latest t rs) (F.latest t rs) (earliest t rs)
-    (F.earliest t rs) (margin t rs) (F.margin t rs) (isStable t rs) (λ ok.
-    let h = limits-times t rs ok in
-    let w = latest-is t rs (h .0) (h .1) in
-    let e = earliest-is t rs (h .0) (h .1) in
-    (ap (λ (x : ℕ). eqb x 0) w, w, e, margin-is t rs (h .0) (h .1), stable-is t rs (h .0) (h .1)))
+pub figures-say : (t : Row) (rs below : List Row) → FiguresSay t rs below (F.figuresOf t rs below)
+figures-say t rs below =
+    said (F.inLimits t rs below) (isLate t rs) (F.isLate t rs below) (latest t rs) (F.latest t rs below)
+    (earliest t rs) (F.earliest t rs below) (margin t rs) (F.margin t rs below) (isStable t rs) (λ ok.
+    let h = limits-times t rs below ok in
+    let w = latest-is t rs below (h .0) (h .1) in
+    let e = earliest-is t rs below (h .0) (h .1) in
+    (ap (λ (x : ℕ). eqb x 0) w, w, e, margin-is t rs below (h .0) (h .1), stable-is t rs below (h .0) (h .1)))

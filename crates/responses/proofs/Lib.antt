@@ -1,10 +1,7 @@
--- Laws of interference, fixed points and figures, and of rows as columns.
+-- Laws of interference, fixed points and figures.
 pub mod Sums
 pub mod FixedPoints
 pub mod Margins
 pub mod Responses
 pub mod Sequences
 pub mod As03
-pub mod Columns
-pub mod RowsAbove
-pub mod Filling

@@ -1,5 +1,5 @@
--- The figures depend on the rows above only through their interference: so on which rows they are, and not on their
--- sequence. W does not fall as interference grows.
+-- The figures depend on the rows above only through their interference, and on those below only through the blocking
+-- time: so on which rows they are, and not on their sequence. W does not fall as interference grows.
 use mathlib.Core.Path.{_≡_, refl, ap, ap₂, sym, _∙_, fun-ext}
 use mathlib.Core.Bool.{Bool, true, false, _&&_, not, Bool-set}
 use lib.IntN.{pos}
@@ -13,34 +13,36 @@ use native.Mathlib.Omega.{arith}
 use lib.Dec.{eqb, leb}
 use lib.ListN.{length}
 use Rattle.basics.specs.Basics.{pick}
-use Rattle.rows.specs.Rows.{inRange, allRows}
+use Rattle.rows.specs.Rows.{cost, inRange, allRows}
 use Rattle.rows.specs.declared.Row.{Row}
 use Rattle.responses.specs.declared.Figures.{Figures}
 use Rattle.responses.specs.Extremes.{smallest, largest}
 use Rattle.responses.specs.Interference.{ceiling, Load, interference}
-use Rattle.responses.specs.Figures.{worstLoad, bestLoad, worstIn, bestIn, latest, earliest, marginAt}
-use Rattle.responses.specs.Figures.{lateFigures, noFigures}
-use Rattle.responses.specs.Figures.{figuresAt, figuresUnder, maxAbove, figuresOf}
+use Rattle.responses.specs.Figures.{worstLoad, bestLoad, worstIn, bestIn, blocking, latest, earliest}
+use Rattle.responses.specs.Figures.{marginAt, lateFigures, noFigures}
+use Rattle.responses.specs.Figures.{figuresAt, figuresUnder, maxOthers, figuresOf}
 use Rattle.responses.specs.Claims.{SameFigures, BySet}
 use Rattle.responses.proofs.FixedPoints.{fixed-below, demand-mono, least-fixed, least-least}
 
-pub record Same (xs ys : List Row) : Type 0 where
+-- rows above, xs or ys, and rows below, bs or cs, that count the same
+pub record Same (xs ys bs cs : List Row) : Type 0 where
   pub worst-same : (x : ℕ) → worstIn x xs ≡ worstIn x ys
   pub best-same : (x : ℕ) → bestIn x xs ≡ bestIn x ys
+  pub blocking-same : blocking bs ≡ blocking cs
 
-module _ (t : Row) {xs ys : List Row} (s : Same xs ys) where
-  pub latest-same : latest t xs ≡ latest t ys
+module _ (t : Row) {xs ys bs cs : List Row} (s : Same xs ys bs cs) where
+  pub latest-same : latest t xs bs ≡ latest t ys cs
   latest-same =
       ap (λ (f : ℕ → Bool). smallest f (t .period))
-      (fun-ext (λ x. ap (λ (k : ℕ). eqb x (t .worst + k)) (s .worst-same x)))
+      (fun-ext (λ x. ap₂ (λ (h k : ℕ). eqb x (cost t + h + k)) (s .blocking-same) (s .worst-same x)))
 
-  pub earliest-same : earliest t xs ≡ earliest t ys
+  pub earliest-same : earliest t xs bs ≡ earliest t ys cs
   earliest-same =
       ap₂ (λ (f : ℕ → Bool) (w : ℕ). largest f w)
       (fun-ext (λ x. ap (λ (k : ℕ). eqb x (t .best + k)) (s .best-same x)))
       latest-same
 
-  pub same-figures : SameFigures t xs ys
+  pub same-figures : SameFigures t xs ys bs cs
   same-figures = record {
     latest-same = latest-same;
     earliest-same = earliest-same;
@@ -50,7 +52,7 @@ module _ (t : Row) {xs ys : List Row} (s : Same xs ys) where
     stable-same = ap₂ (λ (w e : ℕ). not (eqb w 0) && leZ (pos 0) (marginAt t w e)) latest-same earliest-same;
   }
 
-  pub figures-same : figuresUnder t xs ≡ figuresUnder t ys
+  pub figures-same : figuresUnder t xs bs ≡ figuresUnder t ys cs
   figures-same =
       ap₂ (λ (w e : ℕ). pick (eqb w 0) lateFigures (figuresAt w e (marginAt t w e))) latest-same earliest-same
 
@@ -89,34 +91,43 @@ length-permuted : {xs ys : List Row} → Perm xs ys → length xs ≡ length ys
 length-permuted p =
     ∥∥₁-elim p (ℕ-set _ _) (permuted length (λ r n. suc n) (λ r rs. refl) (λ r q n. refl))
 
-pub same-permuted : {xs ys : List Row} → Perm xs ys → Same xs ys
-same-permuted p = record {
+blocking-permuted : {bs cs : List Row} → Perm bs cs → blocking bs ≡ blocking cs
+unfolding blocking
+blocking-permuted p = refl
+
+pub same-permuted : {xs ys bs cs : List Row} → Perm xs ys → Perm bs cs → Same xs ys bs cs
+same-permuted p q = record {
   worst-same = λ x. interference-permuted worstLoad 0 x p;
   best-same = λ x. interference-permuted bestLoad 1 x p;
+  blocking-same = blocking-permuted q;
 }
 
 pub by-set : BySet
-by-set t above others p = same-figures t (same-permuted p)
+by-set t above above′ below below′ p q = same-figures t (same-permuted p q)
 
-pub figures-permuted : (t : Row) {xs ys : List Row} → Perm xs ys → figuresOf t xs ≡ figuresOf t ys
-figures-permuted t {xs} {ys} p =
-    let few : Bool → ℕ → Bool = λ b n. inRange t && (b && leb n maxAbove) in
-    let limits = ap₂ few (all-permuted inRange p) (length-permuted p) in
-    ap₂ (λ (b : Bool) (x : Figures). pick b x noFigures) limits (figures-same t (same-permuted p))
+pub figures-permuted : (t : Row) {xs ys bs cs : List Row} → Perm xs ys → Perm bs cs
+    → figuresOf t xs bs ≡ figuresOf t ys cs
+figures-permuted t p q =
+    let few = ap₂ (λ (m n : ℕ). leb (m + n) maxOthers) (length-permuted p) (length-permuted q) in
+    let rest = ap₂ _&&_ (all-permuted inRange q) few in
+    let limits = ap₂ (λ (a b : Bool). inRange t && (a && b)) (all-permuted inRange p) rest in
+    ap₂ (λ (b : Bool) (x : Figures). pick b x noFigures) limits (figures-same t (same-permuted p q))
 
 -- ---- more interference: a task that is not late under ys is not late under xs, and W is no larger
-pub latest-mono : (t : Row) (xs ys : List Row) → 1 ≤ t .worst → ((x : ℕ) → worstIn x xs ≤ worstIn x ys)
-    → 1 ≤ latest t ys → (1 ≤ latest t xs) × (latest t xs ≤ latest t ys)
-latest-mono t xs ys h le k =
-    let w = least-fixed (t .worst) (t .period) (map worstLoad ys) k in
-    let up = demand-mono 0 (t .worst) (map worstLoad xs) in
-    let fits : t .worst + worstIn (latest t ys) xs ≤ latest t ys = omega (arith, w .0, le (latest t ys)) in
-    let f = fixed-below (λ x. t .worst + worstIn x xs) up (λ x. omega arith) (latest t ys) fits in
-    let least = least-least (t .worst) (t .period) (map worstLoad xs) in
+pub latest-mono : (t : Row) (xs ys below : List Row) → 1 ≤ cost t → ((x : ℕ) → worstIn x xs ≤ worstIn x ys)
+    → 1 ≤ latest t ys below → (1 ≤ latest t xs below) × (latest t xs below ≤ latest t ys below)
+latest-mono t xs ys below h le k =
+    let base = cost t + blocking below in
+    let w = least-fixed base (t .period) (map worstLoad ys) k in
+    let up = demand-mono 0 base (map worstLoad xs) in
+    let fits : base + worstIn (latest t ys below) xs ≤ latest t ys below = omega
+    (arith, w .0, le (latest t ys below)) in
+    let f = fixed-below (λ x. base + worstIn x xs) up (λ x. omega arith) (latest t ys below) fits in
+    let least = least-least base (t .period) (map worstLoad xs) in
     let v = least (f .point) (f .some) (f .is-fixed) (omega (arith, f .below, w .1)) in
     (v .0, omega (arith, v .1, f .below))
 
 -- one row less above
-pub latest-without : (t r : Row) (above : List Row) → 1 ≤ t .worst → 1 ≤ latest t (r ∷ above)
-    → (1 ≤ latest t above) × (latest t above ≤ latest t (r ∷ above))
-latest-without t r above h k = latest-mono t above (r ∷ above) h (λ x. omega arith) k
+pub latest-without : (t r : Row) (above below : List Row) → 1 ≤ cost t → 1 ≤ latest t (r ∷ above) below
+    → (1 ≤ latest t above below) × (latest t above below ≤ latest t (r ∷ above) below)
+latest-without t r above below h k = latest-mono t above (r ∷ above) below h (λ x. omega arith) k

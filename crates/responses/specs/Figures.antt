@@ -1,4 +1,4 @@
--- The figures of a task under the rows above it.
+-- The figures of a task between the rows above it and the rows below it.
 use mathlib.Core.Bool.{Bool, true, false, _&&_, not}
 use mathlib.Core.List.{List, map}
 use Prim.Native.Nat.{ℕ, _+_, _-_, _*_}
@@ -7,14 +7,14 @@ use lib.IntN.{ℤ, pos, subℕ}
 use lib.ListN.{length}
 use lib.Signed.{leZ}
 use Rattle.basics.specs.Basics.{pick}
-use Rattle.rows.specs.Rows.{maxTasks, inRange, allRows}
+use Rattle.rows.specs.Rows.{maxTasks, cost, inRange, allRows}
 use Rattle.rows.specs.declared.Row.{Row}
 use Rattle.responses.specs.declared.Figures.{Figures}
 use Rattle.responses.specs.Interference.{Load, load, interference, leastFixed, largestFixed}
 
 -- what a row above takes at most and at least
 abbrev pub worstLoad : Row → Load
-worstLoad r = load (r .period) (r .worst)
+worstLoad r = load (r .period) (cost r)
 
 abbrev pub bestLoad : Row → Load
 bestLoad r = load (r .period) (r .best)
@@ -26,31 +26,36 @@ worstIn x above = interference 0 x (map worstLoad above)
 abbrev pub bestIn : ℕ → List Row → ℕ
 bestIn x above = interference 1 x (map bestLoad above)
 
+-- the ticks that jobs of the rows below may hold a task up (its blocking time): none, since every job can be
+-- interrupted at every tick
+unfoldable pub blocking : List Row → ℕ
+blocking below = 0
+
 -- W, the worst-case response time; 0 where the task is late
-abbrev pub latest : Row → List Row → ℕ
-latest t above = leastFixed (t .worst) (t .period) (map worstLoad above)
+abbrev pub latest : Row → List Row → List Row → ℕ
+latest t above below = leastFixed (cost t + blocking below) (t .period) (map worstLoad above)
 
 -- late: misses its deadline, which is its period
-abbrev pub isLate : Row → List Row → Bool
-isLate t above = eqb (latest t above) 0
+abbrev pub isLate : Row → List Row → List Row → Bool
+isLate t above below = eqb (latest t above below) 0
 
 -- E, the best-case response time of a task that is not late; at most W
-abbrev pub earliest : Row → List Row → ℕ
-earliest t above = largestFixed (t .best) (latest t above) (map bestLoad above)
+abbrev pub earliest : Row → List Row → List Row → ℕ
+earliest t above below = largestFixed (t .best) (latest t above below) (map bestLoad above)
 
-abbrev pub jitter : Row → List Row → ℕ
-jitter t above = latest t above - earliest t above
+abbrev pub jitter : Row → List Row → List Row → ℕ
+jitter t above below = latest t above below - earliest t above below
 
 -- how far responses w and e of a task are inside its stability line
 abbrev pub marginAt : Row → ℕ → ℕ → ℤ
 marginAt t w e = subℕ (t .beta) (1000 * e + t .alpha * (w - e))
 
-abbrev pub margin : Row → List Row → ℤ
-margin t above = marginAt t (latest t above) (earliest t above)
+abbrev pub margin : Row → List Row → List Row → ℤ
+margin t above below = marginAt t (latest t above below) (earliest t above below)
 
 -- stable: not late, and the linear stability condition holds
-abbrev pub isStable : Row → List Row → Bool
-isStable t above = not (isLate t above) && leZ (pos 0) (margin t above)
+abbrev pub isStable : Row → List Row → List Row → Bool
+isStable t above below = not (isLate t above below) && leZ (pos 0) (margin t above below)
 
 -- ---- a row's figures as one answer: of rows out of range or too many, nothing; of a late row, that alone
 abbrev pub noFigures : Figures
@@ -87,20 +92,21 @@ figuresAt w e m = record {
   stable = leZ (pos 0) m;
 }
 
--- the figures of a row in range under rows in range
-abbrev pub figuresUnder : Row → List Row → Figures
-figuresUnder t above =
-    pick (isLate t above) lateFigures
-    (figuresAt (latest t above) (earliest t above) (margin t above))
+-- the figures of a row in range between rows in range
+abbrev pub figuresUnder : Row → List Row → List Row → Figures
+figuresUnder t above below =
+    pick (isLate t above below) lateFigures
+    (figuresAt (latest t above below) (earliest t above below) (margin t above below))
 
--- the most rows above a row of a table
-abbrev pub maxAbove : ℕ
-maxAbove = maxTasks - 1
+-- the most rows beside a row of a table
+abbrev pub maxOthers : ℕ
+maxOthers = maxTasks - 1
 
--- a row and the rows above it are in the limits of a table: each in range, and no more above than it can have
-abbrev pub inLimits : Row → List Row → Bool
-inLimits t above = inRange t && (allRows inRange above && leb (length above) maxAbove)
+-- a row and the rows above and below it are in the limits of a table: each in range, and no more than it can have
+abbrev pub inLimits : Row → List Row → List Row → Bool
+inLimits t above below =
+    inRange t && (allRows inRange above && (allRows inRange below && leb (length above + length below) maxOthers))
 
 -- the answer for any rows
-abbrev pub figuresOf : Row → List Row → Figures
-figuresOf t above = pick (inLimits t above) (figuresUnder t above) noFigures
+abbrev pub figuresOf : Row → List Row → List Row → Figures
+figuresOf t above below = pick (inLimits t above below) (figuresUnder t above below) noFigures

@@ -11,7 +11,7 @@ use Rattle.basics.specs.Basics.{within}
 use Rattle.basics.proofs.Tests.{and-left, and-right, and-both, Within, within-true}
 use Rattle.rows.specs.declared.Row.{Row}
 use Rattle.rows.specs.Rows.{minTask, maxTask, minTicks, maxTicks, minAlpha, maxAlpha, minBeta, maxBeta}
-use Rattle.rows.specs.Rows.{inRange, timesInRange, allRows, noRow}
+use Rattle.rows.specs.Rows.{cost, inRange, timesInRange, allRows, noRow}
 
 -- ---- every limit
 pub record Limits (r : Row) : Type 0 where
@@ -70,14 +70,15 @@ in-range r h =
       le-leb _ _ (h .best-worst),
     )
 
--- ---- the times
+-- ---- the times: a job takes from the best to the cost, and fits its period
 pub record Times (r : Row) : Type 0 where
   pub best-some : 1 ≤ r .best
-  pub best-worst : r .best ≤ r .worst
-  pub worst-period : r .worst ≤ r .period
+  pub best-cost : r .best ≤ cost r
+  pub cost-period : cost r ≤ r .period
   pub period-max : r .period ≤ maxTicks
 
 pub times : (r : Row) → timesInRange r ≡ true → Times r
+unfolding cost
 times r h₄ =
     let t₁ = leb minTicks (r .best) in
     let t₂ = leb (r .best) (r .worst) in
@@ -87,8 +88,8 @@ times r h₄ =
     let h₂ = and-left (t₁ && t₂) t₃ h₃ in
     record {
       best-some = leb-true minTicks (r .best) (and-left t₁ t₂ h₂);
-      best-worst = leb-true (r .best) (r .worst) (and-right t₁ t₂ h₂);
-      worst-period = leb-true (r .worst) (r .period) (and-right (t₁ && t₂) t₃ h₃);
+      best-cost = leb-true (r .best) (r .worst) (and-right t₁ t₂ h₂);
+      cost-period = leb-true (r .worst) (r .period) (and-right (t₁ && t₂) t₃ h₃);
       period-max = leb-true (r .period) maxTicks (and-right (t₁ && t₂ && t₃) t₄ h₄);
     }
 

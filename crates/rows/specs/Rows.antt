@@ -82,6 +82,10 @@ rowOf vs =
 abbrev pub rowAt : List Row → ℕ → Row
 rowAt table i = getD table i noRow
 
+-- the most ticks that a job of a row takes (its worst-case execution time)
+unfoldable pub cost : Row → ℕ
+cost r = r .worst
+
 -- each number is within its limits, and best ≤ worst ≤ period
 abbrev pub inRange : Row → Bool
 inRange r =
