@@ -3,19 +3,19 @@ use mathlib.Core.Path.{_≡_, refl, ap, ap₂, sym, _∙_}
 use mathlib.Core.Bool.{true}
 use mathlib.Core.List.{List, [], _∷_, map}
 use Prim.Native.Nat.{ℕ, zero, suc, _+_, _-_, _*_, _≤_, _<_}
-use native.Mathlib.Nat.{mul-le-mul, add-zero}
+use native.Mathlib.Nat.{mul-le-mul, add-zero, zero-add}
 use native.Mathlib.Numerals.{add-one}
 use native.Mathlib.Omega.{arith}
-use lib.ListN.{getD}
-use Rattle.rows.specs.Rows.{maxTicks, timesInRange, allRows}
+use lib.ListN.{length, getD, take, drop, length-take, length-drop}
+use lib.Seq.{getD-take, getD-drop}
+use Rattle.rows.specs.Rows.{maxTicks, cost, timesInRange, inRange, allRows, rowAt, noRow}
 use Rattle.rows.specs.declared.Row.{Row}
-use Rattle.rows.proofs.Limits.{Times, times, in-range-times, head-passes, tail-passes}
+use Rattle.rows.proofs.Limits.{Times, times, in-range-times, at-passes, front-passes}
 use Rattle.responses.specs.Interference.{ceiling, Load, load, interference, leastFixed, largestFixed}
-use Rattle.responses.specs.inside.Columns.{loadsFrom, loads, rowAbove, rowsAboveFrom, rowsAbove}
-use Rattle.responses.specs.inside.Columns.{columnsMax, Columns, UnderColumns}
-use Rattle.responses.specs.Figures.{worstLoad, bestLoad, latest, earliest}
+use Rattle.analysis.specs.inside.Columns.{loadsFrom, loads, columnsMax, Columns, Filled, UnderColumns}
+use Rattle.responses.specs.Figures.{worstLoad, bestLoad, blocking, latest, earliest}
 use Rattle.responses.proofs.Sums.{term-max}
 use Rattle.responses.proofs.Responses.{responses}
 
 -- from index i on there is the task at i, and what stands after it
 pub loads-step : (n i : ℕ) (ps cs : List ℕ) → i < n
@@ -63,87 +63,134 @@ module _ (n : ℕ) (ps cs : List ℕ) (k : Columns n ps cs) where
         whole = omega (arith, d, p, w);
       }
 
--- ---- three columns: the rows above
--- the loads of the rows are two of the columns
-rows-loads : (f : Row → Load) (cs ps ws bs : List ℕ)
-    → ((j : ℕ) → f (rowAbove (getD ps j 0) (getD ws j 0) (getD bs j 0)) ≡ load (getD ps j 0) (getD cs j 0))
-    → (n i : ℕ) → loadsFrom i n ps cs ≡ map f (rowsAboveFrom i n ps ws bs)
-unfolding loadsFrom rowsAboveFrom
-rows-loads f cs ps ws bs h zero i = refl
-rows-loads f cs ps ws bs h (suc n) i = ap₂ _∷_ (sym (h i)) (rows-loads f cs ps ws bs h n (suc i))
+-- ---- three columns, one behind another
+-- a column, as it is lent: the numbers from an index on
+abbrev pub from : ℕ → List ℕ → List ℕ
+from n xs = take (length xs - n) (drop n xs)
 
-module _ (n : ℕ) (ps ws bs : List ℕ) where
-  pub worst-loads : loads n ps ws ≡ map worstLoad (rowsAbove n ps ws bs)
-  worst-loads = rows-loads worstLoad ws ps ws bs (λ j. refl) n 0
+from-at : (n i : ℕ) (xs : List ℕ) → n + i < length xs → getD (from n xs) i 0 ≡ getD xs (n + i) 0
+from-at n i xs h = getD-take (length xs - n) (drop n xs) i 0 (omega arith) ∙ getD-drop n xs i 0
 
-  pub best-loads : loads n ps bs ≡ map bestLoad (rowsAbove n ps ws bs)
-  best-loads = rows-loads bestLoad bs ps ws bs (λ j. refl) n 0
+from-long : (n : ℕ) (xs : List ℕ) → length (from n xs) ≡ length xs - n
+from-long n xs = omega (arith, length-take (length xs - n) (drop n xs), length-drop n xs)
 
--- the times of the row at index j
-times-from : (ps ws bs : List ℕ) (n i j : ℕ) → j < n → allRows timesInRange (rowsAboveFrom i n ps ws bs) ≡ true
-    → Times (rowAbove (getD ps (i + j) 0) (getD ws (i + j) 0) (getD bs (i + j) 0))
-unfolding rowsAboveFrom
-times-from ps ws bs zero i j l h = absurd (omega arith)
-times-from ps ws bs (suc n) i zero l h =
-    let r = rowAbove (getD ps i 0) (getD ws i 0) (getD bs i 0) in
-    rw (add-zero i) (times r (head-passes timesInRange r (rowsAboveFrom (suc i) n ps ws bs) h))
-times-from ps ws bs (suc n) i (suc j) l h =
-    let r = rowAbove (getD ps i 0) (getD ws i 0) (getD bs i 0) in
+front-at : (rows : List Row) (k i : ℕ) → i < k → rowAt (take k rows) i ≡ rowAt rows i
+front-at rows k i h = getD-take k rows i noRow h
+
+front-long : (rows : List Row) (k : ℕ) → k ≤ length rows → length (take k rows) ≡ k
+front-long rows k h = omega (arith, length-take k rows)
+
+-- two columns from index i on hold the loads of some rows
+loads-of : (f : Row → Load) (ps cs : List ℕ) (rows : List Row) (i : ℕ)
+    → ((j : ℕ) → j < length rows → load (getD ps (i + j) 0) (getD cs (i + j) 0) ≡ f (rowAt rows j))
+    → loadsFrom i (length rows) ps cs ≡ map f rows
+unfolding loadsFrom
+loads-of f ps cs [] i h = refl
+loads-of f ps cs (r ∷ rows) i h =
+    ap₂ _∷_ (rw (add-zero i) at (h 0 (omega arith)))
+    (loads-of f ps cs rows (suc i) (λ j l.
     let e : i + suc j ≡ suc i + j = omega arith in
-    let rest = tail-passes timesInRange r (rowsAboveFrom (suc i) n ps ws bs) h in
-    rw e (times-from ps ws bs n (suc i) j (omega arith) rest)
+    rw e at (h (suc j) (omega arith))))
 
-module _ {t : Row} {n : ℕ} {ps ws bs : List ℕ} (p : UnderColumns t n ps ws bs) where
-  times-at : (j : ℕ) → j < n → Times (rowAbove (getD ps j 0) (getD ws j 0) (getD bs j 0))
-  times-at j l = let e : 0 + j ≡ j = omega arith in rw e at (times-from ps ws bs n 0 j l (p .times-in-range))
+-- the first k of the rows that columns hold, and their loads
+module _ (rows : List Row) (columns : List ℕ) (n k : ℕ) (count : length rows ≡ n) (among : k ≤ n)
+    (f : Filled rows columns) where
+  first-long : length (take k rows) ≡ k
+  first-long = front-long rows k (omega arith)
 
-  pub worst-columns : Columns n ps ws
+  period-is : (j : ℕ) → j < k → getD columns j 0 ≡ rowAt rows j .period
+  period-is j l = f .periods j (omega arith)
+
+  cost-is : (j : ℕ) → j < k → getD (from n columns) j 0 ≡ cost (rowAt rows j)
+  cost-is j l =
+      from-at n j columns (omega (arith, f .room)) ∙ rw count at (f .costs j (omega arith))
+
+  best-is : (j : ℕ) → j < k → getD (from (n + n) columns) j 0 ≡ rowAt rows j .best
+  best-is j l =
+      from-at (n + n) j columns (omega (arith, f .room)) ∙ rw count at (f .bests j (omega arith))
+
+  pub worst-loads : loads k columns (from n columns) ≡ map worstLoad (take k rows)
+  worst-loads =
+      ap (λ (m : ℕ). loadsFrom 0 m columns (from n columns)) (sym first-long)
+      ∙ loads-of worstLoad columns (from n columns) (take k rows) 0 (λ j l.
+      let i : j < k = omega (arith, first-long) in
+      rw (zero-add j, front-at rows k j i) (ap₂ load (period-is j i) (cost-is j i)))
+
+  pub best-loads : loads k columns (from (n + n) columns) ≡ map bestLoad (take k rows)
+  best-loads =
+      ap (λ (m : ℕ). loadsFrom 0 m columns (from (n + n) columns)) (sym first-long)
+      ∙ loads-of bestLoad columns (from (n + n) columns) (take k rows) 0 (λ j l.
+      let i : j < k = omega (arith, first-long) in
+      rw (zero-add j, front-at rows k j i) (ap₂ load (period-is j i) (best-is j i)))
+
+module _ {t : Row} {b : ℕ} {columns : List ℕ} {n k : ℕ} (p : UnderColumns t b columns n k) where
+  times-at : (j : ℕ) → j < k → Times (rowAt (p .rows) j)
+  times-at j l = times (rowAt (p .rows) j) (at-passes timesInRange (p .rows) j (p .times-in-range)
+      (omega (arith, p .count, p .among)))
+
+  pub worst-columns : Columns k columns (from n columns)
   worst-columns = record {
-    few = p .few;
-    periods-held = p .periods-held;
-    costs-held = p .worsts-held;
-    period-some = λ i l. let t = times-at i l in omega arith;
-    period-max = λ i l. times-at i l .period-max;
-    cost-period = λ i l. times-at i l .worst-period;
+    few = omega (arith, p .few, p .among);
+    periods-held = omega (arith, p .filled .room, p .count, p .among);
+    costs-held = omega (arith, from-long n columns, p .filled .room, p .count, p .among);
+    period-some = λ i l.
+        omega (arith, times-at i l, period-is (p .rows) columns n k (p .count) (p .among) (p .filled) i l);
+    period-max = λ i l.
+        omega (arith, times-at i l, period-is (p .rows) columns n k (p .count) (p .among) (p .filled) i l);
+    cost-period = λ i l.
+        omega (
+          arith,
+          times-at i l,
+          period-is (p .rows) columns n k (p .count) (p .among) (p .filled) i l,
+          cost-is (p .rows) columns n k (p .count) (p .among) (p .filled) i l,
+        );
   }
 
-  pub best-columns : Columns n ps bs
+  pub best-columns : Columns k columns (from (n + n) columns)
   best-columns = record {
-    few = p .few;
-    periods-held = p .periods-held;
-    costs-held = p .bests-held;
+    few = worst-columns .few;
+    periods-held = worst-columns .periods-held;
+    costs-held = omega (arith, from-long (n + n) columns, p .filled .room, p .count, p .among);
     period-some = worst-columns .period-some;
     period-max = worst-columns .period-max;
-    cost-period = λ i l. let t = times-at i l in omega arith;
+    cost-period = λ i l.
+        omega (
+          arith,
+          times-at i l,
+          period-is (p .rows) columns n k (p .count) (p .among) (p .filled) i l,
+          best-is (p .rows) columns n k (p .count) (p .among) (p .filled) i l,
+        );
   }
 
 -- ---- the responses that the code finds in columns are those of the rows
-module _ (t : Row) (n : ℕ) (ps ws bs : List ℕ) where
-  pub latest-found : (w : ℕ) → w ≡ leastFixed (t .worst) (t .period) (loads n ps ws)
-      → w ≡ latest t (rowsAbove n ps ws bs)
-  latest-found w e = e ∙ ap (leastFixed (t .worst) (t .period)) (worst-loads n ps ws bs)
+module _ (t : Row) (b : ℕ) (columns : List ℕ) (n k : ℕ) (rows below : List Row) (count : length rows ≡ n)
+    (among : k ≤ n) (f : Filled rows columns) (blocked : b ≡ blocking below) where
+  pub latest-found : (w : ℕ) → w ≡ leastFixed (cost t + b) (t .period) (loads k columns (from n columns))
+      → w ≡ latest t (take k rows) below
+  latest-found w e =
+      e ∙ ap₂ (λ (c : ℕ) (ls : List Load). leastFixed (cost t + c) (t .period) ls) blocked
+      (worst-loads rows columns n k count among f)
 
-  -- of a task that is not late
-  pub record Found (w : ℕ) : Type 0 where
-    pub latest-is : w ≡ latest t (rowsAbove n ps ws bs)
-    pub latest-max : w ≤ maxTicks
-    pub best-fits : t .best + interference 1 w (loads n ps bs) ≤ w
-    pub earliest-is : (e : ℕ) → e ≡ largestFixed (t .best) w (loads n ps bs)
-        → (e ≡ earliest t (rowsAbove n ps ws bs)) × (e ≤ w)
+  pub earliest-found : (w e : ℕ) → w ≡ latest t (take k rows) below
+      → e ≡ largestFixed (t .best) w (loads k columns (from (n + n) columns)) → e ≡ earliest t (take k rows) below
+  earliest-found w e i h = h ∙ ap₂ (largestFixed (t .best)) i (best-loads rows columns n k count among f)
 
-  pub found : (w : ℕ) → UnderColumns t n ps ws bs → w ≡ leastFixed (t .worst) (t .period) (loads n ps ws) → 1 ≤ w
-      → Found w
-  found w p e k =
-      let above = rowsAbove n ps ws bs in
-      let i = latest-found w e in
-      let ht = in-range-times t (p .in-range) in
-      let r = responses t above ht (p .times-in-range) (omega arith) in
-      let b = best-loads n ps ws bs in
-      record {
-        latest-is = i;
-        latest-max = omega (arith, i, r .latest-period, times t ht .period-max);
-        best-fits = rw (i, b) (r .best-fits);
-        earliest-is = λ e f.
-            let g = f ∙ ap₂ (largestFixed (t .best)) i b in
-            (g, omega (arith, g, i, r .earliest-latest));
-      }
+-- of a task that is not late
+pub record Found (t : Row) (columns : List ℕ) (n k w : ℕ) : Type 0 where
+  pub latest-max : w ≤ maxTicks
+  pub best-fits : t .best + interference 1 w (loads k columns (from (n + n) columns)) ≤ w
+  pub earliest-latest : (e : ℕ) → e ≡ largestFixed (t .best) w (loads k columns (from (n + n) columns)) → e ≤ w
+
+pub found : (t : Row) (b : ℕ) (columns : List ℕ) (n k w : ℕ) → UnderColumns t b columns n k
+    → w ≡ leastFixed (cost t + b) (t .period) (loads k columns (from n columns)) → 1 ≤ w → Found t columns n k w
+found t b columns n k w p e h =
+    let above = take k (p .rows) in
+    let i = latest-found t b columns n k (p .rows) (p .below) (p .count) (p .among) (p .filled) (p .blocked-is) w e in
+    let ht = in-range-times t (p .in-range) in
+    let r = responses t above (p .below) ht (front-passes timesInRange k (p .rows) (p .times-in-range)) (omega arith) in
+    let early = earliest-found t b columns n k (p .rows) (p .below) (p .count) (p .among) (p .filled) (p .blocked-is) in
+    record {
+      latest-max = omega (arith, i, r .latest-period, times t ht .period-max);
+      best-fits = rw (i, best-loads (p .rows) columns n k (p .count) (p .among) (p .filled)) (r .best-fits);
+      earliest-latest = λ x g. omega (arith, early w x i g, i, r .earliest-latest);
+    }

@@ -1,7 +1,7 @@
 ghost use mathlib.Core.Path.{_≡_};
 ghost use Prim.Native.Nat.{_≤_};
 ghost use lib.ListN.{take};
-ghost use Rattle.rows.specs.Rows.{maxTasks, inRange, row, noRow, positionOf, rowsFor};
+ghost use Rattle.rows.specs.Rows.{maxTasks, cost, inRange, row, noRow, positionOf, rowsFor};
 ghost use Rattle.rows.specs.inside.Constructor.{checked};
 ghost use Rattle.rows.specs.inside.Arrays.{padded, ranked};
 use basics::within;
@@ -98,6 +98,13 @@ impl Row {
             in_range: true,
             row,
         }
+    }
+
+    // The most ticks that a job of the row takes.
+    pub fn cost(self) -> u64
+        ensures { λ r. ⌜ r ≡ cost self ⌝ }
+    {
+        self.worst as u64
     }
 
     // Whether the row keeps its limits.

@@ -1,62 +1,109 @@
 -- What each search answers is the response of the rows that the columns hold (`found`); the rest is reading.
 use mathlib.Core.Path.{_≡_, ap, sym, _∙_}
-use mathlib.Core.List.{List}
-use Prim.Native.Nat.{_≤_}
+use Prim.Native.Nat.{ℕ, _+_, _≤_}
 use native.Mathlib.Omega.{arith}
 use borrow.Author.Needs.{needs}
 use mir.Syntax.{w64}
 use mir.Facts.{toZ-ofZ}
-use Rattle.rows.specs.declared.Row.{Row}
+use lib.ListN.{take}
+use Rattle.rows.specs.Rows.{cost}
 use Rattle.rows.proofs.Limits.{times, in-range-times}
-use Rattle.responses.specs.Figures.{earliest, figuresAt}
-use Rattle.responses.specs.inside.Columns.{rowsAbove}
+use Rattle.responses.specs.Interference.{leastFixed}
+use Rattle.responses.specs.Figures.{figuresAt}
 use Rattle.responses.proofs.Responses.{late-answer, timely-answer}
-use Rattle.responses.proofs.Columns.{worst-columns, best-columns, latest-found, Found, found}
-use Rattle.responses.proofs.figures_under.Statement.{statement}
-use Rattle.responses.proofs.figures_under.Tie as tie
+use Rattle.analysis.specs.inside.Columns.{loads}
+use Rattle.analysis.proofs.Columns.{from, worst-columns, best-columns, latest-found, earliest-found, Found, found}
+use Rattle.analysis.proofs.figures_under.Statement.{statement}
+use Rattle.analysis.proofs.figures_under.Tie as tie
 
-abbrev above : tie.Start → List Row
-above s = rowsAbove (s .args .n) (s .args .periods .now) (s .args .worsts .now) (s .args .bests .now)
+-- W's search answers the least fixed point over the row's cost and the blocking time
+least : (c : tie.After-least-fixed)
+    → let a = c .before .before .before .before .before .args in
+    c .least-fixed .result
+    ≡ leastFixed (cost (a .row) + a .blocked) (a .row .period)
+    (loads (a .k) (a .columns .now) (from (a .n) (a .columns .now)))
+least c =
+    let a = c .before .before .before .before .before .args in
+    let ls = loads (a .k) (a .columns .now) (from (a .n) (a .columns .now)) in
+    c .least-fixed .ensures
+    ∙ ap (λ (x : ℕ). leastFixed (x + a .blocked) (a .row .period) ls) (c .before .before .cost .ensures)
 
 -- where the row is not late
-timely : (c : tie.Else1) → let a = c .before .before .before .before .before .before .before .args in
-    Found (a .row) (a .n) (a .periods .now) (a .worsts .now) (a .bests .now) (c .before .least-fixed .result)
+timely : (c : tie.Else1) → let a = c .before .before .before .before .before .before .args in
+    Found (a .row) (a .columns .now) (a .n) (a .k) (c .before .least-fixed .result)
 timely c =
-    let s = c .before .before .before .before .before .before .before in
+    let s = c .before .before .before .before .before .before in
     let a = s .args in
-    found (a .row) (a .n) (a .periods .now) (a .worsts .now) (a .bests .now) _ (s .pre)
-    (c .before .least-fixed .ensures) (omega (arith, c .if1 .left))
+    found (a .row) (a .blocked) (a .columns .now) (a .n) (a .k) _ (s .pre) (least (c .before))
+    (omega (arith, c .if1 .left))
 
 early : (c : tie.After-largest-fixed)
-    → let s = c .before .before .before .before .before .before .before .before .before in
-    (c .largest-fixed .result ≡ earliest (s .args .row) (above s)) ×
-    (c .largest-fixed .result ≤ c .before .before .before .least-fixed .result)
-early c = timely (c .before .before) .earliest-is _ (c .largest-fixed .ensures)
+    → c .largest-fixed .result ≤ c .before .before .before .before .least-fixed .result
+early c = timely (c .before .before .before) .earliest-latest _ (c .largest-fixed .ensures)
+
+mul-costs : tie.Need-mul-costs
+mul-costs c = search needs
+
+sub-costs : tie.Need-sub-costs
+sub-costs c = omega (arith, c .before .pre .filled .room, c .before .pre .count)
+
+part-costs-start : tie.Need-part-costs-start
+part-costs-start c = search needs
+
+part-costs-end : tie.Need-part-costs-end
+part-costs-end c = search needs
+
+cost-requires : tie.Need-cost-requires
+cost-requires c κs = search needs
+
+add-least-fixed : tie.Need-add-least-fixed
+add-least-fixed c =
+    let s = c .before .before .before in
+    let l = times (s .args .row) (in-range-times (s .args .row) (s .pre .in-range)) in
+    record { fits = omega (arith, c .cost .ensures, l .cost-period, l .period-max, s .pre .blocked-max) }
 
 cast-least-fixed : tie.Need-cast-least-fixed
 cast-least-fixed c = search needs
 
-cast-least-fixed-2 : tie.Need-cast-least-fixed-2
-cast-least-fixed-2 c = search needs
-
 least-fixed-requires : tie.Need-least-fixed-requires
 least-fixed-requires c κs =
-    let s = c .before .before .before .before .before in
+    let s = c .before .before .before .before in
     let l = times (s .args .row) (in-range-times (s .args .row) (s .pre .in-range)) in
-    (omega arith, omega arith, l .period-max, worst-columns (s .pre))
+    let e = c .before .cost .ensures in (
+      omega (arith, e, l .best-some, l .best-cost),
+      omega (arith, e, l .cost-period, l .period-max, s .pre .blocked-max),
+      l .period-max,
+      worst-columns (s .pre),
+    )
 
-of-late-requires : tie.Need-of-late-requires
-of-late-requires c κs = search needs
+late-figures-requires : tie.Need-late-figures-requires
+late-figures-requires c κs = search needs
 
 returns : tie.Need-returns
-returns c =
+returns c rows below count f blocked =
     let i = c .before in
-    let s = i .before .before .before .before .before .before .before in
+    let s = i .before .before .before .before .before .before in
     let a = s .args in
-    let w =
-    latest-found (a .row) (a .n) (a .periods .now) (a .worsts .now) (a .bests .now) _
-    (i .before .least-fixed .ensures) in
-    c .of-late .ensures ∙ late-answer (a .row) (above s) (sym w ∙ i .if1 .taken)
+    let w = latest-found (a .row) (a .blocked) (a .columns .now) (a .n) (a .k) rows below count (s .pre .among) f blocked
+    _ (least (i .before)) in
+    c .late-figures .ensures ∙ late-answer (a .row) (take (a .k) rows) below (sym w ∙ i .if1 .taken)
+
+add-bests : tie.Need-add-bests
+add-bests c = search needs
+
+mul-bests : tie.Need-mul-bests
+mul-bests c = search needs
+
+sub-bests : tie.Need-sub-bests
+sub-bests c =
+    let s = c .before .before .before .before .before .before in
+    omega (arith, s .pre .filled .room, s .pre .count)
+
+part-bests-start : tie.Need-part-bests-start
+part-bests-start c = search needs
+
+part-bests-end : tie.Need-part-bests-end
+part-bests-end c = search needs
 
 cast-largest-fixed : tie.Need-cast-largest-fixed
 cast-largest-fixed c = search needs
@@ -64,52 +111,67 @@ cast-largest-fixed c = search needs
 largest-fixed-requires : tie.Need-largest-fixed-requires
 largest-fixed-requires c κs =
     let s = c .before .before .before .before .before .before .before .before in
-    let f = timely (c .before) in
+    let f = timely (c .before .before) in
     let l = times (s .args .row) (in-range-times (s .args .row) (s .pre .in-range)) in
     (l .best-some, f .latest-max, best-columns (s .pre), f .best-fits)
 
 margin-requires : tie.Need-margin-requires
 margin-requires c κs =
     let s = c .before .before .before .before .before .before .before .before .before in
-    (s .pre .in-range, timely (c .before .before) .latest-max, early c .1)
+    (s .pre .in-range, timely (c .before .before .before) .latest-max, early c)
 
-cast-t12 : tie.Need-cast-t12
-cast-t12 c = record { fits = omega (arith, timely (c .before .before .before) .latest-max) }
+cast-t22 : tie.Need-cast-t22
+cast-t22 c = record { fits = omega (arith, timely (c .before .before .before .before) .latest-max) }
 
-cast-t13 : tie.Need-cast-t13
-cast-t13 c = record { fits = omega (arith, timely (c .before .before .before) .latest-max, early (c .before) .1) }
+cast-t23 : tie.Need-cast-t23
+cast-t23 c = record { fits = omega (arith, timely (c .before .before .before .before) .latest-max, early (c .before)) }
 
-sub-t10 : tie.Need-sub-t10
-sub-t10 c = early (c .before) .1
+sub-t15 : tie.Need-sub-t15
+sub-t15 c = early (c .before)
 
-cast-t14 : tie.Need-cast-t14
-cast-t14 c = record { fits = omega (arith, timely (c .before .before .before) .latest-max) }
+cast-t24 : tie.Need-cast-t24
+cast-t24 c = record { fits = omega (arith, timely (c .before .before .before .before) .latest-max) }
 
 returns-2 : tie.Need-returns-2
-returns-2 c =
-    let s = c .before .before .before .before .before .before .before .before .before .before in
-    let w = c .before .before .before .before .least-fixed .result in
+returns-2 c rows below count f blocked =
+    let i = c .before .before .before .before in
+    let s = i .before .before .before .before .before .before in
+    let a = s .args in
+    let w = i .before .least-fixed .result in
     let e = c .before .largest-fixed .result in
     let m = toZ-ofZ {w = w64} {z = c .margin .result} (record { sfits = c .margin .ok }) in
+    let latest = latest-found (a .row) (a .blocked) (a .columns .now) (a .n) (a .k) rows below count (s .pre .among) f
+    blocked w (least (i .before)) in
+    let earliest = earliest-found (a .row) (a .blocked) (a .columns .now) (a .n) (a .k) rows below count
+    (s .pre .among) f blocked w e latest (c .before .largest-fixed .ensures) in
     ap (figuresAt w e) m
-    ∙ timely-answer (s .args .row) (above s) w e (c .margin .result)
-    (omega (arith, c .before .before .before .if1 .left))
-    (timely (c .before .before .before) .latest-is) (early (c .before) .0) (c .margin .ensures)
+    ∙ timely-answer (a .row) (take (a .k) rows) below w e (c .margin .result) (omega (arith, i .if1 .left)) latest
+    earliest (c .margin .ensures)
 
 pub figures-under-spec : {M : Type 1} → statement M
 figures-under-spec =
     tie.close
     (tie.spec
+    mul-costs
+    sub-costs
+    part-costs-start
+    part-costs-end
+    cost-requires
+    add-least-fixed
     cast-least-fixed
-    cast-least-fixed-2
     least-fixed-requires
-    of-late-requires
+    late-figures-requires
     returns
+    add-bests
+    mul-bests
+    sub-bests
+    part-bests-start
+    part-bests-end
     cast-largest-fixed
     largest-fixed-requires
     margin-requires
-    cast-t12
-    cast-t13
-    sub-t10
-    cast-t14
+    cast-t22
+    cast-t23
+    sub-t15
+    cast-t24
     returns-2)

@@ -1,0 +1,2 @@
+-- Inside, the code's columns: what its functions promise each other.
+pub mod inside

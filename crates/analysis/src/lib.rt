@@ -1,0 +1,133 @@
+// The response analysis: W, E, margin and stability of a row under rows whose times stand in columns.
+ghost use mathlib.Core.Path.{_≡_};
+ghost use mathlib.Core.Bool.{true};
+ghost use Prim.Native.Nat.{_+_, _≤_};
+ghost use Rattle.rows.specs.Rows.{maxTicks, inRange};
+ghost use Rattle.responses.specs.Interference.{ceiling, interference, leastFixed, largestFixed};
+ghost use Rattle.responses.specs.Figures.{marginAt, noFigures, lateFigures};
+ghost use Rattle.analysis.specs.inside.Columns.{loads, baseMax, Columns, UnderColumns};
+ghost use Rattle.analysis.specs.inside.Columns.{BlockingOfAny, FiguresIn};
+use responses::Figures;
+use rows::Row;
+
+// Of a row that is out of range, or between rows that are.
+fn no_figures() -> Figures
+    ensures { λ x. ⌜ x ≡ noFigures ⌝ }
+{
+    Figures {
+        figured: false,
+        late: false,
+        worst: 0,
+        best: 0,
+        jitter: 0,
+        margin: 0,
+        stable: false,
+    }
+}
+
+// Of a row that is late: nothing but that.
+fn late_figures() -> Figures
+    ensures { λ x. ⌜ x ≡ lateFigures ⌝ }
+{
+    Figures {
+        figured: true,
+        late: true,
+        worst: 0,
+        best: 0,
+        jitter: 0,
+        margin: 0,
+        stable: false,
+    }
+}
+
+// x / p rounded up.
+fn ceil(x: u64, p: u64) -> u64
+    requires { ⌜ (x ≤ maxTicks) × (1 ≤ p) × (p ≤ maxTicks) ⌝ }
+    ensures { λ r. ⌜ r ≡ ceiling x p ⌝ }
+{
+    (x + (p - 1)) / p
+}
+
+// The ticks that the first n tasks of the columns take from a window, less some jobs of each.
+pub fn interference(window: u64, spared: u64, periods: &[u64], costs: &[u64], n: usize) -> u64
+    requires { ⌜ (window ≤ maxTicks) × (1 ≤ window) × (spared ≤ 1) × Columns n (now periods) (now costs) ⌝ }
+    ensures { λ r. ⌜ r ≡ interference spared window (loads n (now (periods .entry)) (now (costs .entry))) ⌝ }
+{
+    let mut sum: u64 = 0;
+    for i in 0..n {
+        sum += (ceil(window, periods[i]) - spared) * costs[i];
+    }
+    sum
+}
+
+// The smallest w from 1 to the limit with w = base + interference in w; 0 for none.
+pub fn least_fixed(base: u64, limit: u64, periods: &[u64], costs: &[u64], n: usize) -> u64
+    requires { ⌜ (1 ≤ base) × (base ≤ baseMax) × (limit ≤ maxTicks) × Columns n (now periods) (now costs) ⌝ }
+    ensures { λ r. ⌜ r ≡ leastFixed base limit (loads n (now (periods .entry)) (now (costs .entry))) ⌝ }
+{
+    let mut w = base;
+    while w <= limit {
+        let demand = base + interference(w, 0, periods, costs, n);
+        if demand == w {
+            return w;
+        }
+        w = demand;
+    }
+    0
+}
+
+// The largest e from 1 to the limit with e = base + interference in e, one job less of each task.
+pub fn largest_fixed(base: u64, limit: u64, periods: &[u64], costs: &[u64], n: usize) -> u64
+    requires { ⌜ (1 ≤ base) × (limit ≤ maxTicks) × Columns n (now periods) (now costs)
+        × (base + interference 1 limit (loads n (now periods) (now costs)) ≤ limit) ⌝ }
+    ensures { λ r. ⌜ r ≡ largestFixed base limit (loads n (now (periods .entry)) (now (costs .entry))) ⌝ }
+{
+    let mut e = limit;
+    loop {
+        let demand = base + interference(e, 1, periods, costs, n);
+        if demand == e {
+            return e;
+        }
+        e = demand;
+    }
+}
+
+// How far the responses are inside the task's stability line.
+pub fn margin(row: Row, latest: u64, earliest: u64) -> i64
+    requires { ⌜ (inRange row ≡ true) × (latest ≤ maxTicks) × (earliest ≤ latest) ⌝ }
+    ensures { λ r. ⌜ r ≡ marginAt row latest earliest ⌝ }
+{
+    let used = 1000 * earliest + row.alpha as u64 * (latest - earliest);
+    row.beta as i64 - used as i64
+}
+
+// The blocking time of any rows below: none, while every job can be interrupted.
+pub fn no_blocking() -> u64
+    ensures { λ r. ⌜ BlockingOfAny r ⌝ }
+{
+    0
+}
+
+// All figures of a row that rows below block for some ticks, under the first k of the n rows that the columns hold.
+pub fn figures_under(row: Row, blocked: u64, columns: &[u64], n: usize, k: usize) -> Figures
+    requires { ⌜ UnderColumns row blocked (now columns) n k ⌝ }
+    ensures { λ x. ⌜ FiguresIn row blocked (now (columns .entry)) n k x ⌝ }
+{
+    let costs = &columns[n..];
+    let latest = least_fixed(row.cost() + blocked, row.period as u64, columns, costs, k);
+    if latest == 0 {
+        return late_figures();
+    }
+    let bests = &columns[n + n..];
+    let earliest = largest_fixed(row.best as u64, latest, columns, bests, k);
+    let margin = margin(row, latest, earliest);
+    Figures {
+        figured: true,
+        late: false,
+        worst: latest as u32,
+        best: earliest as u32,
+        jitter: (latest - earliest) as u32,
+        margin,
+        stable: 0 <= margin,
+    }
+}
