@@ -1,7 +1,8 @@
--- What a row in range says; the tasks of some rows; lists in arrays; what walks over a lent slice of rows share.
+-- What a row in range says; the tasks of some rows; rows as numbers; lists in arrays; what walks over a lent slice of rows share.
 pub mod Limits
 pub mod Tasks
 pub mod RowNumbers
+pub mod Putting
 pub mod Arrays
 pub mod Calls
 pub mod Walk

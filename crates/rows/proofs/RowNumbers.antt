@@ -9,17 +9,17 @@ use native.Mathlib.Omega.{arith}
 use lib.Dec.{eqb}
 use lib.ListN.{length, getD, take, drop, length-take, length-drop}
 use lib.ListN.{drop-of-length-le, List·getD-append}
-use lib.Seq.{drop-drop, drop-append-le, length-take-le, take-suc, getD-take, getD-drop}
+use lib.Seq.{drop-drop, drop-append-le, length-take-le, take-suc, getD-take, getD-drop, ext-getD}
 use Rattle.basics.specs.Basics.{pick}
 use Rattle.rows.specs.declared.Row.{Row}
 use Rattle.rows.specs.Rows.{taskAt, periodAt, worstAt, bestAt, alphaAt, betaAt, fieldCount, rowOf}
-use Rattle.rows.specs.Rows.{row, noRow, inRange, allRows, hasTask}
+use Rattle.rows.specs.Rows.{row, noRow, rowAt, inRange, allRows, hasTask}
 use Rattle.rows.specs.inside.Constructor.{checked}
-use Rattle.rows.specs.inside.Numbers.{rowsOf, between}
+use Rattle.rows.specs.inside.Numbers.{rowsOf, rowIn, between}
 use Rattle.rows.proofs.Limits.{at-passes}
 
 -- ---- a row by its numbers
-row-same : (xs ys : List ℕ) → ((i : ℕ) → i < fieldCount → getD xs i 0 ≡ getD ys i 0) → rowOf xs ≡ rowOf ys
+pub row-same : (xs ys : List ℕ) → ((i : ℕ) → i < fieldCount → getD xs i 0 ≡ getD ys i 0) → rowOf xs ≡ rowOf ys
 row-same xs ys h =
     rw (
       h taskAt (omega arith),
@@ -68,7 +68,7 @@ rows-kept (suc n) xs ys h =
     ∙ rows-kept n (drop fieldCount xs) ys (omega (arith, length-drop fieldCount xs)) in
     ap₂ (λ r rs. r ∷ rs) first rest
 
-pub rows-at : (n i : ℕ) (ws : List ℕ) → i < n → getD (rowsOf n ws) i noRow ≡ rowOf (drop (fieldCount * i) ws)
+pub rows-at : (n i : ℕ) (ws : List ℕ) → i < n → rowAt (rowsOf n ws) i ≡ rowIn ws i
 rows-at zero i ws h = absurd (omega arith)
 rows-at (suc n) zero ws h = refl
 rows-at (suc n) (suc i) ws h =
@@ -76,13 +76,29 @@ rows-at (suc n) (suc i) ws h =
     rows-at n i (drop fieldCount ws) (omega arith)
     ∙ ap rowOf (drop-drop (fieldCount * i) fieldCount ws ∙ ap (λ m. drop m ws) there)
 
--- each of some rows that are all in range is found by its first number
+-- the first n of m rows
+pub rows-front : (n m : ℕ) (ws : List ℕ) → n ≤ m → take n (rowsOf m ws) ≡ rowsOf n ws
+rows-front zero m ws h = refl
+rows-front (suc n) zero ws h = absurd (omega arith)
+rows-front (suc n) (suc m) ws h = ap (λ rs. rowOf ws ∷ rs) (rows-front n m (drop fieldCount ws) (omega arith))
+
+-- they are some rows, if each is
+pub rows-are : (ws : List ℕ) (rows : List Row) → ((i : ℕ) → i < length rows → rowIn ws i ≡ rowAt rows i)
+    → rowsOf (length rows) ws ≡ rows
+rows-are ws rows each =
+    let n = length rows in
+    ext-getD noRow (rowsOf n ws) rows (rows-length n ws)
+    (λ i h. let l : i < n = omega (arith, rows-length n ws) in rows-at n i ws l ∙ each i l)
+
+-- each of some rows that are all in range is in range
+pub row-ranged : (ws : List ℕ) (n i : ℕ) → i < n → allRows inRange (rowsOf n ws) ≡ true → inRange (rowIn ws i) ≡ true
+row-ranged ws n i h ok =
+    ap inRange (sym (rows-at n i ws h)) ∙ at-passes inRange (rowsOf n ws) i ok (omega (arith, rows-length n ws))
+
+-- and is found by its first number
 pub row-found : (ws : List ℕ) (n i : ℕ) → i < n → allRows inRange (rowsOf n ws) ≡ true
-    → checked (rowOf (drop (fieldCount * i) ws)) .row ≡ rowOf (drop (fieldCount * i) ws)
-row-found ws n i h ok =
-    let fine = at-passes inRange (rowsOf n ws) i ok (omega (arith, rows-length n ws)) in
-    let r = rowOf (drop (fieldCount * i) ws) in
-    ap (λ b. pick b r noRow) (ap inRange (sym (rows-at n i ws h)) ∙ fine)
+    → checked (rowIn ws i) .row ≡ rowIn ws i
+row-found ws n i h ok = ap (λ b. pick b (rowIn ws i) noRow) (row-ranged ws n i h ok)
 
 -- ---- some numbers from an index on
 module _ (start : ℕ) (ns : List ℕ) where

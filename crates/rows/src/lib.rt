@@ -9,12 +9,15 @@ pub use numbers::ALPHA;
 pub use numbers::BEST;
 pub use numbers::BETA;
 pub use numbers::FIELDS;
+pub use numbers::NUMBERS;
 pub use numbers::PERIOD;
 pub use numbers::TASK;
 pub use numbers::WORST;
+pub use numbers::checked_row_at;
 pub use numbers::has_task;
 pub use numbers::is_among;
 pub use numbers::order_at;
+pub use numbers::put_rows;
 pub use numbers::row_at;
 
 // numbers.rt: rows and orders as numbers.

@@ -1,12 +1,14 @@
 // Rows and orders as numbers: those of a row stand one after another, and row after row.
 ghost use mathlib.Core.Path.{_≡_};
-ghost use Prim.Native.Nat.{_+_, _*_, _≤_};
+ghost use mathlib.Core.Bool.{true};
+ghost use Prim.Native.Nat.{suc, _+_, _*_, _≤_};
 ghost use lib.ListN.{length, drop};
 ghost use Rattle.basics.specs.Basics.{isIn};
-ghost use Rattle.rows.specs.Rows.{maxTasks, fieldCount, rowOf, hasTask};
+ghost use Rattle.rows.specs.Rows.{maxTasks, fieldCount, inRange, rowOf, hasTask};
 ghost use Rattle.rows.specs.inside.Arrays.{ranking};
 ghost use Rattle.rows.specs.inside.Constructor.{checked};
-ghost use Rattle.rows.specs.inside.Numbers.{rowsOf, between, TaskNumbers};
+ghost use Rattle.rows.specs.inside.Numbers.{rowIn, rowsOf, RowPut, RowsPut};
+ghost use Rattle.rows.specs.inside.Numbers.{between, TaskNumbers};
 use super::MAX_TASKS;
 use super::Order;
 use super::Row;
@@ -26,8 +28,53 @@ pub const BETA: usize = 5;
 
 pub const FIELDS: usize = BETA + 1;
 
+// Room for the numbers of a table's rows.
+pub const NUMBERS: usize = FIELDS * MAX_TASKS;
+
+// Row i of the numbers.
+pub fn row_at(numbers: &[u64], i: usize) -> Row
+    requires { ⌜ (fieldCount * suc i ≤ length (now numbers)) × (inRange (rowIn (now numbers) i) ≡ true) ⌝ }
+    ensures { λ r. ⌜ r ≡ rowIn (now (numbers .entry)) i ⌝ }
+{
+    let at = FIELDS * i;
+    Row {
+        task: numbers[at + TASK] as u32,
+        period: numbers[at + PERIOD] as u32,
+        worst: numbers[at + WORST] as u32,
+        best: numbers[at + BEST] as u32,
+        alpha: numbers[at + ALPHA] as u32,
+        beta: numbers[at + BETA],
+    }
+}
+
+// Row i is put among the numbers, if there is room for it.
+fn put_row(numbers: &mut [u64; NUMBERS], i: usize, row: Row)
+    ensures { λ _. ⌜ RowPut (now (numbers .entry)) i row (now (numbers .exit)) ⌝ }
+{
+    if i < MAX_TASKS {
+        let at = FIELDS * i;
+        numbers[at + TASK] = row.task as u64;
+        numbers[at + PERIOD] = row.period as u64;
+        numbers[at + WORST] = row.worst as u64;
+        numbers[at + BEST] = row.best as u64;
+        numbers[at + ALPHA] = row.alpha as u64;
+        numbers[at + BETA] = row.beta;
+    }
+}
+
+// The rows are put among the numbers, one after another: all of them if there is room for all.
+pub fn put_rows(rows: &[Row], numbers: &mut [u64; NUMBERS])
+    ensures { λ _. ⌜ RowsPut (now (rows .entry)) (now (numbers .entry)) (now (numbers .exit)) ⌝ }
+{
+    let mut i = 0;
+    while i < rows.len() {
+        put_row(numbers, i, rows[i]);
+        i += 1;
+    }
+}
+
 // The row whose numbers begin at an index, if it is in range.
-pub fn row_at(numbers: &[u64], at: usize) -> Row
+pub fn checked_row_at(numbers: &[u64], at: usize) -> Row
     requires { ⌜ at + fieldCount ≤ length (now numbers) ⌝ }
     ensures { λ r. ⌜ r ≡ checked (rowOf (drop at (now (numbers .entry)))) .row ⌝ }
 {

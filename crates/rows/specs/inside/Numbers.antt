@@ -1,14 +1,38 @@
 -- A promise between functions: rows one after another as their numbers, and an order as its task numbers.
-use mathlib.Core.List.{List, [], _∷_}
-use Prim.Native.Nat.{ℕ, zero, suc, _+_, _≤_, _<_}
+use mathlib.Core.Path.{_≡_}
+use mathlib.Core.List.{List, [], _∷_, map}
+use Prim.Native.Nat.{ℕ, zero, suc, _+_, _*_, _≤_, _<_}
 use lib.ListN.{length, getD, take, drop}
 use Rattle.rows.specs.declared.Row.{Row}
-use Rattle.rows.specs.Rows.{maxTask, fieldCount, rowOf}
+use Rattle.rows.specs.Rows.{maxTask, maxTasks, fieldCount, rowOf, rowAt}
 
 -- n rows, from their first number on
 abbrev pub rowsOf : ℕ → List ℕ → List Row
 rowsOf zero ws = []
 rowsOf (suc n) ws = rowOf ws ∷ rowsOf n (drop fieldCount ws)
+
+-- row i of the numbers
+abbrev pub rowIn : List ℕ → ℕ → Row
+rowIn ns i = rowOf (drop (fieldCount * i) ns)
+
+-- room for the numbers of a table's rows
+abbrev pub numbersRoom : ℕ
+numbersRoom = fieldCount * maxTasks
+
+-- row i is r if there is room for it, the others are as they were, and there are as many numbers
+pub record RowPut (ns : List ℕ) (i : ℕ) (r : Row) (ns′ : List ℕ) : Type 0 where
+  pub there : numbersRoom ≤ length ns → i < maxTasks → rowIn ns′ i ≡ r
+  pub others : (k : ℕ) → (k ≡ i → ⊥) → rowIn ns′ k ≡ rowIn ns k
+  pub long : length ns′ ≡ length ns
+
+-- the numbers begin with those of the rows, if there is room for all, and there are as many
+pub record RowsPut (rows : List Row) (ns ns′ : List ℕ) : Type 0 where
+  pub there : numbersRoom ≤ length ns → length rows ≤ maxTasks → rowsOf (length rows) ns′ ≡ rows
+  pub long : length ns′ ≡ length ns
+
+-- the rows of a table at some positions
+abbrev pub rowsAt : List Row → List ℕ → List Row
+rowsAt table positions = map (rowAt table) positions
 
 -- n numbers from an index on
 abbrev pub between : ℕ → ℕ → List ℕ → List ℕ

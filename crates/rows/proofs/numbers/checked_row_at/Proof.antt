@@ -1,0 +1,95 @@
+-- `rows::numbers::checked_row_at` meets its contract: the six numbers from the index on are those of the row.
+use mathlib.Core.Path.{sym, ap, _∙_}
+use borrow.Author.Needs.{needs}
+use Rattle.rows.specs.declared.Checked.{Checked}
+use Rattle.rows.specs.inside.Constructor.{checked}
+use Rattle.rows.proofs.RowNumbers.{row-from}
+use Rattle.rows.proofs.numbers.checked_row_at.Statement.{statement}
+use Rattle.rows.proofs.numbers.checked_row_at.Tie as tie
+
+add-new : tie.Need-add-new
+add-new c = search needs
+
+mul-new : tie.Need-mul-new
+mul-new c = search needs
+
+shared-slice-read-new : tie.Need-shared-slice-read-new
+shared-slice-read-new c = search needs
+
+add-new-2 : tie.Need-add-new-2
+add-new-2 c = search needs
+
+mul-new-2 : tie.Need-mul-new-2
+mul-new-2 c = search needs
+
+shared-slice-read-new-2 : tie.Need-shared-slice-read-new-2
+shared-slice-read-new-2 c = search needs
+
+add-new-3 : tie.Need-add-new-3
+add-new-3 c = search needs
+
+mul-new-3 : tie.Need-mul-new-3
+mul-new-3 c = search needs
+
+shared-slice-read-new-3 : tie.Need-shared-slice-read-new-3
+shared-slice-read-new-3 c = search needs
+
+add-new-4 : tie.Need-add-new-4
+add-new-4 c = search needs
+
+mul-new-4 : tie.Need-mul-new-4
+mul-new-4 c = search needs
+
+shared-slice-read-new-4 : tie.Need-shared-slice-read-new-4
+shared-slice-read-new-4 c = search needs
+
+add-new-5 : tie.Need-add-new-5
+add-new-5 c = search needs
+
+mul-new-5 : tie.Need-mul-new-5
+mul-new-5 c = search needs
+
+shared-slice-read-new-5 : tie.Need-shared-slice-read-new-5
+shared-slice-read-new-5 c = search needs
+
+add-new-6 : tie.Need-add-new-6
+add-new-6 c = search needs
+
+mul-new-6 : tie.Need-mul-new-6
+mul-new-6 c = search needs
+
+shared-slice-read-new-6 : tie.Need-shared-slice-read-new-6
+shared-slice-read-new-6 c = search needs
+
+new-requires : tie.Need-new-requires
+new-requires c κs = search needs
+
+returns : tie.Need-returns
+returns c =
+    let a = c .before .before .before .before .before .before .before .before .before .args in
+    ap (λ (x : Checked). x .row) (c .before .new .ensures ∙ sym (ap checked (row-from (a .numbers .now) (a .at))))
+
+pub checked-row-at-spec : {M : Type 1} → statement M
+checked-row-at-spec =
+    tie.close
+    (tie.spec
+    add-new
+    mul-new
+    shared-slice-read-new
+    add-new-2
+    mul-new-2
+    shared-slice-read-new-2
+    add-new-3
+    mul-new-3
+    shared-slice-read-new-3
+    add-new-4
+    mul-new-4
+    shared-slice-read-new-4
+    add-new-5
+    mul-new-5
+    shared-slice-read-new-5
+    add-new-6
+    mul-new-6
+    shared-slice-read-new-6
+    new-requires
+    returns)
