@@ -8,19 +8,19 @@ use mathlib.Core.Logic.{inl, inr}
 use Prim.Native.Nat.{ℕ, zero, suc, _+_, _-_, _≤_, _<_}
 use native.Mathlib.Omega.{arith}
 use native.Mathlib.Nat.{le-refl, le-trans, le-of-eq, lt-of-not-le, lt-trans}
-use lib.ListN.{length, take}
+use lib.ListN.{length}
 use Rattle.basics.proofs.Tests.{le-or-lt}
-use Rattle.rows.specs.Rows.{timesInRange, allRows, rowAt}
+use Rattle.rows.specs.Rows.{timesInRange, allRows, rowAt, rowsAbove, rowsBelow, cost}
 use Rattle.rows.specs.declared.Row.{Row}
 use Rattle.rows.proofs.Limits.{Times, times, at-passes, front-passes}
 use Rattle.responses.specs.Interference.{ceiling}
-use Rattle.responses.specs.Figures.{worstIn, bestIn}
+use Rattle.responses.specs.Figures.{worstIn, bestIn, blocking}
 use Rattle.responses.specs.Claims.{Figured}
 use Rattle.responses.proofs.Responses.{figured}
 use Rattle.boards.specs.Claims.{LastsInRange, Finishes, Kept, latestAt, earliestAt, NoneLate}
 use Rattle.boards.proofs.Sums.{Above}
 use Rattle.boards.proofs.Releases.{ceiling-short, released-before, unreleased, needed, needed-grows}
-use Rattle.boards.proofs.Service.{service, Run, service-within, settled, room}
+use Rattle.boards.proofs.Service.{service, workAbove, Run, service-within, settled, room}
 use Rattle.boards.proofs.Traces.{releaseOf, releasedOf, workOf, runsIn, trace}
 use Rattle.boards.proofs.Traces.{finish-of, of-finish, finish-once}
 use Rattle.boards.proofs.Ranks.{bestPart, best-above}
@@ -64,13 +64,22 @@ module _ (order : List Row) (offset : ℕ → ℕ) (need : ℕ → ℕ → ℕ)
   pub served-after : (j k t : ℕ) → j < length order → needed (need j) (suc k) ≤ service runs j t → release j k < t
   served-after j k t l h = lt-of-not-le (λ x. omega (arith, unserved j k t l x, need-some j k l))
 
-  -- ---- in time: within any w, up to the period, that the work of w ticks fits
-  pub kept-late : (i k w : ℕ) → i < length order → 1 ≤ w → w ≤ rowAt order i .period
-      → rowAt order i .worst + worstIn w (take i order) ≤ w
+  -- ---- in time: within any w, up to the period, that the work of w ticks and the blocking time fit
+  abbrev Fits : ℕ → ℕ → Type 0
+  Fits i w = cost (rowAt order i) + blocking (rowsBelow order i) + worstIn w (rowsAbove order i) ≤ w
+
+  -- the one place that says that no job of this board holds up a higher rank: the blocking time, whatever it is, goes
+  -- unused
+  unblocked : (i s w : ℕ) → i < length order → w ≤ rowAt order i .period → Fits i w
+      → workAbove work (suc i) (s + w) ≤ workAbove work (suc i) s + w
+  unblocked i s w l short fits =
+      omega (arith, window-fits order offset need ok lasts i s w (blocking (rowsBelow order i)) l short fits)
+
+  pub kept-late : (i k w : ℕ) → i < length order → 1 ≤ w → w ≤ rowAt order i .period → Fits i w
       → (f : ℕ) × (release i k < f) × (f ≤ release i k + w) × Finishes order offset need i (release i k) f
   kept-late i k w l pos short fits =
       let quiet = settled (length order) runs work run (suc i) (release i k + w) w l pos in
-      let s = quiet (λ s. window-fits order offset need ok lasts i s w l short fits) in
+      let s = quiet (λ s. unblocked i s w l short fits) in
       let known = released-before (rowAt order i .period) (offset i) (period-some i l) k (s .0) in
       let due = needed-grows (need i) (suc k) (releasedOf order offset i (s .0)) (known (omega (arith, s .2))) in
       let done = le-trans due (s .3 i (le-refl (suc i))) in
@@ -84,7 +93,7 @@ module _ (order : List Row) (offset : ℕ → ℕ) (need : ℕ → ℕ → ℕ)
   -- ---- not early: for any e up to d, where all above have started d before the release
   module _ (i k t e d : ℕ) (l : i < length order) (turn : runs t ≡ i)
       (complete : service runs i (suc t) ≡ needed (need i) (suc k)) (pos : 1 ≤ e) (lead : e ≤ d)
-      (fits : e ≤ rowAt order i .best + bestIn e (take i order))
+      (fits : e ≤ rowAt order i .best + bestIn e (rowsAbove order i))
       (started : (j : ℕ) → j < i → offset j + d ≤ release i k) where
     -- the start of the e - 1 ticks before the finish, and what those above bring from there
     abbrev start : ℕ
@@ -114,7 +123,7 @@ module _ (order : List Row) (offset : ℕ → ℕ) (need : ℕ → ℕ → ℕ)
     not-before = elim (le-or-lt (release i k + e) (suc t)) [ inl h ↦ h | inr h ↦ absurd (no-room h) ]
 
   pub kept-early : (i r f e d : ℕ) → i < length order → 1 ≤ e → e ≤ d
-      → e ≤ rowAt order i .best + bestIn e (take i order)
+      → e ≤ rowAt order i .best + bestIn e (rowsAbove order i)
       → ((j : ℕ) → j < i → offset j + d ≤ r)
       → Finishes order offset need i r f
       → r + e ≤ f
@@ -149,7 +158,7 @@ kept order offset need ok timely lasts = record {
     rows : (j : ℕ) → j < length order → Times (rowAt order j)
     rows j l = times (rowAt order j) (at-passes timesInRange order j ok l)
 
-    figures : (i : ℕ) → i < length order → Figured (rowAt order i) (take i order)
+    figures : (i : ℕ) → i < length order → Figured (rowAt order i) (rowsAbove order i) (rowsBelow order i)
     figures i l =
-        figured (rowAt order i) (take i order) (at-passes timesInRange order i ok l)
+        figured (rowAt order i) (rowsAbove order i) (rowsBelow order i) (at-passes timesInRange order i ok l)
         (front-passes timesInRange i order ok)

@@ -3,8 +3,8 @@ use mathlib.Core.Path.{_≡_, refl, ap, _∙_}
 use mathlib.Core.List.{List, [], _∷_}
 use Prim.Native.Nat.{ℕ, zero, suc, _+_, _-_, _*_, _≤_}
 use native.Mathlib.Nat.{not-suc-le-zero, le-of-suc-le-suc, sub-zero}
-use lib.ListN.{length, take}
-use Rattle.rows.specs.Rows.{rowAt}
+use lib.ListN.{length}
+use Rattle.rows.specs.Rows.{rowAt, rowsAbove, cost}
 use Rattle.rows.specs.declared.Row.{Row}
 use Rattle.responses.specs.Interference.{ceiling}
 use Rattle.responses.specs.Figures.{worstIn, bestIn}
@@ -13,26 +13,27 @@ use Rattle.boards.proofs.Sums.{sumTo}
 -- ---- a sum over rows, by rank
 module _ (part : Row → ℕ) (total : List Row → ℕ) (none : total [] ≡ 0)
     (more : (r : Row) (rs : List Row) → total (r ∷ rs) ≡ part r + total rs) where
-  sum-above : (i : ℕ) (order : List Row) → i ≤ length order → total (take i order) ≡ sumTo i (λ j. part (rowAt order j))
+  sum-above : (i : ℕ) (order : List Row) → i ≤ length order
+      → total (rowsAbove order i) ≡ sumTo i (λ j. part (rowAt order j))
   sum-above zero order l = none
   sum-above (suc i) [] l = absurd (not-suc-le-zero l)
   sum-above (suc i) (r ∷ rs) l =
-      more r (take i rs) ∙ ap (λ (n : ℕ). part r + n) (sum-above i rs (le-of-suc-le-suc l))
+      more r (rowsAbove rs i) ∙ ap (λ (n : ℕ). part r + n) (sum-above i rs (le-of-suc-le-suc l))
 
 module _ (x : ℕ) where
   -- the most and the least that a row above takes of x ticks
   abbrev pub worstPart : Row → ℕ
-  worstPart r = ceiling x (r .period) * r .worst
+  worstPart r = ceiling x (r .period) * cost r
 
   abbrev pub bestPart : Row → ℕ
   bestPart r = (ceiling x (r .period) - 1) * r .best
 
   pub worst-above : (i : ℕ) (order : List Row) → i ≤ length order
-      → worstIn x (take i order) ≡ sumTo i (λ j. worstPart (rowAt order j))
+      → worstIn x (rowsAbove order i) ≡ sumTo i (λ j. worstPart (rowAt order j))
   worst-above =
       sum-above worstPart (worstIn x) refl
-      (λ r rs. ap (λ (k : ℕ). k * r .worst + worstIn x rs) (sub-zero (ceiling x (r .period))))
+      (λ r rs. ap (λ (k : ℕ). k * cost r + worstIn x rs) (sub-zero (ceiling x (r .period))))
 
   pub best-above : (i : ℕ) (order : List Row) → i ≤ length order
-      → bestIn x (take i order) ≡ sumTo i (λ j. bestPart (rowAt order j))
+      → bestIn x (rowsAbove order i) ≡ sumTo i (λ j. bestPart (rowAt order j))
   best-above = sum-above bestPart (bestIn x) refl (λ r rs. refl)

@@ -1,12 +1,12 @@
--- The work that a window of ticks brings. Each job needs from its row's best to its worst, so a rank's work is bounded
--- by its releases in the window, both ways; and where worst and the interference of w ticks fit w ticks, the work that
--- any window of w ticks brings fits it.
+-- The work that a window of ticks brings. Each job needs from its row's best to its cost, so a rank's work is bounded
+-- by its releases in the window, both ways; and where a cost, a blocking time and the interference of w ticks fit w
+-- ticks, the work that any window of w ticks brings leaves it the blocking time.
 use mathlib.Core.List.{List}
 use Prim.Native.Nat.{ℕ, suc, _+_, _*_, _≤_, _<_}
 use native.Mathlib.Omega.{arith}
 use native.Mathlib.Nat.{le-trans, lt-of-lt-of-le, mul-le-mul-right}
-use lib.ListN.{length, take}
-use Rattle.rows.specs.Rows.{rowAt}
+use lib.ListN.{length}
+use Rattle.rows.specs.Rows.{rowAt, rowsAbove, cost}
 use Rattle.rows.specs.declared.Row.{Row}
 use Rattle.rows.proofs.Limits.{Times}
 use Rattle.responses.specs.Interference.{ceiling}
@@ -37,7 +37,7 @@ module _ (order : List Row) (offset : ℕ → ℕ) (need : ℕ → ℕ → ℕ)
       let before = releasedOf order offset j s in
       le-trans (needed-grows (need j) (releasedOf order offset j (s + w)) (before + ceiling w (r .period))
       (released-most (r .period) (offset j) (periods j l) s w))
-      (needed-most (need j) (r .worst) (λ k. lasts j k l .1) before (ceiling w (r .period)))
+      (needed-most (need j) (cost r) (λ k. lasts j k l .1) before (ceiling w (r .period)))
 
   pub window-least : (j s w m : ℕ) → j < length order → offset j ≤ s → m * rowAt order j .period ≤ w
       → work j s + m * rowAt order j .best ≤ work j (s + w)
@@ -50,20 +50,20 @@ module _ (order : List Row) (offset : ℕ → ℕ) (need : ℕ → ℕ → ℕ)
 
   -- ---- of the ranks above i
   pub window-above : (i s w : ℕ) → i ≤ length order
-      → workAbove work i (s + w) ≤ workAbove work i s + worstIn w (take i order)
+      → workAbove work i (s + w) ≤ workAbove work i s + worstIn w (rowsAbove order i)
   window-above i s w l =
       let part : ℕ → ℕ = λ j. worstPart w (rowAt order j) in
       let each : Above i (λ j. work j (s + w) ≤ work j s + part j) = λ j b. window-most j s w (lt-of-lt-of-le b l) in
       let all = sum-le i (λ j. work j (s + w)) (λ j. work j s + part j) each in
       omega (arith, sum-add i (λ j. work j s) part, worst-above w i order l)
 
-  -- ---- of rank i and those above, in a window within a period of i
-  pub window-fits : (i s w : ℕ) → i < length order → w ≤ rowAt order i .period
-      → rowAt order i .worst + worstIn w (take i order) ≤ w
-      → workAbove work (suc i) (s + w) ≤ workAbove work (suc i) s + w
-  window-fits i s w l short fits =
+  -- ---- of rank i and those above, in a window within a period of i, with b ticks to spare
+  pub window-fits : (i s w b : ℕ) → i < length order → w ≤ rowAt order i .period
+      → cost (rowAt order i) + b + worstIn w (rowsAbove order i) ≤ w
+      → workAbove work (suc i) (s + w) + b ≤ workAbove work (suc i) s + w
+  window-fits i s w b l short fits =
       let r = rowAt order i in
-      let one = mul-le-mul-right (r .worst) (ceiling-under 1 w (r .period) (periods i l) (omega arith)) in
+      let one = mul-le-mul-right (cost r) (ceiling-under 1 w (r .period) (periods i l) (omega arith)) in
       let before = sum-last i (λ j. work j s) in
       let after = sum-last i (λ j. work j (s + w)) in
       omega (arith, window-above i s w (omega arith), window-most i s w l)

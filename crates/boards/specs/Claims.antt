@@ -4,16 +4,16 @@ use mathlib.Core.Path.{_≡_}
 use mathlib.Core.Bool.{true, false}
 use mathlib.Core.List.{List}
 use Prim.Native.Nat.{ℕ, _+_, _*_, _≤_, _<_}
-use lib.ListN.{length, take}
-use Rattle.rows.specs.Rows.{rowAt}
+use lib.ListN.{length}
+use Rattle.rows.specs.Rows.{rowAt, rowsAbove, rowsBelow, cost}
 use Rattle.rows.specs.declared.Row.{Row}
 use Rattle.responses.specs.Figures.{latest, earliest, isLate}
 use Rattle.boards.specs.Boards.{afterTicks, isDone}
 
--- each job needs from its row's best to its worst
+-- each job needs from its row's best to its cost
 abbrev pub LastsInRange : List Row → (ℕ → ℕ → ℕ) → Type 0
 LastsInRange order need =
-    (i k : ℕ) → i < length order → (rowAt order i .best ≤ need i k) × (need i k ≤ rowAt order i .worst)
+    (i k : ℕ) → i < length order → (rowAt order i .best ≤ need i k) × (need i k ≤ cost (rowAt order i))
 
 -- rank i's job released at r finishes at f
 abbrev pub Finishes : List Row → (ℕ → ℕ) → (ℕ → ℕ → ℕ) → ℕ → ℕ → ℕ → Type 0
@@ -40,12 +40,13 @@ pub record Kept (order : List Row) (offset : ℕ → ℕ) (need : ℕ → ℕ �
       → Finishes order offset need i r f
       → r + early i ≤ f
 
--- the responses of rank i under the rows above it, in the order's own sequence
+-- the responses of rank i between the rows above it and those below it, in the order's own sequence
 abbrev pub latestAt : List Row → ℕ → ℕ
-latestAt order i = latest (rowAt order i) (take i order)
+latestAt order i = latest (rowAt order i) (rowsAbove order i) (rowsBelow order i)
 
 abbrev pub earliestAt : List Row → ℕ → ℕ
-earliestAt order i = earliest (rowAt order i) (take i order)
+earliestAt order i = earliest (rowAt order i) (rowsAbove order i) (rowsBelow order i)
 
 abbrev pub NoneLate : List Row → Type 0
-NoneLate order = (i : ℕ) → i < length order → isLate (rowAt order i) (take i order) ≡ false
+NoneLate order =
+    (i : ℕ) → i < length order → isLate (rowAt order i) (rowsAbove order i) (rowsBelow order i) ≡ false

@@ -5,7 +5,7 @@ use mathlib.Core.List.{List, [], _∷_}
 use mathlib.Core.Logic.{_⊎_}
 use Prim.Native.Nat.{ℕ, _≤_, _<_}
 use lib.ListN.{length, getD}
-use Rattle.rows.specs.Rows.{row, timesInRange, allRows, rowAt}
+use Rattle.rows.specs.Rows.{row, timesInRange, allRows, rowAt, cost}
 use Rattle.rows.specs.declared.Row.{Row}
 use Rattle.boards.specs.Claims.{LastsInRange, Finishes, AfterFirstReleases, NoneLate}
 use Rattle.boards.specs.Runs.{boardGoesTo}
@@ -22,10 +22,10 @@ lasting ticks i k = getD ticks i 0
 
 pub record RunsMet : Type 0 where
   pub none-late : NoneLate exampleOrder
-  -- jobs may need their best or their worst, each its own, or something between
+  -- jobs may need their best or their cost, each its own, or something between
   pub lasts :
       (order : List Row) (need : ℕ → ℕ → ℕ) → allRows timesInRange order ≡ true
-      → ((i k : ℕ) → (need i k ≡ rowAt order i .best) ⊎ (need i k ≡ rowAt order i .worst))
+      → ((i k : ℕ) → (need i k ≡ rowAt order i .best) ⊎ (need i k ≡ cost (rowAt order i)))
       → LastsInRange order need
   pub lasts-between : LastsInRange exampleOrder (lasting (2 ∷ 6 ∷ 18 ∷ []))
   -- a job of the lowest rank that is held to its earliest response, 25, and finishes just then; and one that takes its

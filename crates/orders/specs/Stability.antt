@@ -1,4 +1,4 @@
--- The order chosen by stability, document 01's test of a row: the rows below it don't count.
+-- The order chosen by stability, document 01's test of a row between the rows above it and those below it.
 use mathlib.Core.Bool.{Bool}
 use mathlib.Core.List.{List}
 use mathlib.Core.Option.{Option}
@@ -7,9 +7,9 @@ use Rattle.responses.specs.Figures.{isStable}
 use Rattle.orders.specs.Orders.{passes, orderOf}
 
 abbrev pub stable : Row → List Row → List Row → Bool
-stable r above below = isStable r above
+stable r above below = isStable r above below
 
--- every row of an order is stable under those above it
+-- every row of an order is stable where it stands
 abbrev pub orderStable : List Row → Bool
 orderStable = passes stable
 
