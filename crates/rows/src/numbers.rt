@@ -4,7 +4,7 @@ ghost use mathlib.Core.Bool.{true};
 ghost use Prim.Native.Nat.{suc, _+_, _*_, _≤_};
 ghost use lib.ListN.{length, drop};
 ghost use Rattle.basics.specs.Basics.{isIn};
-ghost use Rattle.rows.specs.Rows.{maxTasks, fieldCount, inRange, rowOf, hasTask};
+ghost use Rattle.rows.specs.Rows.{maxTasks, fieldCount, cost, inRange, rowOf, hasTask};
 ghost use Rattle.rows.specs.inside.Arrays.{ranking};
 ghost use Rattle.rows.specs.inside.Constructor.{checked};
 ghost use Rattle.rows.specs.inside.Numbers.{rowIn, rowsOf, RowPut, RowsPut};
@@ -45,6 +45,14 @@ pub fn row_at(numbers: &[u64], i: usize) -> Row
         alpha: numbers[at + ALPHA] as u32,
         beta: numbers[at + BETA],
     }
+}
+
+// The most ticks that a job of row i takes.
+pub fn cost_at(numbers: &[u64], i: usize) -> u64
+    requires { ⌜ fieldCount * suc i ≤ length (now numbers) ⌝ }
+    ensures { λ r. ⌜ r ≡ cost (rowIn (now (numbers .entry)) i) ⌝ }
+{
+    numbers[FIELDS * i + WORST]
 }
 
 // Row i is put among the numbers, if there is room for it.

@@ -33,9 +33,7 @@ timely : (c : tie.Else1) → let a = c .before .before .before .before .before .
     Found (a .row) (a .columns .now) (a .n) (a .k) (c .before .least-fixed .result)
 timely c =
     let s = c .before .before .before .before .before .before in
-    let a = s .args in
-    found (a .row) (a .blocked) (a .columns .now) (a .n) (a .k) _ (s .pre) (least (c .before))
-    (omega (arith, c .if1 .left))
+    found _ (s .pre) (least (c .before)) (omega (arith, c .if1 .left))
 
 early : (c : tie.After-largest-fixed)
     → c .largest-fixed .result ≤ c .before .before .before .before .least-fixed .result
@@ -45,7 +43,7 @@ mul-costs : tie.Need-mul-costs
 mul-costs c = search needs
 
 sub-costs : tie.Need-sub-costs
-sub-costs c = omega (arith, c .before .pre .filled .room, c .before .pre .count)
+sub-costs c = omega (arith, c .before .pre .filled .room)
 
 part-costs-start : tie.Need-part-costs-start
 part-costs-start c = search needs
@@ -80,12 +78,11 @@ late-figures-requires : tie.Need-late-figures-requires
 late-figures-requires c κs = search needs
 
 returns : tie.Need-returns
-returns c rows below count f blocked =
+returns c rows below f blocked =
     let i = c .before in
     let s = i .before .before .before .before .before .before in
     let a = s .args in
-    let w = latest-found (a .row) (a .blocked) (a .columns .now) (a .n) (a .k) rows below count (s .pre .among) f blocked
-    _ (least (i .before)) in
+    let w = latest-found (a .row) below f blocked _ (least (i .before)) in
     c .late-figures .ensures ∙ late-answer (a .row) (take (a .k) rows) below (sym w ∙ i .if1 .taken)
 
 add-bests : tie.Need-add-bests
@@ -97,7 +94,7 @@ mul-bests c = search needs
 sub-bests : tie.Need-sub-bests
 sub-bests c =
     let s = c .before .before .before .before .before .before in
-    omega (arith, s .pre .filled .room, s .pre .count)
+    omega (arith, s .pre .filled .room)
 
 part-bests-start : tie.Need-part-bests-start
 part-bests-start c = search needs
@@ -133,17 +130,15 @@ cast-t24 : tie.Need-cast-t24
 cast-t24 c = record { fits = omega (arith, timely (c .before .before .before .before) .latest-max) }
 
 returns-2 : tie.Need-returns-2
-returns-2 c rows below count f blocked =
+returns-2 c rows below f blocked =
     let i = c .before .before .before .before in
     let s = i .before .before .before .before .before .before in
     let a = s .args in
     let w = i .before .least-fixed .result in
     let e = c .before .largest-fixed .result in
     let m = toZ-ofZ {w = w64} {z = c .margin .result} (record { sfits = c .margin .ok }) in
-    let latest = latest-found (a .row) (a .blocked) (a .columns .now) (a .n) (a .k) rows below count (s .pre .among) f
-    blocked w (least (i .before)) in
-    let earliest = earliest-found (a .row) (a .blocked) (a .columns .now) (a .n) (a .k) rows below count
-    (s .pre .among) f blocked w e latest (c .before .largest-fixed .ensures) in
+    let latest = latest-found (a .row) below f blocked w (least (i .before)) in
+    let earliest = earliest-found (a .row) below f blocked w e latest (c .before .largest-fixed .ensures) in
     ap (figuresAt w e) m
     ∙ timely-answer (a .row) (take (a .k) rows) below w e (c .margin .result) (omega (arith, i .if1 .left)) latest
     earliest (c .margin .ensures)

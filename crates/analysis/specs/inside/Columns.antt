@@ -4,8 +4,8 @@ use mathlib.Core.Path.{_≡_}
 use mathlib.Core.Bool.{true}
 use mathlib.Core.List.{List, [], _∷_}
 use Prim.Native.Nat.{ℕ, zero, suc, _+_, _*_, _≤_, _<_}
-use lib.ListN.{length, getD, take}
-use Rattle.rows.specs.Rows.{maxTicks, cost, timesInRange, inRange, allRows, rowAt}
+use lib.ListN.{length, getD, set, take}
+use Rattle.rows.specs.Rows.{maxTicks, fieldCount, cost, timesInRange, inRange, allRows, rowAt}
 use Rattle.rows.specs.declared.Row.{Row}
 use Rattle.responses.specs.Interference.{Load, load}
 use Rattle.responses.specs.Figures.{blocking, figuresUnder}
@@ -37,35 +37,44 @@ pub record Columns (n : ℕ) (ps cs : List ℕ) : Type 0 where
   pub period-max : (i : ℕ) → i < n → getD ps i 0 ≤ maxTicks
   pub cost-period : (i : ℕ) → i < n → getD cs i 0 ≤ getD ps i 0
 
--- ---- three columns, one behind another
--- the periods of some rows, then their costs, then their best times
-pub record Filled (rows : List Row) (columns : List ℕ) : Type 0 where
-  pub room : 3 * length rows ≤ length columns
-  pub periods : (k : ℕ) → k < length rows → getD columns k 0 ≡ rowAt rows k .period
-  pub costs : (k : ℕ) → k < length rows → getD columns (length rows + k) 0 ≡ cost (rowAt rows k)
-  pub bests : (k : ℕ) → k < length rows → getD columns (length rows + length rows + k) 0 ≡ rowAt rows k .best
+-- ---- three columns of n numbers, one behind another
+-- the periods of the first k rows, their costs, and their best times
+pub record Filled (rows : List Row) (n k : ℕ) (columns : List ℕ) : Type 0 where
+  pub room : 3 * n ≤ length columns
+  pub among : k ≤ n
+  pub held : k ≤ length rows
+  pub periods : (j : ℕ) → j < k → getD columns j 0 ≡ rowAt rows j .period
+  pub costs : (j : ℕ) → j < k → getD columns (n + j) 0 ≡ cost (rowAt rows j)
+  pub bests : (j : ℕ) → j < k → getD columns (n + n + j) 0 ≡ rowAt rows j .best
 
--- a row in range, columns of n rows whose times are in range, the first k of them above it, and the blocking time of the
--- rows below it
+-- with a row's times at index k
+abbrev pub withTimes : List ℕ → ℕ → ℕ → ℕ → ℕ → ℕ → List ℕ
+withTimes columns n k period cost best = set (set (set columns k period) (n + k) cost) (n + n + k) best
+
+-- the rows at n positions among the numbers of rows can be put into columns
+pub record Fillable (ns positions : List ℕ) (n : ℕ) (columns : List ℕ) : Type 0 where
+  pub few : n ≤ columnsMax
+  pub room : 3 * n ≤ length columns
+  pub positions-held : n ≤ length positions
+  pub rows-held : (j : ℕ) → j < n → fieldCount * suc (getD positions j 0) ≤ length ns
+
+-- a row in range, columns with k rows above it, whose times are in range, and the blocking time of the rows below it
 pub record UnderColumns (t : Row) (blocked : ℕ) (columns : List ℕ) (n k : ℕ) : Type 0 where
   pub in-range : inRange t ≡ true
   pub few : n ≤ columnsMax
-  pub among : k ≤ n
   pub rows : List Row
-  pub count : length rows ≡ n
-  pub filled : Filled rows columns
+  pub filled : Filled rows n k columns
   pub times-in-range : allRows timesInRange rows ≡ true
   pub below : List Row
   pub blocked-is : blocked ≡ blocking below
   pub blocked-max : blocked ≤ maxTicks
 
+-- the figures of a row, whatever rows the columns hold and whatever rows below have that blocking time
+abbrev pub FiguresIn : Row → ℕ → List ℕ → ℕ → ℕ → Figures → Type 0
+FiguresIn t blocked columns n k x =
+    (rows below : List Row) → Filled rows n k columns → blocked ≡ blocking below
+    → x ≡ figuresUnder t (take k rows) below
+
 -- the blocking time of any rows below
 abbrev pub BlockingOfAny : ℕ → Type 0
 BlockingOfAny b = (below : List Row) → b ≡ blocking below
-
--- the figures of a row under the first k of n rows, whatever rows the columns hold and whatever rows below have that
--- blocking time
-abbrev pub FiguresIn : Row → ℕ → List ℕ → ℕ → ℕ → Figures → Type 0
-FiguresIn t blocked columns n k x =
-    (rows below : List Row) → length rows ≡ n → Filled rows columns → blocked ≡ blocking below
-    → x ≡ figuresUnder t (take k rows) below

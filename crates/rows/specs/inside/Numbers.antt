@@ -15,6 +15,10 @@ rowsOf (suc n) ws = rowOf ws ∷ rowsOf n (drop fieldCount ws)
 abbrev pub rowIn : List ℕ → ℕ → Row
 rowIn ns i = rowOf (drop (fieldCount * i) ns)
 
+-- the rows at some positions
+abbrev pub rowsIn : List ℕ → List ℕ → List Row
+rowsIn ns positions = map (rowIn ns) positions
+
 -- room for the numbers of a table's rows
 abbrev pub numbersRoom : ℕ
 numbersRoom = fieldCount * maxTasks
