@@ -1,2 +1,3 @@
--- Laws of columns.
+-- Laws of columns: what they hold, and how they are filled.
 pub mod Columns
+pub mod Filling

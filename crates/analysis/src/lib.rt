@@ -1,12 +1,12 @@
 // The response analysis: W, E, margin and stability of a row under rows whose times stand in columns.
 ghost use mathlib.Core.Path.{_≡_};
 ghost use mathlib.Core.Bool.{true};
-ghost use Prim.Native.Nat.{_+_, _*_, _≤_, _<_};
+ghost use Prim.Native.Nat.{suc, _+_, _*_, _≤_, _<_};
 ghost use lib.ListN.{length, take};
-ghost use Rattle.rows.specs.Rows.{maxTicks, inRange};
+ghost use Rattle.rows.specs.Rows.{maxTicks, fieldCount, inRange};
 ghost use Rattle.responses.specs.Interference.{ceiling, interference, leastFixed, largestFixed};
 ghost use Rattle.responses.specs.Figures.{marginAt, noFigures, lateFigures};
-ghost use Rattle.rows.specs.inside.Numbers.{rowsIn};
+ghost use Rattle.rows.specs.inside.Numbers.{rowIn, rowsIn};
 ghost use Rattle.analysis.specs.inside.Columns.{loads, columnsMax, baseMax, Columns, withTimes, Filled};
 ghost use Rattle.analysis.specs.inside.Columns.{Fillable, UnderColumns};
 ghost use Rattle.analysis.specs.inside.Columns.{BlockingOfAny, FiguresIn};
@@ -115,26 +115,26 @@ pub fn no_blocking() -> u64
     0
 }
 
-// A row's times are put at index k of three columns of n numbers.
-fn put_times(columns: &mut [u64], n: usize, k: usize, period: u64, cost: u64, best: u64)
-    requires { ⌜ (k < n) × (n ≤ columnsMax) × (3 * n ≤ length (now columns)) ⌝ }
-    ensures { λ _. ⌜ now (columns .exit) ≡ withTimes (now (columns .entry)) n k period cost best ⌝ }
+// The times of row i, the numbers of it that figures take, are put at index k of three columns of n numbers.
+fn put_times(rows: &[u64], i: usize, columns: &mut [u64], n: usize, k: usize)
+    requires { ⌜ (fieldCount * suc i ≤ length (now rows)) × (k < n) × (n ≤ columnsMax)
+        × (3 * n ≤ length (now columns)) ⌝ }
+    ensures { λ _. ⌜ now (columns .exit) ≡ withTimes (now (columns .entry)) n k (rowIn (now (rows .entry)) i) ⌝ }
 {
-    columns[k] = period;
-    columns[n + k] = cost;
-    columns[n + n + k] = best;
+    let at = FIELDS * i;
+    columns[k] = rows[at + PERIOD];
+    columns[n + k] = cost_at(rows, i);
+    columns[n + n + k] = rows[at + BEST];
 }
 
-// The columns of the rows at n positions: of each only the numbers that figures take.
+// The columns of the rows at n positions.
 pub fn fill_columns(rows: &[u64], positions: &[usize], n: usize, columns: &mut [u64])
     requires { ⌜ Fillable (now rows) (now positions) n (now columns) ⌝ }
     ensures { λ _. ⌜ Filled (rowsIn (now (rows .entry)) (take n (now (positions .entry)))) n n (now (columns .exit)) ⌝ }
 {
     let mut k = 0;
     while k < n {
-        let i = positions[k];
-        let at = FIELDS * i;
-        put_times(columns, n, k, rows[at + PERIOD], cost_at(rows, i), rows[at + BEST]);
+        put_times(rows, positions[k], columns, n, k);
         k += 1;
     }
 }

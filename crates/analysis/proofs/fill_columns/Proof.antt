@@ -1,83 +1,71 @@
+-- The invariant: the columns hold the times of the rows at the first k positions.
+use mathlib.Core.Path.{_≡_, refl, _∙_, subst}
+use mathlib.Core.List.{List}
+use Prim.Native.Nat.{ℕ, _+_, _-_}
+use native.Mathlib.Numerals.{add-one}
+use native.Mathlib.Omega.{arith}
+use lib.ListN.{length, take}
+use Rattle.rows.specs.inside.Numbers.{rowsIn}
+use Rattle.analysis.specs.inside.Columns.{Filled}
+use Rattle.analysis.proofs.Filling.{filled-none, filled-more}
 use Rattle.analysis.proofs.fill_columns.Statement.{statement}
 use Rattle.analysis.proofs.fill_columns.Tie as tie
-use Rattle.analysis.proofs.fill_columns.Reads as reads
-use Rattle.analysis.proofs.fill_columns.Lts as lts
-use Rattle.analysis.proofs.put_times.Reads as put-times-reads
-use Rattle.rows.proofs.cost_at.Reads as cost-at-reads
 
 abbrev Inv-loop : tie.InvT-loop
-Inv-loop rows positions n columns₀ k₀ columns k = ?
+Inv-loop rows positions n columns₀ k₀ columns k =
+    (length columns ≡ length columns₀) × Filled (rowsIn rows (take n positions)) n k columns
 
 abbrev μ-loop : tie.MeasureT-loop
-μ-loop rows positions n columns₀ k₀ columns k = ?
+μ-loop rows positions n columns₀ k₀ columns k = n - k
 
--- src/lib.rt:134:5
 loop-holds : tie.Need-loop-holds Inv-loop μ-loop
-loop-holds c = ?
+loop-holds c =
+    let s = c .before .before .before in (
+      refl,
+      filled-none (rowsIn (s .args .rows .now) (take (s .args .n) (s .args .positions .now))) (s .args .n)
+          (s .args .columns .now) (s .pre .room),
+    )
 
--- src/lib.rt:135:17
-mul-i : tie.Need-mul-i Inv-loop μ-loop
-mul-i c = ?
-
--- src/lib.rt:135:17
-shared-slice-read-i : tie.Need-shared-slice-read-i Inv-loop μ-loop
-shared-slice-read-i c = ?
-
--- src/lib.rt:136:18
-mul-at : tie.Need-mul-at Inv-loop μ-loop
-mul-at c = ?
-
--- src/lib.rt:137:39
-add-put-times : tie.Need-add-put-times Inv-loop μ-loop
-add-put-times c = ?
-
--- src/lib.rt:137:34
 mul-put-times : tie.Need-mul-put-times Inv-loop μ-loop
-mul-put-times c = ?
+mul-put-times c = let s = c .before .before .before .before .before in record { fits = omega (arith, s .pre .few, c .loop-test .taken) }
 
--- src/lib.rt:137:34
 shared-slice-read-put-times : tie.Need-shared-slice-read-put-times Inv-loop μ-loop
-shared-slice-read-put-times c = ?
+shared-slice-read-put-times c = let s = c .before .before .before .before .before .before in omega (arith, s .pre .positions-held, c .before .loop-test .taken)
 
--- src/lib.rt:137:53
-cost-at-requires : tie.Need-cost-at-requires Inv-loop μ-loop
-cost-at-requires c κs = ?
-
--- src/lib.rt:137:76
-add-put-times-2 : tie.Need-add-put-times-2 Inv-loop μ-loop
-add-put-times-2 c = ?
-
--- src/lib.rt:137:71
-mul-put-times-2 : tie.Need-mul-put-times-2 Inv-loop μ-loop
-mul-put-times-2 c = ?
-
--- src/lib.rt:137:71
-shared-slice-read-put-times-2 : tie.Need-shared-slice-read-put-times-2 Inv-loop μ-loop
-shared-slice-read-put-times-2 c = ?
-
--- src/lib.rt:137:9
 put-times-requires : tie.Need-put-times-requires Inv-loop μ-loop
-put-times-requires c κs = ?
+put-times-requires c κs =
+    let s = c .before .before .before .before .before .before .before in
+    let x = c .before .before .before .loop in
+    let t = c .before .before .loop-test .taken in
+    (s .pre .rows-held (x .k) t, t, s .pre .few, x .inv .1 .room)
 
--- src/lib.rt:138:9
 add-k : tie.Need-add-k Inv-loop μ-loop
-add-k c = ?
+add-k c = let s = c .before .before .before .before .before .before .before .before .before .before in record { fits = omega (arith, s .pre .few, c .before .before .before .before .before .loop-test .taken) }
 
--- src/lib.rt:134:5
 loop-less : tie.Need-loop-less Inv-loop μ-loop
-loop-less c = ?
+loop-less c = omega (arith, c .before .before .before .before .before .loop-test .taken)
 
--- src/lib.rt:134:5
 loop-again : tie.Need-loop-again Inv-loop μ-loop
-loop-again c = ?
+loop-again c =
+    let s = c .before .before .before .before .before .before .before .before .before .before in
+    let a = s .args in
+    let k = c .before .before .before .before .before in
+    let x = k .before .loop in
+    let put = c .before .before .put-times in
+    let more = filled-more (a .rows .now) (a .positions .now) (a .n) (s .pre .positions-held) (x .k) (x .columns) _
+    (x .inv .1) (k .loop-test .taken) (put .ensures) in
+    (put .kept .1 .1 .0 ∙ x .inv .0, rw (add-one (x .k)) more)
 
--- src/lib.rt:129:1
 same-length : tie.Need-same-length Inv-loop μ-loop
-same-length c = ?
+same-length c = c .before .loop .inv .0
 
--- src/lib.rt:129:1
 returns : tie.Need-returns Inv-loop μ-loop
-returns c = ?
+returns c =
+    let x = c .before .loop in
+    let s = c .before .before .before .before .before in
+    let e : x .k ≡ s .args .n = omega (arith, x .inv .1 .among, c .loop-test .left) in
+    subst (λ (k : ℕ). Filled (rowsIn (s .args .rows .now) (take (s .args .n) (s .args .positions .now))) (s .args .n) k
+    (x .columns)) e (x .inv .1)
 
 pub fill-columns-spec : {M : Type 1} → statement M
 fill-columns-spec =
@@ -86,16 +74,8 @@ fill-columns-spec =
     Inv-loop
     μ-loop
     loop-holds
-    mul-i
-    shared-slice-read-i
-    mul-at
-    add-put-times
     mul-put-times
     shared-slice-read-put-times
-    cost-at-requires
-    add-put-times-2
-    mul-put-times-2
-    shared-slice-read-put-times-2
     put-times-requires
     add-k
     loop-less

@@ -48,8 +48,8 @@ pub record Filled (rows : List Row) (n k : ℕ) (columns : List ℕ) : Type 0 wh
   pub bests : (j : ℕ) → j < k → getD columns (n + n + j) 0 ≡ rowAt rows j .best
 
 -- with a row's times at index k
-abbrev pub withTimes : List ℕ → ℕ → ℕ → ℕ → ℕ → ℕ → List ℕ
-withTimes columns n k period cost best = set (set (set columns k period) (n + k) cost) (n + n + k) best
+abbrev pub withTimes : List ℕ → ℕ → ℕ → Row → List ℕ
+withTimes columns n k r = set (set (set columns k (r .period)) (n + k) (cost r)) (n + n + k) (r .best)
 
 -- the rows at n positions among the numbers of rows can be put into columns
 pub record Fillable (ns positions : List ℕ) (n : ℕ) (columns : List ℕ) : Type 0 where
