@@ -1,8 +1,13 @@
 // Reads stored texts as tables and prints what each reads as: the refusal's number and its line, or 0 and 0, then the
 // board, the numbers of each row, and the ranks. docs/src/table_cases.py makes the texts and what must be printed.
-use rows::MAX_TASKS;
-use rows::Row;
-use tables::Reading;
+ghost use mathlib.Core.Path.{_≡_};
+ghost use Prim.Native.Nat.{_≤_};
+ghost use lib.ListN.{length};
+ghost use Rattle.basics.specs.Basics.{pick};
+use rows::FIELDS;
+use tables::HEAD;
+use tables::LINES;
+use tables::read_table;
 use text::Line;
 
 const STDIN: i32 = 0;
@@ -24,46 +29,31 @@ fn print_next(n: u64) {
     io::print_decimal(STDOUT, n);
 }
 
-fn print_row(row: Row) {
-    print_next(row.task as u64);
-    print_next(row.period as u64);
-    print_next(row.worst as u64);
-    print_next(row.best as u64);
-    print_next(row.alpha as u64);
-    print_next(row.beta);
-}
-
-fn print_rows(rows: [Row; MAX_TASKS], count: usize) {
-    for i in 0..MAX_TASKS {
-        if i < count {
-            let row = rows[i];
-            print_row(row);
-        }
+// The board, the numbers of each row, and the ranks.
+fn print_table(numbers: &[u64], end: usize)
+    requires { ⌜ (1 ≤ length (now numbers)) × (end ≤ length (now numbers)) ⌝ }
+{
+    print_next(numbers[0]);
+    for i in HEAD..end {
+        print_next(numbers[i]);
     }
 }
 
-fn print_ranks(tasks: [u16; MAX_TASKS], count: usize) {
-    for i in 0..MAX_TASKS {
-        if i < count {
-            print_next(tasks[i] as u64);
-        }
-    }
+// How many rank lines a table has.
+fn rank_lines(ranked: bool, count: usize) -> usize
+    ensures { λ r. ⌜ r ≡ pick ranked count 0 ⌝ }
+{
+    if ranked { count } else { 0 }
 }
 
-fn print_table(reading: Reading) {
-    print_next(reading.board as u64);
-    let rows = reading.rows;
-    print_rows(rows, reading.count);
-    let order = reading.order;
-    let tasks = order.tasks;
-    print_ranks(tasks, order.count);
-}
-
-fn print_reading(reading: Reading) {
+fn print_reading(text: &[u8], ranked: bool) {
+    let mut numbers = [0u64; LINES];
+    let reading = read_table(text, ranked, &mut numbers);
     io::print_decimal(STDOUT, reading.refused as u64);
     print_next(reading.line as u64);
     if reading.refused == 0 {
-        print_table(reading);
+        let ranks = rank_lines(ranked, reading.count);
+        print_table(&numbers, HEAD + FIELDS * reading.count + ranks);
     }
     io::write_all(STDOUT, b"\n");
 }
@@ -86,7 +76,7 @@ fn read_stored(input: &[u8], offset: usize) -> After {
         return After::Nothing;
     }
     let end = start + size;
-    print_reading(tables::read_table(&input[start..end], ranked == 1));
+    print_reading(&input[start..end], ranked == 1);
     After::Offset(end)
 }
 

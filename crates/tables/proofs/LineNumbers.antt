@@ -13,7 +13,7 @@ use Rattle.rows.proofs.RowNumbers.{rows-snoc, rows-kept}
 use Rattle.tables.specs.inside.Numbers.{headCount, rowStart, boardIn, rowsIn}
 
 -- the row that begins behind n rows
-pub rows-next : (ws : List ℕ) (n : ℕ) → rowsIn (suc n) ws ≡ rowsIn n ws ++ (rowOf (drop (rowStart n) ws) ∷ [])
+rows-next : (ws : List ℕ) (n : ℕ) → rowsIn (suc n) ws ≡ rowsIn n ws ++ (rowOf (drop (rowStart n) ws) ∷ [])
 rows-next ws n =
     rows-snoc n (drop headCount ws)
     ∙ ap (λ xs. rowsIn n ws ++ (rowOf xs ∷ [])) (drop-drop (fieldCount * n) headCount ws)
