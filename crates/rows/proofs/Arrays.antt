@@ -1,11 +1,11 @@
 -- Lists at the front of arrays: the list is found again, one more is put after it, and an order's tasks are its own.
-use mathlib.Core.Path.{_≡_, sym, ap, _∙_}
+use mathlib.Core.Path.{_≡_, sym, ap, ap₂, _∙_}
 use mathlib.Core.List.{List, [], _∷_, _++_}
 use Prim.Native.Nat.{ℕ, zero, suc, _-_, _<_}
 use native.Mathlib.Omega.{arith}
 use native.Mathlib.Nat.{sub-zero, zero-sub, suc-sub-suc}
-use lib.ListN.{length, take, drop, set, replicate, length-append}
-use lib.Seq.{append-snoc, take-append-seam, set-append-seam}
+use lib.ListN.{length, getD, take, drop, set, replicate, length-append}
+use lib.Seq.{drop-cons, append-snoc, take-append-seam, set-append-seam}
 use Rattle.rows.specs.Rows.{maxTasks}
 use Rattle.rows.specs.inside.Arrays.{padded, ranking, ranked}
 
@@ -35,9 +35,10 @@ module _ {A : Type 0} (d x : A) (xs : List A) (h : length xs < maxTasks) where
       ∙ set-append-seam xs d (replicate left d) x
       ∙ sym (append-snoc xs x (replicate left d))
 
-  -- where that is nothing, the array has it already
-  pub padded-nothing : d ≡ x → padded d xs ≡ padded d (xs ++ (x ∷ []))
-  padded-nothing e =
-      ap (λ n. xs ++ replicate n d) one-less
-      ∙ ap (λ y. xs ++ (y ∷ replicate left d)) e
-      ∙ sym (append-snoc xs x (replicate left d))
+-- one more written after those at the front of any array
+pub front-next : {A : Type 0} (d : A) (xs ys : List A) (k : ℕ) (x : A) → length xs ≡ k → k < length ys
+    → set (xs ++ drop k ys) k x ≡ (xs ++ (x ∷ [])) ++ drop (suc k) ys
+front-next d xs ys k x many h =
+    ap₂ (λ l i. set (xs ++ l) i x) (drop-cons ys k d h) (sym many)
+    ∙ set-append-seam xs (getD ys k d) (drop (suc k) ys) x
+    ∙ sym (append-snoc xs x (drop (suc k) ys))

@@ -1,19 +1,20 @@
 -- Rows as their numbers: a row is found by its first number, more numbers behind the rows change none of them, and the
 -- numbers between two places grow one by one.
 use mathlib.Core.Path.{_≡_, refl, sym, ap, ap₂, _∙_}
-use mathlib.Core.Bool.{true, false, _||_}
+use mathlib.Core.Bool.{true, _||_}
 use mathlib.Core.List.{List, [], _∷_, _++_}
 use Prim.Native.Nat.{ℕ, zero, suc, _+_, _-_, _*_, _≤_, _<_}
 use native.Mathlib.Nat.{sub-zero}
 use native.Mathlib.Omega.{arith}
 use lib.Dec.{eqb}
+use borrow.Author.Tests.{eq-eqb, ne-eqb}
 use lib.ListN.{length, getD, take, drop, length-take, length-drop}
 use lib.ListN.{drop-of-length-le, List·getD-append}
 use lib.Seq.{drop-drop, drop-append-le, length-take-le, take-suc, getD-take, getD-drop, ext-getD}
 use Rattle.basics.specs.Basics.{pick}
 use Rattle.rows.specs.declared.Row.{Row}
 use Rattle.rows.specs.Rows.{taskAt, periodAt, worstAt, bestAt, alphaAt, betaAt, fieldCount, rowOf}
-use Rattle.rows.specs.Rows.{row, noRow, rowAt, inRange, allRows, hasTask}
+use Rattle.rows.specs.Rows.{row, noRow, rowAt, inRange, allRows, tasksOf, hasTask, positionOf}
 use Rattle.rows.specs.inside.Constructor.{checked}
 use Rattle.rows.specs.inside.Numbers.{rowsOf, rowIn, between}
 use Rattle.rows.proofs.Limits.{at-passes}
@@ -128,22 +129,43 @@ module _ (start : ℕ) (ns : List ℕ) where
 abbrev pub rowsPast : ℕ → ℕ → List ℕ → List Row
 rowsPast n i ws = rowsOf (n - i) (drop (fieldCount * i) ws)
 
+pub past-next : (n i : ℕ) (ws : List ℕ) → i < n → rowsPast n i ws ≡ rowIn ws i ∷ rowsPast n (i + 1) ws
+past-next n i ws h =
+    let one-more : n - i ≡ suc (n - (i + 1)) = omega arith in
+    let next : fieldCount * i + fieldCount ≡ fieldCount * (i + 1) = omega arith in
+    ap (λ m. rowsOf m (drop (fieldCount * i) ws)) one-more
+    ∙ ap (λ xs. rowIn ws i ∷ rowsOf (n - (i + 1)) xs)
+    (drop-drop fieldCount (fieldCount * i) ws ∙ ap (λ m. drop m ws) next)
+
+pub past-end : (n i : ℕ) (ws : List ℕ) → n ≤ i → rowsPast n i ws ≡ []
+past-end n i ws h = let none : n - i ≡ 0 = omega arith in ap (λ m. rowsOf m (drop (fieldCount * i) ws)) none
+
+pub past-all : (n : ℕ) (ws : List ℕ) → rowsOf n ws ≡ rowsPast n 0 ws
+past-all n ws = ap (λ m. rowsOf m ws) (sym (sub-zero n))
+
+-- whether a row from row i on has a task, where the rows begin at an index
 pub scan-task : (t n i start : ℕ) (ns : List ℕ) → i < n → let ws = drop start ns in
     hasTask t (rowsPast n i ws) ≡ (eqb t (getD ns (start + fieldCount * i) 0) || hasTask t (rowsPast n (i + 1) ws))
 scan-task t n i start ns h =
     let ws = drop start ns in
-    let one-more : n - i ≡ suc (n - (i + 1)) = omega arith in
-    let next : fieldCount * i + fieldCount ≡ fieldCount * (i + 1) = omega arith in
     let there : fieldCount * i + 0 ≡ fieldCount * i = omega arith in
-    let task-is : getD (drop (fieldCount * i) ws) 0 0 ≡ getD ns (start + fieldCount * i) 0 =
+    let task-is : rowIn ws i .task ≡ getD ns (start + fieldCount * i) 0 =
     getD-drop (fieldCount * i) ws 0 0 ∙ ap (λ m. getD ws m 0) there ∙ getD-drop start ns (fieldCount * i) 0 in
-    ap (λ m. hasTask t (rowsOf m (drop (fieldCount * i) ws))) one-more
-    ∙ ap₂ (λ v xs. eqb t v || hasTask t (rowsOf (n - (i + 1)) xs)) task-is
-    (drop-drop fieldCount (fieldCount * i) ws ∙ ap (λ m. drop m ws) next)
+    ap (hasTask t) (past-next n i ws h) ∙ ap (λ v. eqb t v || hasTask t (rowsPast n (i + 1) ws)) task-is
 
-pub scan-end : (t n i : ℕ) (ws : List ℕ) → n ≤ i → hasTask t (rowsPast n i ws) ≡ false
-scan-end t n i ws h =
-    let none : n - i ≡ 0 = omega arith in ap (λ m. hasTask t (rowsOf m (drop (fieldCount * i) ws))) none
+-- where a task stands from row i on: at the row, or later
+module _ (t n i : ℕ) (ws : List ℕ) (h : i < n) where
+  abbrev rest : List ℕ
+  rest = tasksOf (rowsPast n (i + 1) ws)
 
-pub scan-all : (n : ℕ) (ws : List ℕ) → rowsOf n ws ≡ rowsPast n 0 ws
-scan-all n ws = ap (λ m. rowsOf m ws) (sym (sub-zero n))
+  split : positionOf t (tasksOf (rowsPast n i ws)) ≡ positionOf t (getD ws (fieldCount * i + taskAt) 0 ∷ rest)
+  split =
+      ap (λ rs. positionOf t (tasksOf rs)) (past-next n i ws h)
+      ∙ ap (λ v. positionOf t (v ∷ rest)) (getD-drop (fieldCount * i) ws taskAt 0)
+
+  pub position-here : t ≡ getD ws (fieldCount * i + taskAt) 0 → positionOf t (tasksOf (rowsPast n i ws)) ≡ 0
+  position-here e = split ∙ rw (eq-eqb t (getD ws (fieldCount * i + taskAt) 0) e, positionOf)
+
+  pub position-later : (t ≡ getD ws (fieldCount * i + taskAt) 0 → ⊥)
+      → positionOf t (tasksOf (rowsPast n i ws)) ≡ suc (positionOf t rest)
+  position-later e = split ∙ rw (ne-eqb t (getD ws (fieldCount * i + taskAt) 0) e, positionOf)

@@ -1,18 +1,19 @@
--- The task numbers of some rows, and the row of a task by its position among them.
-use mathlib.Core.Path.{_≡_, refl, ap}
-use mathlib.Core.Bool.{Bool, true, false}
-use mathlib.Core.List.{List, [], _∷_, _++_}
+-- The task numbers of some rows, and the rows of tasks by their positions among them.
+use mathlib.Core.Path.{_≡_, refl, sym, ap, ap₂, _∙_}
+use mathlib.Core.Bool.{Bool, true, false, _||_}
+use mathlib.Core.List.{List, [], _∷_, _++_, map-append}
 use mathlib.Core.Logic.{inl, inr}
-use Prim.Native.Nat.{ℕ, zero, suc, _≤_}
+use Prim.Native.Nat.{ℕ, zero, suc, _≤_, _<_}
 use native.Mathlib.Omega.{arith}
 use lib.Dec.{eqb}
-use lib.ListN.{length, getD}
+use lib.ListN.{length, getD, take, drop, length-map}
+use lib.Seq.{length-take-le, take-append-seam}
 use borrow.Author.Tests.{eqb-true}
 use Rattle.basics.proofs.Tests.{never, and-left, and-right, or-cases}
 use Rattle.rows.specs.declared.Row.{Row}
 use Rattle.rows.specs.Rows.{maxTask, noRow, inRange, allRows, tasksOf, hasTask, positionOf, rowFor, rowsFor}
-use Rattle.rows.specs.Rows.{allTasks}
-use Rattle.rows.specs.inside.Numbers.{TaskNumbers}
+use Rattle.rows.specs.Rows.{rowAt, allTasks}
+use Rattle.rows.specs.inside.Numbers.{rowsAt, positionsFor, Below, TaskNumbers}
 use Rattle.rows.proofs.Limits.{limits, head-passes, tail-passes}
 
 pub tasks-length : (rs : List Row) → length (tasksOf rs) ≡ length rs
@@ -53,10 +54,51 @@ first-or : (b : Bool) (r : Row) (rs : List Row) (i : ℕ) (x : Row) → getD rs 
 first-or true r rs i x e = refl
 first-or false r rs i x e = e
 
-pub row-at : (t : ℕ) (rs : List Row) → getD rs (positionOf t (tasksOf rs)) noRow ≡ rowFor t rs
+row-at : (t : ℕ) (rs : List Row) → rowAt rs (positionOf t (tasksOf rs)) ≡ rowFor t rs
 row-at t [] = refl
 row-at t (r ∷ rs) = first-or (eqb t (r .task)) r rs _ _ (row-at t rs)
 
 pub for-length : (ts : List ℕ) (rs : List Row) → length (rowsFor ts rs) ≡ length ts
 for-length [] rs = refl
 for-length (t ∷ ts) rs = ap suc (for-length ts rs)
+
+-- ---- where some tasks stand among some rows
+pub positions-last : (ts : List ℕ) (t : ℕ) (rs : List Row)
+    → positionsFor (ts ++ (t ∷ [])) rs ≡ positionsFor ts rs ++ (positionOf t (tasksOf rs) ∷ [])
+positions-last ts t rs = map-append (λ x. positionOf x (tasksOf rs)) ts (t ∷ [])
+
+pub positions-length : (ts : List ℕ) (rs : List Row) → length (positionsFor ts rs) ≡ length ts
+positions-length ts rs = length-map ts (λ x. positionOf x (tasksOf rs))
+
+-- the rows there are the tasks' rows
+pub positions-rows : (ts : List ℕ) (rs : List Row) → rowsAt rs (positionsFor ts rs) ≡ rowsFor ts rs
+positions-rows [] rs = refl
+positions-rows (t ∷ ts) rs = ap₂ (λ r l. r ∷ l) (row-at t rs) (positions-rows ts rs)
+
+-- a task of some rows stands among them
+first-below : (b : Bool) (i n : ℕ) → (b ≡ false → i < n) → elim b [ true ↦ 0 | false ↦ suc i ] < suc n
+first-below true i n h = omega arith
+first-below false i n h = omega (arith, h refl)
+
+position-below : (t : ℕ) (rs : List Row) → hasTask t rs ≡ true → positionOf t (tasksOf rs) < length rs
+position-below t [] h = never h
+position-below t (r ∷ rs) h =
+    first-below (eqb t (r .task)) (positionOf t (tasksOf rs)) (length rs)
+    (λ e. position-below t rs (sym (ap (λ b. b || hasTask t rs) e) ∙ h))
+
+pub positions-below : (ts : List ℕ) (rs : List Row) → allTasks ts rs ≡ true → Below (length rs) (positionsFor ts rs)
+positions-below [] rs h k l = absurd (omega arith)
+positions-below (t ∷ ts) rs h zero l = position-below t rs (and-left (hasTask t rs) (allTasks ts rs) h)
+positions-below (t ∷ ts) rs h (suc k) l =
+    positions-below ts rs (and-right (hasTask t rs) (allTasks ts rs) h) k (omega arith)
+
+-- ---- the positions of n tasks at the front of an array
+module _ (ts : List ℕ) (rs : List Row) (n : ℕ) (ps qs : List ℕ) (many : n ≤ length ts)
+    (is : qs ≡ positionsFor (take n ts) rs ++ drop n ps) where
+  pub positions-are : take n qs ≡ positionsFor (take n ts) rs
+  positions-are =
+      let long = positions-length (take n ts) rs ∙ length-take-le n ts many in
+      ap₂ take (sym long) is ∙ take-append-seam (positionsFor (take n ts) rs) (drop n ps)
+
+  pub rows-for-positions : rowsAt rs (take n qs) ≡ rowsFor (take n ts) rs
+  rows-for-positions = ap (rowsAt rs) positions-are ∙ positions-rows (take n ts) rs

@@ -1,9 +1,12 @@
 ghost use mathlib.Core.Path.{_≡_};
+<<<<<<< HEAD
 ghost use Prim.Native.Nat.{_≤_};
 ghost use lib.ListN.{take};
 ghost use Rattle.rows.specs.Rows.{maxTasks, cost, inRange, row, noRow, positionOf, rowsFor};
+=======
+ghost use Rattle.rows.specs.Rows.{inRange, row, noRow};
+>>>>>>> d423cc6cd13bbad9235c7656b05ef1a0eacd7837
 ghost use Rattle.rows.specs.inside.Constructor.{checked};
-ghost use Rattle.rows.specs.inside.Arrays.{padded, ranked};
 use basics::within;
 pub use numbers::ALPHA;
 pub use numbers::BEST;
@@ -18,6 +21,7 @@ pub use numbers::cost_at;
 pub use numbers::has_task;
 pub use numbers::is_among;
 pub use numbers::order_at;
+pub use numbers::positions_for;
 pub use numbers::put_rows;
 pub use numbers::row_at;
 
@@ -138,46 +142,4 @@ pub fn no_row() -> Row
         alpha: 0,
         beta: 0,
     }
-}
-
-// Where a task stands among the first n numbers; n where it does not.
-fn position_of(task: u32, numbers: [u32; MAX_TASKS], n: usize) -> usize
-    requires { ⌜ n ≤ maxTasks ⌝ }
-    ensures { λ r. ⌜ r ≡ positionOf task (take n numbers) ⌝ }
-{
-    let mut i = 0;
-    while i < n {
-        if task == numbers[i] {
-            return i;
-        }
-        i += 1;
-    }
-    n
-}
-
-// The rows of an order's tasks among the first n rows, and no rows past them.
-pub fn rows_for(order: Order, rows: [Row; MAX_TASKS], n: usize) -> [Row; MAX_TASKS]
-    requires { ⌜ (order .count ≤ maxTasks) × (n ≤ maxTasks) ⌝ }
-    ensures { λ r. ⌜ r ≡ padded noRow (rowsFor (ranked order) (take n rows)) ⌝ }
-{
-    let tasks = order.tasks;
-    let count = order.count;
-    // The task numbers apart, so that seeking a task takes no copy of the rows.
-    let mut numbers = [0u32; MAX_TASKS];
-    let mut i = 0;
-    while i < n {
-        let row = rows[i];
-        numbers[i] = row.task;
-        i += 1;
-    }
-    let mut found = [no_row(); MAX_TASKS];
-    let mut k = 0;
-    while k < count {
-        let at = position_of(tasks[k] as u32, numbers, n);
-        if at < n {
-            found[k] = rows[at];
-        }
-        k += 1;
-    }
-    found
 }

@@ -1,13 +1,14 @@
 // Rows and orders as numbers: those of a row stand one after another, and row after row.
 ghost use mathlib.Core.Path.{_≡_};
 ghost use mathlib.Core.Bool.{true};
+ghost use mathlib.Core.List.{_++_};
 ghost use Prim.Native.Nat.{suc, _+_, _*_, _≤_};
-ghost use lib.ListN.{length, drop};
+ghost use lib.ListN.{length, take, drop};
 ghost use Rattle.basics.specs.Basics.{isIn};
-ghost use Rattle.rows.specs.Rows.{maxTasks, fieldCount, cost, inRange, rowOf, hasTask};
+ghost use Rattle.rows.specs.Rows.{maxTasks, fieldCount, cost, inRange, rowOf, tasksOf, hasTask, positionOf};
 ghost use Rattle.rows.specs.inside.Arrays.{ranking};
 ghost use Rattle.rows.specs.inside.Constructor.{checked};
-ghost use Rattle.rows.specs.inside.Numbers.{rowIn, rowsOf, RowPut, RowsPut};
+ghost use Rattle.rows.specs.inside.Numbers.{rowIn, rowsOf, RowPut, RowsPut, positionsFor};
 ghost use Rattle.rows.specs.inside.Numbers.{between, TaskNumbers};
 use super::MAX_TASKS;
 use super::Order;
@@ -95,6 +96,35 @@ pub fn checked_row_at(numbers: &[u64], at: usize) -> Row
         numbers[at + BETA],
     );
     checked.row
+}
+
+// Where a task stands among the first n rows; n where it does not.
+fn position_of(task: u16, rows: &[u64], n: usize) -> usize
+    requires { ⌜ fieldCount * n ≤ length (now rows) ⌝ }
+    ensures { λ r. ⌜ r ≡ positionOf task (tasksOf (rowsOf n (now (rows .entry)))) ⌝ }
+{
+    let sought = task as u64;
+    let mut i = 0;
+    while i < n {
+        if sought == rows[FIELDS * i + TASK] {
+            return i;
+        }
+        i += 1;
+    }
+    n
+}
+
+// Where each of the first n tasks stands among the first n rows; n where one does not.
+pub fn positions_for(tasks: &[u16], rows: &[u64], n: usize, positions: &mut [usize])
+    requires { ⌜ (n ≤ length (now tasks)) × (fieldCount * n ≤ length (now rows)) × (n ≤ length (now positions)) ⌝ }
+    ensures { λ _. ⌜ now (positions .exit)
+        ≡ positionsFor (take n (now (tasks .entry))) (rowsOf n (now (rows .entry))) ++ drop n (now (positions .entry)) ⌝ }
+{
+    let mut k = 0;
+    while k < n {
+        positions[k] = position_of(tasks[k], rows, n);
+        k += 1;
+    }
 }
 
 // Whether one of some rows, whose numbers begin at an index, has a task.

@@ -4,7 +4,7 @@ use mathlib.Core.List.{List, [], _∷_, map}
 use Prim.Native.Nat.{ℕ, zero, suc, _+_, _*_, _≤_, _<_}
 use lib.ListN.{length, getD, take, drop}
 use Rattle.rows.specs.declared.Row.{Row}
-use Rattle.rows.specs.Rows.{maxTask, maxTasks, fieldCount, rowOf, rowAt}
+use Rattle.rows.specs.Rows.{maxTask, maxTasks, fieldCount, rowOf, rowAt, tasksOf, positionOf}
 
 -- n rows, from their first number on
 abbrev pub rowsOf : ℕ → List ℕ → List Row
@@ -37,6 +37,14 @@ pub record RowsPut (rows : List Row) (ns ns′ : List ℕ) : Type 0 where
 -- the rows of a table at some positions
 abbrev pub rowsAt : List Row → List ℕ → List Row
 rowsAt table positions = map (rowAt table) positions
+
+-- where some tasks stand among the rows of a table
+abbrev pub positionsFor : List ℕ → List Row → List ℕ
+positionsFor tasks table = map (λ t. positionOf t (tasksOf table)) tasks
+
+-- each number is below n, as the positions of n rows are
+abbrev pub Below : ℕ → List ℕ → Type 0
+Below n ps = (k : ℕ) → k < length ps → getD ps k 0 < n
 
 -- n numbers from an index on
 abbrev pub between : ℕ → ℕ → List ℕ → List ℕ

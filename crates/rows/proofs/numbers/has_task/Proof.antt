@@ -7,7 +7,7 @@ use lib.ListN.{drop}
 use borrow.Author.Tests.{eq-eqb, ne-eqb}
 use Rattle.rows.specs.Rows.{hasTask}
 use Rattle.rows.specs.inside.Numbers.{rowsOf}
-use Rattle.rows.proofs.RowNumbers.{rowsPast, scan-task, scan-end, scan-all}
+use Rattle.rows.proofs.RowNumbers.{rowsPast, past-end, past-all, scan-task}
 use Rattle.rows.proofs.numbers.has_task.Statement.{statement}
 use Rattle.rows.proofs.numbers.has_task.Tie as tie
 
@@ -23,7 +23,7 @@ loop-holds : tie.Need-loop-holds Inv-loop μ-loop
 loop-holds c =
     let a = c .args in (
       omega arith,
-      ap (hasTask (a .task)) (scan-all (a .count) (drop (a .start) (a .numbers .now))),
+      ap (hasTask (a .task)) (past-all (a .count) (drop (a .start) (a .numbers .now))),
     )
 
 mul-if1 : tie.Need-mul-if1 Inv-loop μ-loop
@@ -66,7 +66,8 @@ returns-2 : tie.Need-returns-2 Inv-loop μ-loop
 returns-2 c =
     let a = c .before .before .args in
     let x = c .before .loop in
-    sym (x .inv .1 ∙ scan-end (a .task) (a .count) (x .i) (drop (a .start) (a .numbers .now)) (omega arith))
+    let none = past-end (a .count) (x .i) (drop (a .start) (a .numbers .now)) (omega arith) in
+    sym (x .inv .1 ∙ ap (hasTask (a .task)) none)
 
 pub has-task-spec : {M : Type 1} → statement M
 has-task-spec =
