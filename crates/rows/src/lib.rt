@@ -1,11 +1,5 @@
 ghost use mathlib.Core.Path.{_≡_};
-<<<<<<< HEAD
-ghost use Prim.Native.Nat.{_≤_};
-ghost use lib.ListN.{take};
-ghost use Rattle.rows.specs.Rows.{maxTasks, cost, inRange, row, noRow, positionOf, rowsFor};
-=======
-ghost use Rattle.rows.specs.Rows.{inRange, row, noRow};
->>>>>>> d423cc6cd13bbad9235c7656b05ef1a0eacd7837
+ghost use Rattle.rows.specs.Rows.{cost, inRange, row, noRow};
 ghost use Rattle.rows.specs.inside.Constructor.{checked};
 use basics::within;
 pub use numbers::ALPHA;
