@@ -1,7 +1,7 @@
--- The entry at a rank is that of its row under the rows before it; the first late rank is late and those above it are
+-- The entry at a rank is that of its row between the rows before it and those after it; the first late rank is late and those above it are
 -- not; and the entry of a row that is not late keeps its limits.
 use mathlib.Core.Path.{_≡_, refl, sym, ap, subst, _∙_}
-use mathlib.Core.Bool.{true, false}
+use mathlib.Core.Bool.{Bool, true, false}
 use mathlib.Core.List.{List, [], _∷_, _++_, append-nil}
 use mathlib.Core.Logic.{inl, inr}
 use Prim.Native.Nat.{ℕ, zero, suc, _+_, _≤_, _<_}
@@ -9,11 +9,11 @@ use native.Mathlib.Nat.{mul-le-mul}
 use native.Mathlib.Omega.{arith}
 use lib.Dec.{ltb}
 use lib.IntN.{natAbs, subℕ}
-use lib.ListN.{length, getD, take}
+use lib.ListN.{length, getD, take, drop}
 use lib.Seq.{append-snoc}
 use borrow.Author.Tests.{ltb-true}
 use Rattle.basics.proofs.Tests.{test-of}
-use Rattle.rows.specs.Rows.{maxTask, maxTicks, maxAlpha, maxBeta, inRange, allRows, noRow}
+use Rattle.rows.specs.Rows.{maxTask, maxTicks, maxAlpha, maxBeta, inRange, allRows, noRow, rowsAbove, rowsBelow}
 use Rattle.rows.specs.declared.Row.{Row}
 use Rattle.rows.proofs.Limits.{limits, in-range-times, all-times}
 use Rattle.responses.specs.Figures.{latest, isLate, jitter}
@@ -28,61 +28,73 @@ entries-length above [] = refl
 entries-length above (r ∷ rs) = ap suc (entries-length (above ++ (r ∷ [])) rs)
 
 entry-from : (above order : List Row) (i : ℕ) (d : Entry) → i < length order
-    → getD (entriesFrom above order) i d ≡ entry (getD order i noRow) (above ++ take i order)
+    → getD (entriesFrom above order) i d ≡ entry (getD order i noRow) (above ++ take i order) (drop (suc i) order)
 entry-from above [] i d h = absurd (omega arith)
-entry-from above (r ∷ rs) zero d h = ap (entry r) (sym (append-nil above))
+entry-from above (r ∷ rs) zero d h = ap (λ (l : List Row). entry r l rs) (sym (append-nil above))
 entry-from above (r ∷ rs) (suc i) d h =
     entry-from (above ++ (r ∷ [])) rs i d (omega arith)
-    ∙ ap (entry (getD rs i noRow)) (append-snoc above r (take i rs))
+    ∙ ap (λ (l : List Row). entry (getD rs i noRow) l (drop (suc i) rs)) (append-snoc above r (take i rs))
 
 pub entry-at : (order : List Row) (i : ℕ) (d : Entry) → i < length order
-    → getD (entries order) i d ≡ entry (getD order i noRow) (take i order)
+    → getD (entries order) i d ≡ entry (getD order i noRow) (rowsAbove order i) (rowsBelow order i)
 entry-at order i d h = entry-from [] order i d h
 
 -- ---- late ranks
--- with no late rank, every task is in time under the rows above it
+-- rank i of an order under more rows
+abbrev lateAt : List Row → List Row → ℕ → Bool
+lateAt above order i = isLate (getD order i noRow) (above ++ take i order) (drop (suc i) order)
+
+-- the highest rank, and one below it
+late-first : (above : List Row) (r : Row) (rs : List Row) → lateAt above (r ∷ rs) 0 ≡ isLate r above rs
+late-first above r rs = ap (λ (l : List Row). isLate r l rs) (append-nil above)
+
+late-later : (above : List Row) (r : Row) (rs : List Row) (j : ℕ)
+    → lateAt above (r ∷ rs) (suc j) ≡ lateAt (above ++ (r ∷ [])) rs j
+late-later above r rs j =
+    ap (λ (l : List Row). isLate (getD rs j noRow) l (drop (suc j) rs)) (sym (append-snoc above r (take j rs)))
+
+-- with no late rank, every task is in time
 none-late : (k : ℕ) (above order : List Row) (i : ℕ) → lateFrom (suc k) above order ≡ 0 → i < length order
-    → isLate (getD order i noRow) (above ++ take i order) ≡ false
+    → lateAt above order i ≡ false
 none-late k above [] i e h = absurd (omega arith)
 none-late k above (r ∷ rs) i e h =
-    elim (test-of (isLate r above)) [
+    elim (test-of (isLate r above rs)) [
       | inl t ↦ absurd (let z : suc k ≡ 0 = rw (t, lateFrom) at e in omega arith)
       | inr t ↦ at-rank i t (none-late (suc k) (above ++ (r ∷ [])) rs) h (rw (t, lateFrom) at e)
     ]
   where
     at-rank :
-        (i : ℕ) → isLate r above ≡ false
+        (i : ℕ) → isLate r above rs ≡ false
         → ((j : ℕ) → lateFrom (suc (suc k)) (above ++ (r ∷ [])) rs ≡ 0 → j < length rs
-        → isLate (getD rs j noRow) ((above ++ (r ∷ [])) ++ take j rs) ≡ false)
+        → lateAt (above ++ (r ∷ [])) rs j ≡ false)
         → i < suc (length rs) → lateFrom (suc (suc k)) (above ++ (r ∷ [])) rs ≡ 0
-        → isLate (getD (r ∷ rs) i noRow) (above ++ take i (r ∷ rs)) ≡ false
-    at-rank zero t ih l z = ap (isLate r) (append-nil above) ∙ t
-    at-rank (suc j) t ih l z =
-        ap (isLate (getD rs j noRow)) (sym (append-snoc above r (take j rs))) ∙ ih j z (omega arith)
+        → lateAt above (r ∷ rs) i ≡ false
+    at-rank zero t ih l z = late-first above r rs ∙ t
+    at-rank (suc j) t ih l z = late-later above r rs j ∙ ih j z (omega arith)
 
 pub first-late-none : (order : List Row) → firstLate order ≡ 0 → (i : ℕ) → i < length order
-    → isLate (getD order i noRow) (take i order) ≡ false
+    → isLate (getD order i noRow) (rowsAbove order i) (rowsBelow order i) ≡ false
 first-late-none order e i h = none-late 0 [] order i e h
 
 -- the first late rank: it is late, and no rank above it is
 pub record FirstLate (above order : List Row) (i : ℕ) : Type 0 where
   pub there : i < length order
-  pub late : isLate (getD order i noRow) (above ++ take i order) ≡ true
-  pub above-in-time : (j : ℕ) → j < i → isLate (getD order j noRow) (above ++ take j order) ≡ false
+  pub late : lateAt above order i ≡ true
+  pub above-in-time : (j : ℕ) → j < i → lateAt above order j ≡ false
 
 late-some : (k : ℕ) (above order : List Row) (m : ℕ) → lateFrom k above order ≡ suc m
     → (i : ℕ) × (suc m ≡ k + i) × FirstLate above order i
 late-some k above [] m e = absurd (omega arith)
 late-some k above (r ∷ rs) m e =
     let ih = late-some (suc k) (above ++ (r ∷ [])) rs m in
-    elim (test-of (isLate r above)) [
+    elim (test-of (isLate r above rs)) [
       | inl t ↦
           let is : k ≡ suc m = rw (t, lateFrom) at e in (
             0,
             omega arith,
             record {
               there = omega arith;
-              late = ap (isLate r) (append-nil above) ∙ t;
+              late = late-first above r rs ∙ t;
               above-in-time = λ j h. absurd (omega arith);
             },
           )
@@ -93,22 +105,18 @@ late-some k above (r ∷ rs) m e =
             omega (arith, l .1),
             record {
               there = omega (arith, l .2 .there);
-              late = moved at ∙ l .2 .late;
+              late = late-later above r rs at ∙ l .2 .late;
               above-in-time = λ j h. earlier j t at h (l .2 .above-in-time);
             },
           )
     ]
   where
-    moved : (j : ℕ) → isLate (getD rs j noRow) (above ++ (r ∷ take j rs))
-        ≡ isLate (getD rs j noRow) ((above ++ (r ∷ [])) ++ take j rs)
-    moved j = ap (isLate (getD rs j noRow)) (sym (append-snoc above r (take j rs)))
-
     earlier :
-        (j : ℕ) → isLate r above ≡ false → (at : ℕ) → j < suc at
-        → ((j : ℕ) → j < at → isLate (getD rs j noRow) ((above ++ (r ∷ [])) ++ take j rs) ≡ false)
-        → isLate (getD (r ∷ rs) j noRow) (above ++ take j (r ∷ rs)) ≡ false
-    earlier zero t at h f = ap (isLate r) (append-nil above) ∙ t
-    earlier (suc j) t at h f = moved j ∙ f j (omega arith)
+        (j : ℕ) → isLate r above rs ≡ false → (at : ℕ) → j < suc at
+        → ((j : ℕ) → j < at → lateAt (above ++ (r ∷ [])) rs j ≡ false)
+        → lateAt above (r ∷ rs) j ≡ false
+    earlier zero t at h f = late-first above r rs ∙ t
+    earlier (suc j) t at h f = late-later above r rs j ∙ f j (omega arith)
 
 pub first-late-some : (order : List Row) (i : ℕ) → firstLate order ≡ suc i → FirstLate [] order i
 first-late-some order i e =
@@ -131,20 +139,21 @@ pub record InLimits (e : Entry) : Type 0 where
   pub jitter-in : e .jitter ≤ maxTicks
   pub margin-in : natAbs (e .margin) ≤ maxBeta
 
-pub entry-limits : (r : Row) (above : List Row) → inRange r ≡ true → allRows inRange above ≡ true
-    → isLate r above ≡ false → InLimits (entry r above)
-entry-limits r above hr ha l =
+pub entry-limits : (r : Row) (above below : List Row) → inRange r ≡ true → allRows inRange above ≡ true
+    → isLate r above below ≡ false → InLimits (entry r above below)
+entry-limits r above below hr ha l =
     let limit = limits r hr in
-    let f = figured r above (in-range-times r hr) (all-times above ha) in
+    let f = figured r above below (in-range-times r hr) (all-times above ha) in
     let w = f .latest-fixed l in
     let e = f .earliest-fixed l in
-    let most : latest r above ≤ maxTicks = omega (arith, w .2, limit .period .le-high) in
-    let steep = mul-le-mul {n₁ = r .alpha} {m₁ = jitter r above} {n₂ = maxAlpha} {m₂ = maxTicks}
+    let most : latest r above below ≤ maxTicks = omega (arith, w .2, limit .period .le-high) in
+    let steep = mul-le-mul {n₁ = r .alpha} {m₁ = jitter r above below} {n₂ = maxAlpha} {m₂ = maxTicks}
     (limit .alpha .le-high) (omega arith) in
     record {
       task-in = limit .task .le-high;
       best-in = omega (arith, e .2);
       worst-in = most;
       jitter-in = omega arith;
-      margin-in = difference-limit (r .beta) (spent r above) maxBeta (limit .beta .le-high) (omega (arith, e .2));
+      margin-in =
+          difference-limit (r .beta) (spent r above below) maxBeta (limit .beta .le-high) (omega (arith, e .2));
     }

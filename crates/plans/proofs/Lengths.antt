@@ -6,13 +6,13 @@ use mathlib.Core.List.{List, [], _∷_, _++_, append-nil}
 use Prim.Native.Nat.{ℕ, suc, _+_, _*_, _^_, _≤_, _<_}
 use native.Mathlib.Omega.{arith}
 use lib.IntN.{ℤ, pos, negsuc, natAbs}
-use lib.ListN.{length, getD, take, length-append}
+use lib.ListN.{length, getD, take, drop, length-append}
 use lib.Seq.{append-snoc}
 use Rattle.basics.proofs.Tests.{and-both}
 use Rattle.text.specs.Text.{signed, joined}
 use Rattle.text.proofs.Decimals.{decimal-short}
 use Rattle.text.proofs.Spelling.{line-length}
-use Rattle.rows.specs.Rows.{maxBeta, maxTasks, inRange, allRows, noRow}
+use Rattle.rows.specs.Rows.{maxBeta, maxTasks, inRange, allRows, noRow, rowsAbove, rowsBelow}
 use Rattle.rows.specs.declared.Row.{Row}
 use Rattle.rows.proofs.Limits.{head-passes, tail-passes, append-passes}
 use Rattle.responses.specs.Figures.{isLate}
@@ -43,20 +43,23 @@ rank-length k e h l =
 -- the ranks from k on of rows in range, none of which is late
 ranks-length : (k : ℕ) (above order : List Row) → k + length order ≤ suc maxTasks
     → allRows inRange above ≡ true → allRows inRange order ≡ true
-    → ((i : ℕ) → i < length order → isLate (getD order i noRow) (above ++ take i order) ≡ false)
+    → ((i : ℕ) → i < length order → isLate (getD order i noRow) (above ++ take i order) (drop (suc i) order) ≡ false)
     → length (joined (rankTexts k (entriesFrom above order))) ≤ length order * rankRoom
 ranks-length k above [] h ha ho l = omega arith
 ranks-length k above (r ∷ rs) h ha ho l =
     let hr = head-passes inRange r rs ho in
-    let in-time : isLate r above ≡ false = sym (ap (isLate r) (append-nil above)) ∙ l 0 (omega arith) in
+    let in-time : isLate r above rs ≡ false =
+    sym (ap (λ (l : List Row). isLate r l rs) (append-nil above)) ∙ l 0 (omega arith) in
     let more = append-passes inRange above (r ∷ []) ha (and-both (inRange r) true hr refl) in
-    let e = entry r above in
+    let e = entry r above rs in
     let rest = entriesFrom (above ++ (r ∷ [])) rs in
     omega (
       arith,
-      rank-length k e (omega arith) (entry-limits r above hr ha in-time),
+      rank-length k e (omega arith) (entry-limits r above rs hr ha in-time),
       ranks-length (suc k) (above ++ (r ∷ [])) rs (omega arith) more (tail-passes inRange r rs ho)
-          (λ i m. ap (isLate (getD rs i noRow)) (append-snoc above r (take i rs)) ∙ l (suc i) (omega arith)),
+          (λ i m.
+          ap (λ (l : List Row). isLate (getD rs i noRow) l (drop (suc i) rs)) (append-snoc above r (take i rs))
+          ∙ l (suc i) (omega arith)),
       length-append (rankText k e) (joined (rankTexts (suc k) rest)),
     )
 
@@ -73,7 +76,7 @@ head-length board count h n =
 
 pub plan-fits : (board : ℕ) (order : List Row) → board < 10 ^ 5 → length order ≤ maxTasks
     → allRows inRange order ≡ true
-    → ((i : ℕ) → i < length order → isLate (getD order i noRow) (take i order) ≡ false)
+    → ((i : ℕ) → i < length order → isLate (getD order i noRow) (rowsAbove order i) (rowsBelow order i) ≡ false)
     → length (planText board (entries order)) ≤ planRoom
 unfolding planText
 plan-fits board order h n ok l =

@@ -3,4 +3,3 @@ pub mod Entries
 pub mod Lengths
 pub mod Outcomes
 pub mod Ranks
-pub mod Turns

@@ -19,13 +19,13 @@ use Rattle.responses.specs.declared.Figures.{Figures}
 use Rattle.responses.specs.Figures.{isLate, latest, earliest, margin, lateFigures, figuresAt, figuresUnder}
 use Rattle.responses.specs.inside.Columns.{rowsAbove, UnderColumns}
 use Rattle.responses.proofs.Filling.{Filled, filled-none, filled-more, filled-under, filled-figures}
 use Rattle.plans.specs.declared.Entry.{Entry}
 use Rattle.plans.specs.Entries.{entry, entriesFrom, entries, lateFrom, firstLate}
 use Rattle.plans.specs.Plans.{rankText, rankTexts, rankRoom}
-use Rattle.plans.specs.inside.Ranks.{PutsRanks}
+use Rattle.plan_orders.specs.inside.Ranks.{PutsRanks}
 use Rattle.plans.proofs.Entries.{InLimits, entries-length, entry-limits}
 use Rattle.plans.proofs.Lengths.{rank-length}
 use Rattle.plans.proofs.Ranks.{rank-put}
 
 -- ---- one row more
 entries-more : (above os : List Row) (r : Row)

@@ -12,10 +12,10 @@ use mir.Val.{toZ, ofZ}
 use mir.Facts.{toZ-ofZ}
 use Rattle.rows.specs.Rows.{maxTasks, noRow}
 use Rattle.responses.specs.declared.Figures.{Figures}
 use Rattle.plans.specs.declared.Entry.{Entry}
-use Rattle.plans.proofs.Turns.{Turning, starts, under-columns, found-late, rank-fits, turned, finished}
-use Rattle.plans.proofs.by_rank.put_order.Statement.{statement}
-use Rattle.plans.proofs.by_rank.put_order.Tie as tie
+use Rattle.plan_orders.proofs.Turns.{Turning, starts, under-columns, found-late, rank-fits, turned, finished}
+use Rattle.plan_orders.proofs.by_rank.put_order.Statement.{statement}
+use Rattle.plan_orders.proofs.by_rank.put_order.Tie as tie
 
 abbrev Inv-loop : tie.InvT-loop
 Inv-loop out₀ at n rows periods₀ worsts₀ bests₀ end₀ i₀ out periods worsts bests end i =

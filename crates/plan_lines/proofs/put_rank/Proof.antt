@@ -9,10 +9,10 @@ use mir.Syntax.{w64}
 use mir.Val.{toZ, ofZ}
 use lib.IntN.{ℤ}
 use Rattle.text.specs.Text.{bytes, decimal, signed, keyLine}
 use Rattle.plans.specs.Plans.{rankText}
 use Rattle.text.proofs.Puts.{Going, begins, fits-next, next, ends}
-use Rattle.plans.proofs.put_rank.Statement.{statement}
-use Rattle.plans.proofs.put_rank.Tie as tie
+use Rattle.plan_lines.proofs.put_rank.Statement.{statement}
+use Rattle.plan_lines.proofs.put_rank.Tie as tie
 
 abbrev texts : tie.Start → List (List ℕ)
 texts s =

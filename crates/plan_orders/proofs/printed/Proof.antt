@@ -6,10 +6,10 @@ use native.Mathlib.Omega.{arith}
 use borrow.Author.Needs.{needs}
 use denote.Ref.{now}
 use Rattle.text.specs.Buffers.{Wrote}
 use Rattle.plans.proofs.Lengths.{refusal-length}
 use Rattle.plans.proofs.Outcomes.{print-refused, print-front}
-use Rattle.plans.proofs.Answer.printed.Statement.{statement}
-use Rattle.plans.proofs.Answer.printed.Tie as tie
+use Rattle.plan_orders.proofs.Answer.printed.Statement.{statement}
+use Rattle.plan_orders.proofs.Answer.printed.Tie as tie
 
 put-refusal-requires : tie.Need-put-refusal-requires
 put-refusal-requires c κs =

@@ -5,9 +5,9 @@ use Prim.Native.Nat.{ℕ}
 use Rattle.text.specs.Text.{joined}
 use Rattle.text.specs.inside.Puts.{Put}
 use Rattle.rows.specs.declared.Row.{Row}
-use Rattle.plans.specs.declared.by_rank.RanksPut.{RanksPut}
+use Rattle.plan_orders.specs.declared.RanksPut.{RanksPut}
 use Rattle.plans.specs.Entries.{entries, firstLate}
 use Rattle.plans.specs.Plans.{rankTexts}
 
 -- where a rank is late, the end and the bytes from the offset on are left open
 pub record PutsRanks (order : List Row) (at : ℕ) (buffer buffer′ : List ℕ) (r : RanksPut) : Type 0 where

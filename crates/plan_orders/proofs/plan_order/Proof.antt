@@ -11,14 +11,14 @@ use denote.Ref.{now}
 use Rattle.rows.specs.Rows.{maxTasks}
 use Rattle.rows.specs.declared.Row.{Row}
 use Rattle.text.proofs.Puts.{from-start, wrote-front}
 use Rattle.plans.specs.Entries.{entries, firstLate}
 use Rattle.plans.specs.Plans.{planText, planRoom}
 use Rattle.plans.proofs.Entries.{entries-length, first-late-none}
 use Rattle.plans.proofs.Lengths.{head-length, plan-fits}
 use Rattle.plans.proofs.Ranks.{plan-put}
 use Rattle.plans.proofs.Outcomes.{fits, fits-not, late-outcome, timely-outcome, refused}
-use Rattle.plans.proofs.plan_order.Statement.{statement}
-use Rattle.plans.proofs.plan_order.Tie as tie
+use Rattle.plan_orders.proofs.plan_order.Statement.{statement}
+use Rattle.plan_orders.proofs.plan_order.Tie as tie
 
 abbrev order : tie.Start → List Row
 order s = take (s .args .n) (s .args .rows)

@@ -7,10 +7,10 @@ use lib.ListN.{drop}
 use borrow.Author.Needs.{needs}
 use denote.Ref.{now}
 use Rattle.text.specs.Text.{bytes, decimal, keyLine}
 use Rattle.plans.specs.Plans.{headText}
 use Rattle.text.proofs.Puts.{Going, begins, fits-next, next, ends}
-use Rattle.plans.proofs.put_head.Statement.{statement}
-use Rattle.plans.proofs.put_head.Tie as tie
+use Rattle.plan_lines.proofs.put_head.Statement.{statement}
+use Rattle.plan_lines.proofs.put_head.Tie as tie
 
 abbrev texts : tie.Start → List (List ℕ)
 texts s =

@@ -2,8 +2,8 @@
 use native.Mathlib.Omega.{arith}
 use lib.ListN.{length-take}
 use denote.Ref.{now}
-use Rattle.plans.proofs.held.Statement.{statement}
-use Rattle.plans.proofs.held.Tie as tie
+use Rattle.plan_orders.proofs.held.Statement.{statement}
+use Rattle.plan_orders.proofs.held.Tie as tie
 
 returns : tie.Need-returns
 returns c =

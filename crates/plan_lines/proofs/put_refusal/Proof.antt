@@ -7,10 +7,10 @@ use lib.ListN.{drop}
 use borrow.Author.Needs.{needs}
 use denote.Ref.{now}
 use Rattle.text.specs.Text.{bytes, decimal, keyLine}
 use Rattle.plans.specs.Plans.{refusalText}
 use Rattle.text.proofs.Puts.{Going, begins, fits-next, next, ends, from-start}
-use Rattle.plans.proofs.put_refusal.Statement.{statement}
-use Rattle.plans.proofs.put_refusal.Tie as tie
+use Rattle.plan_lines.proofs.put_refusal.Statement.{statement}
+use Rattle.plan_lines.proofs.put_refusal.Tie as tie
 
 abbrev texts : tie.Start → List (List ℕ)
 texts s =

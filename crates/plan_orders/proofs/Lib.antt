@@ -1,0 +1,2 @@
+-- An order's ranks one after another.
+pub mod Turns

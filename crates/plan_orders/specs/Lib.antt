@@ -1,0 +1,2 @@
+-- Inside, what is put of an order's ranks.
+pub mod inside
