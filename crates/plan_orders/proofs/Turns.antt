@@ -1,53 +1,47 @@
--- An order's ranks one after another: columns of the rows above so far, the text of their ranks, and where the first
--- late rank is. A turn puts the rank of the next row, or finds that it is the first late one.
+-- An order's ranks one after another: the text of those so far, and where the first late rank is. A turn puts the rank of
+-- the next row, or finds that it is the first late one. The columns hold the whole order, and a turn takes the rows above.
 use mathlib.Core.Path.{_≡_, refl, sym, ap, subst, _∙_}
 use mathlib.Core.Bool.{Bool, true, false}
-use mathlib.Core.List.{List, [], _∷_, _++_, append-nil}
+use mathlib.Core.List.{List, [], _∷_, _++_}
 use Prim.Native.Nat.{ℕ, suc, _+_, _*_, _≤_, _<_}
 use native.Mathlib.Omega.{arith}
-use lib.ListN.{length, getD, take, drop, set, length-append}
-use lib.Seq.{append-snoc, take-suc, take-take, length-take-le, getD-take}
+use lib.ListN.{length, getD, take, drop, length-append, drop-of-length-le}
+use lib.Seq.{take-suc, take-length, drop-cons, length-take-le}
 use Rattle.basics.specs.Basics.{pick}
-use Rattle.basics.proofs.Fronts.{left-none, left-next}
 use Rattle.text.specs.Text.{joined}
 use Rattle.text.specs.inside.Puts.{Put}
 use Rattle.text.proofs.Puts.{begins, next, ends}
-use Rattle.rows.specs.Rows.{maxTasks, inRange, allRows, noRow}
+use Rattle.rows.specs.Rows.{inRange, allRows, noRow, rowAt, rowsAbove, rowsBelow}
 use Rattle.rows.specs.declared.Row.{Row}
-use Rattle.rows.proofs.Limits.{at-passes, front-passes}
+use Rattle.rows.proofs.Limits.{at-passes, front-passes, all-times}
 use Rattle.responses.specs.declared.Figures.{Figures}
 use Rattle.responses.specs.Figures.{isLate, latest, earliest, margin, lateFigures, figuresAt, figuresUnder}
-use Rattle.responses.specs.inside.Columns.{rowsAbove, UnderColumns}
-use Rattle.responses.proofs.Filling.{Filled, filled-none, filled-more, filled-under, filled-figures}
+use Rattle.analysis.specs.inside.Columns.{columnsMax, Filled, UnderColumns, FiguresIn, BlockingOfAny}
+use Rattle.analysis.proofs.Columns.{filled-front}
 use Rattle.plans.specs.declared.Entry.{Entry}
-use Rattle.plans.specs.Entries.{entry, entriesFrom, entries, lateFrom, firstLate}
+use Rattle.plans.specs.Entries.{entry, entries, noEntry, lateFrom, firstLate}
 use Rattle.plans.specs.Plans.{rankText, rankTexts, rankRoom}
-use Rattle.plan_orders.specs.inside.Ranks.{PutsRanks}
-use Rattle.plans.proofs.Entries.{InLimits, entries-length, entry-limits}
+use Rattle.plans.proofs.Entries.{InLimits, entries-length, entry-at, entry-limits}
 use Rattle.plans.proofs.Lengths.{rank-length}
 use Rattle.plans.proofs.Ranks.{rank-put}
+use Rattle.plan_orders.specs.inside.Ranks.{PutsRanks}
 
--- ---- one row more
-entries-more : (above os : List Row) (r : Row)
-    → entriesFrom above (os ++ (r ∷ [])) ≡ entriesFrom above os ++ (entry r (above ++ os) ∷ [])
-entries-more above [] r = ap (λ (l : List Row). entry r l ∷ []) (sym (append-nil above))
-entries-more above (x ∷ os) r =
-    ap (λ (l : List Entry). entry x above ∷ l)
-    (entries-more (above ++ (x ∷ [])) os r
-    ∙ ap (λ (l : List Row). entriesFrom (above ++ (x ∷ [])) os ++ (entry r l ∷ [])) (append-snoc above x os))
+-- ---- the figures of a row between others, as one answer
+module _ (t : Row) (above below : List Row) where
+  late-of : figuresUnder t above below .late ≡ isLate t above below
+  late-of =
+      go (isLate t above below) (figuresAt (latest t above below) (earliest t above below) (margin t above below)) refl
+    where
+      go : (b : Bool) (f : Figures) → f .late ≡ false → pick b lateFigures f .late ≡ b
+      go true f e = refl
+      go false f e = e
 
--- ---- the figures of a row under rows above it, as one answer
-late-of : (t : Row) (above : List Row) → figuresUnder t above .late ≡ isLate t above
-late-of t above = go (isLate t above) (figuresAt (latest t above) (earliest t above) (margin t above)) refl
-  where
-    go : (b : Bool) (f : Figures) → f .late ≡ false → pick b lateFigures f .late ≡ b
-    go true f e = refl
-    go false f e = e
-
-entry-of : (t : Row) (above : List Row) → isLate t above ≡ false
-    → figuresUnder t above ≡ figuresAt (latest t above) (earliest t above) (margin t above)
-entry-of t above e =
-    ap (λ (b : Bool). pick b lateFigures (figuresAt (latest t above) (earliest t above) (margin t above))) e
+  entry-of : isLate t above below ≡ false
+      → figuresUnder t above below
+      ≡ figuresAt (latest t above below) (earliest t above below) (margin t above below)
+  entry-of e =
+      ap (λ (b : Bool). pick b lateFigures
+      (figuresAt (latest t above below) (earliest t above below) (margin t above below))) e
 
 -- the entry that is made of an answer
 abbrev pub entryFrom : Row → Figures → Entry
@@ -55,131 +49,146 @@ entryFrom r x =
     record { task = r .task; best = x .best; worst = x .worst; jitter = x .jitter; margin = x .margin }
 
 -- ---- how far an order's ranks have come: they began at `at` in `o`, and end at `m` in `o₁`
-pub record Turning (n : ℕ) (rows : List Row) (at : ℕ) (o : List ℕ) (m : ℕ) (o₁ ps ws bs : List ℕ) (i : ℕ) : Type 0 where
-  pub few : n ≤ maxTasks
-  pub rows-long : length rows ≡ maxTasks
-  pub in-range : allRows inRange (take n rows) ≡ true
+pub record Turning (order : List Row) (n at : ℕ) (o : List ℕ) (m : ℕ) (o₁ : List ℕ) (i : ℕ) : Type 0 where
+  pub few : n ≤ columnsMax
+  pub counted : length order ≡ n
+  pub in-range : allRows inRange order ≡ true
   pub room : at + n * rankRoom ≤ length o
   pub reached : i ≤ n
-  pub above : Filled (take i rows) ps ws bs i
   pub within : m ≤ at + i * rankRoom
   pub same : length o₁ ≡ length o
-  pub text-put : Put (joined (rankTexts 1 (entries (take i rows)))) at o o₁ m
-  pub late-is : firstLate (take n rows) ≡ lateFrom (suc i) (take i rows) (drop i (take n rows))
+  pub text-put : Put (joined (rankTexts 1 (take i (entries order)))) at o o₁ m
+  pub late-is : firstLate order ≡ lateFrom (suc i) (rowsAbove order i) (drop i order)
 
-module _ {n : ℕ} {rows : List Row} {at : ℕ} {o : List ℕ} where
-  pub starts : n ≤ maxTasks → length rows ≡ maxTasks → allRows inRange (take n rows) ≡ true
-      → at + n * rankRoom ≤ length o
-      → (ps ws bs : List ℕ) → length ps ≡ maxTasks → length ws ≡ maxTasks → length bs ≡ maxTasks
-      → Turning n rows at o at o ps ws bs 0
-  starts few all ok room ps ws bs p w b = record {
+module _ {order : List Row} {n at : ℕ} {o : List ℕ} where
+  pub starts : n ≤ columnsMax → length order ≡ n → allRows inRange order ≡ true → at + n * rankRoom ≤ length o
+      → Turning order n at o at o 0
+  starts few all ok room = record {
     few = few;
-    rows-long = all;
+    counted = all;
     in-range = ok;
     room = room;
     reached = omega arith;
-    above = filled-none ps ws bs p w b;
     within = omega arith;
     same = refl;
     text-put = ends (begins [] at o (omega arith));
     late-is = refl;
   }
 
-  module _ {m : ℕ} {o₁ ps ws bs : List ℕ} {i : ℕ} (t : Turning n rows at o m o₁ ps ws bs i) where
-    abbrev r : Row
-    r = getD rows i noRow
+  module _ {m : ℕ} {o₁ : List ℕ} {i : ℕ} (t : Turning order n at o m o₁ i) where
+    abbrev here : Row
+    here = rowAt order i
 
     module _ (more : i < n) where
-      here-in-range : inRange r ≡ true
-      here-in-range =
-          ap inRange (sym (getD-take n rows i noRow more))
-          ∙ at-passes inRange (take n rows) i (t .in-range)
-          (omega (arith, length-take-le n rows (omega (arith, t .few, t .rows-long))))
+      pub here-in-range : inRange here ≡ true
+      here-in-range = at-passes inRange order i (t .in-range) (omega (arith, t .counted))
 
-      above-in-range : allRows inRange (take i rows) ≡ true
-      above-in-range =
-          ap (allRows inRange) (sym (take-take i n rows (omega arith)))
-          ∙ front-passes inRange i (take n rows) (t .in-range)
+      above-in-range : allRows inRange (rowsAbove order i) ≡ true
+      above-in-range = front-passes inRange i order (t .in-range)
 
-      -- the next row may be asked for its figures under the columns
-      pub under-columns : UnderColumns r i ps ws bs
-      under-columns = filled-under (t .above) (omega (arith, t .few)) above-in-range r here-in-range
+      -- the row of the turn, as the code fetched it
+      module _ (r : Row) (r-is : r ≡ here) where
+        -- it may be asked for its figures under the columns
+        pub under-columns : {columns : List ℕ} {b : ℕ} → Filled order n n columns → BlockingOfAny b
+            → UnderColumns r b columns n i
+        under-columns f b = record {
+          in-range = ap inRange r-is ∙ here-in-range;
+          few = t .few;
+          rows = order;
+          filled = filled-front f i (omega arith);
+          times-in-range = all-times order (t .in-range);
+          below = rowsBelow order i;
+          blocked-is = b .blocked-is (rowsBelow order i);
+          blocked-max = b .blocked-max;
+        }
 
-      module _ (x : Figures) (is : x ≡ figuresUnder r (rowsAbove i ps ws bs)) where
-        figures-are : x ≡ figuresUnder r (take i rows)
-        figures-are = filled-figures (t .above) r x is
+        pub figures-found : {columns : List ℕ} {b : ℕ} (x : Figures) → Filled order n n columns → BlockingOfAny b
+            → FiguresIn r b columns n i x → x ≡ figuresUnder here (rowsAbove order i) (rowsBelow order i)
+        figures-found x f b is =
+            is order (rowsBelow order i) (filled-front f i (omega arith)) (b .blocked-is (rowsBelow order i))
+            ∙ ap (λ (q : Row). figuresUnder q (rowsAbove order i) (rowsBelow order i)) r-is
 
-        late-here : x .late ≡ isLate r (take i rows)
-        late-here = ap (λ (f : Figures). f .late) figures-are ∙ late-of r (take i rows)
+        module _ (x : Figures) (is : x ≡ figuresUnder here (rowsAbove order i) (rowsBelow order i)) where
+          late-here : x .late ≡ isLate here (rowsAbove order i) (rowsBelow order i)
+          late-here = ap (λ (f : Figures). f .late) is ∙ late-of here (rowsAbove order i) (rowsBelow order i)
 
-        left : lateFrom (suc i) (take i rows) (drop i (take n rows))
-            ≡ lateFrom (suc i) (take i rows) (r ∷ drop (suc i) (take n rows))
-        left = ap (lateFrom (suc i) (take i rows)) (left-next rows n i noRow more (omega (arith, t .few, t .rows-long)))
+          left : lateFrom (suc i) (rowsAbove order i) (drop i order)
+              ≡ lateFrom (suc i) (rowsAbove order i) (here ∷ rowsBelow order i)
+          left = ap (lateFrom (suc i) (rowsAbove order i)) (drop-cons order i noRow (omega (arith, t .counted)))
 
-        -- the row is late: it is the first
-        pub found-late : x .late ≡ true → (k end : ℕ) → k ≡ suc i
-            → PutsRanks (take n rows) at o o₁ (record { late = k; end = end })
-        found-late e k end s =
-            let now : isLate r (take i rows) ≡ true = sym late-here ∙ e in
-            let first : firstLate (take n rows) ≡ suc i = t .late-is ∙ left ∙ rw (now, lateFrom) in
-            record {
-              late-is = s ∙ sym first;
-              text-put = λ z. absurd (omega (arith, sym first ∙ z));
-            }
-
-        -- it is not: its rank is next
-        module _ (in-time : x .late ≡ false) (k : ℕ) (k-is : k ≡ suc i) (e : Entry) (e-is : e ≡ entryFrom r x) where
-          now-in-time : isLate r (take i rows) ≡ false
-          now-in-time = sym late-here ∙ in-time
-
-          written : e ≡ entry r (take i rows)
-          written = e-is ∙ ap (entryFrom r) (figures-are ∙ entry-of r (take i rows) now-in-time)
-
-          short : length (rankText k e) ≤ rankRoom
-          short =
-              rank-length k e (omega (arith, t .few))
-              (subst InLimits (sym written) (entry-limits r (take i rows) here-in-range above-in-range now-in-time))
-
-          pub rank-fits : m + length (rankText k e) ≤ length o₁
-          rank-fits = omega (arith, short, t .within, t .room, t .same)
-
-          -- and it is above those that follow
-          pub turned : {m′ : ℕ} {o₂ : List ℕ} → Put (rankText k e) m o₁ o₂ m′ → (i′ : ℕ) → i′ ≡ suc i
-              → Turning n rows at o m′ o₂ (set ps i (r .period)) (set ws i (r .worst)) (set bs i (r .best)) i′
-          turned {m′} {o₂} rank i′ i′-is =
-              let fits : i < length rows = omega (arith, t .few, t .rows-long) in
-              let one-more : take (suc i) rows ≡ take i rows ++ (r ∷ []) = take-suc rows i noRow fits in
-              let alone = length-append (rankText k e) [] in
-              let counted = entries-length [] (take i rows) ∙ length-take-le i rows (omega arith) in
-              let grown : entries (take (suc i) rows) ≡ entries (take i rows) ++ (e ∷ []) =
-              ap entries one-more ∙ entries-more [] (take i rows) r
-              ∙ ap (λ (y : Entry). entries (take i rows) ++ (y ∷ [])) (sym written) in
-              let put-more = rank-put (entries (take i rows)) e k (omega (arith, k-is, counted))
-              (omega (arith, rank-fits, t .same, t .text-put .ends)) (t .text-put) rank in
-              rw i′-is
+          -- the row is late: it is the first
+          pub found-late : x .late ≡ true → (k end : ℕ) → k ≡ suc i
+              → PutsRanks order at o o₁ (record { late = k; end = end })
+          found-late e k end s =
+              let now : isLate here (rowsAbove order i) (rowsBelow order i) ≡ true = sym late-here ∙ e in
+              let first : firstLate order ≡ suc i = t .late-is ∙ left ∙ rw (now, lateFrom) in
               record {
-                few = t .few;
-                rows-long = t .rows-long;
-                in-range = t .in-range;
-                room = t .room;
-                reached = more;
-                above = filled-more (t .above) (omega arith) r one-more;
-                within = omega (arith, short, t .within, rank .ends);
-                same = next (begins (rankText k e ∷ []) m o₁ (omega (arith, rank-fits, alone))) rank .same ∙ t .same;
-                text-put =
-                    subst (λ (es : List Entry). Put (joined (rankTexts 1 es)) at o o₂ m′) (sym grown) put-more;
-                late-is = t .late-is ∙ left ∙ rw (now-in-time, lateFrom)
-                    (ap (λ (l : List Row). lateFrom (suc (suc i)) l (drop (suc i) (take n rows))) (sym one-more));
+                late-is = s ∙ sym first;
+                text-put = λ z. absurd (omega (arith, sym first ∙ z));
               }
 
+          -- it is not: its rank is next
+          module _ (in-time : x .late ≡ false) (k : ℕ) (k-is : k ≡ suc i) (e : Entry) (e-is : e ≡ entryFrom r x) where
+            now-in-time : isLate here (rowsAbove order i) (rowsBelow order i) ≡ false
+            now-in-time = sym late-here ∙ in-time
+
+            written : e ≡ entry here (rowsAbove order i) (rowsBelow order i)
+            written =
+                e-is ∙ ap (λ (q : Row). entryFrom q x) r-is
+                ∙ ap (entryFrom here) (is ∙ entry-of here (rowsAbove order i) (rowsBelow order i) now-in-time)
+
+            short : length (rankText k e) ≤ rankRoom
+            short =
+                rank-length k e (omega (arith, t .few))
+                (subst InLimits (sym written)
+                (entry-limits here (rowsAbove order i) (rowsBelow order i) here-in-range above-in-range now-in-time))
+
+            pub rank-fits : m + length (rankText k e) ≤ length o₁
+            rank-fits = omega (arith, short, t .within, t .room, t .same)
+
+            -- and it is above those that follow
+            pub turned : {m′ : ℕ} {o₂ : List ℕ} → Put (rankText k e) m o₁ o₂ m′ → (i′ : ℕ) → i′ ≡ suc i
+                → Turning order n at o m′ o₂ i′
+            turned {m′} {o₂} rank i′ i′-is =
+                let many = entries-length [] order in
+                let fits : i < length (entries order) = omega (arith, many, t .counted) in
+                let alone = length-append (rankText k e) [] in
+                let counted = length-take-le i (entries order) (omega arith) in
+                let last : getD (entries order) i noEntry ≡ e =
+                entry-at order i noEntry (omega (arith, t .counted)) ∙ sym written in
+                let grown : take (suc i) (entries order) ≡ take i (entries order) ++ (e ∷ []) =
+                take-suc (entries order) i noEntry fits
+                ∙ ap (λ (y : Entry). take i (entries order) ++ (y ∷ [])) last in
+                let put-more = rank-put (take i (entries order)) e k (omega (arith, k-is, counted))
+                (omega (arith, rank-fits, t .same, t .text-put .ends)) (t .text-put) rank in
+                rw i′-is
+                record {
+                  few = t .few;
+                  counted = t .counted;
+                  in-range = t .in-range;
+                  room = t .room;
+                  reached = more;
+                  within = omega (arith, short, t .within, rank .ends);
+                  same =
+                      next (begins (rankText k e ∷ []) m o₁ (omega (arith, rank-fits, alone))) rank .same ∙ t .same;
+                  text-put =
+                      subst (λ (es : List Entry). Put (joined (rankTexts 1 es)) at o o₂ m′) (sym grown) put-more;
+                  late-is = t .late-is ∙ left ∙ rw (now-in-time, lateFrom)
+                      (ap (λ (l : List Row). lateFrom (suc (suc i)) l (rowsBelow order i))
+                      (sym (take-suc order i noRow (omega (arith, t .counted)))));
+                }
+
     -- all ranks are passed: none is late
-    pub finished : n ≤ i → PutsRanks (take n rows) at o o₁ (record { late = 0; end = m })
+    pub finished : n ≤ i → PutsRanks order at o o₁ (record { late = 0; end = m })
     finished h =
-        let all-passed : i ≡ n = omega (arith, t .reached) in
-        let none : firstLate (take n rows) ≡ 0 =
-        t .late-is ∙ ap (lateFrom (suc i) (take i rows)) (left-none rows n i h) in
+        let many = entries-length [] order in
+        let passed : i ≡ length (entries order) = omega (arith, t .reached, t .counted, many) in
+        let all : take i (entries order) ≡ entries order =
+        ap (λ (k : ℕ). take k (entries order)) passed ∙ take-length (entries order) in
+        let none : firstLate order ≡ 0 =
+        t .late-is
+        ∙ ap (lateFrom (suc i) (rowsAbove order i)) (drop-of-length-le order {i = i} (omega (arith, t .counted))) in
         record {
           late-is = sym none;
-          text-put = λ z. subst (λ (k : ℕ). Put (joined (rankTexts 1 (entries (take k rows)))) at o o₁ m) all-passed
-              (t .text-put);
+          text-put = λ z. subst (λ (es : List Entry). Put (joined (rankTexts 1 es)) at o o₁ m) all (t .text-put);
         }

@@ -12,13 +12,13 @@ use Rattle.basics.proofs.Tests.{and-both}
 use Rattle.text.specs.Text.{signed, joined}
 use Rattle.text.proofs.Decimals.{decimal-short}
 use Rattle.text.proofs.Spelling.{line-length}
-use Rattle.rows.specs.Rows.{maxBeta, maxTasks, inRange, allRows, noRow, rowsAbove, rowsBelow}
+use Rattle.rows.specs.Rows.{maxBeta, inRange, allRows, noRow, rowsAbove, rowsBelow}
 use Rattle.rows.specs.declared.Row.{Row}
 use Rattle.rows.proofs.Limits.{head-passes, tail-passes, append-passes}
 use Rattle.responses.specs.Figures.{isLate}
 use Rattle.plans.specs.declared.Entry.{Entry}
 use Rattle.plans.specs.Entries.{entry, entriesFrom, entries}
-use Rattle.plans.specs.Plans.{rankText, rankTexts, headText, planText, refusalText, planRoom, rankRoom}
+use Rattle.plans.specs.Plans.{rankText, rankTexts, headText, planText, refusalText, rankRoom, roomFor, mostRanks}
 use Rattle.plans.proofs.Entries.{InLimits, entries-length, entry-limits}
 
 margin-length : (z : ℤ) → natAbs z ≤ maxBeta → length (signed z) ≤ 13
@@ -26,7 +26,7 @@ unfolding signed
 margin-length (pos v) h = omega (arith, decimal-short v 11 (omega arith))
 margin-length (negsuc v) h = omega (arith, decimal-short (suc v) 11 (omega arith))
 
-pub rank-length : (k : ℕ) (e : Entry) → k ≤ maxTasks → InLimits e → length (rankText k e) ≤ rankRoom
+pub rank-length : (k : ℕ) (e : Entry) → k ≤ mostRanks → InLimits e → length (rankText k e) ≤ rankRoom
 unfolding rankText
 rank-length k e h l =
     simp (length-append, line-length)
@@ -41,7 +41,7 @@ rank-length k e h l =
     ))
 
 -- the ranks from k on of rows in range, none of which is late
-ranks-length : (k : ℕ) (above order : List Row) → k + length order ≤ suc maxTasks
+ranks-length : (k : ℕ) (above order : List Row) → k + length order ≤ suc mostRanks
     → allRows inRange above ≡ true → allRows inRange order ≡ true
     → ((i : ℕ) → i < length order → isLate (getD order i noRow) (above ++ take i order) (drop (suc i) order) ≡ false)
     → length (joined (rankTexts k (entriesFrom above order))) ≤ length order * rankRoom
@@ -63,7 +63,7 @@ ranks-length k above (r ∷ rs) h ha ho l =
       length-append (rankText k e) (joined (rankTexts (suc k) rest)),
     )
 
-pub head-length : (board count : ℕ) → board < 10 ^ 5 → count ≤ maxTasks → length (headText board count) ≤ 28
+pub head-length : (board count : ℕ) → board < 10 ^ 5 → count ≤ mostRanks → length (headText board count) ≤ 28
 unfolding headText
 head-length board count h n =
     simp (length-append, line-length)
@@ -74,10 +74,10 @@ head-length board count h n =
       decimal-short count 1 (omega arith),
     ))
 
-pub plan-fits : (board : ℕ) (order : List Row) → board < 10 ^ 5 → length order ≤ maxTasks
+pub plan-fits : (board : ℕ) (order : List Row) → board < 10 ^ 5 → length order ≤ mostRanks
     → allRows inRange order ≡ true
     → ((i : ℕ) → i < length order → isLate (getD order i noRow) (rowsAbove order i) (rowsBelow order i) ≡ false)
-    → length (planText board (entries order)) ≤ planRoom
+    → length (planText board (entries order)) ≤ roomFor (length order)
 unfolding planText
 plan-fits board order h n ok l =
     let es = entries order in

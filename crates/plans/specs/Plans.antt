@@ -41,12 +41,19 @@ refusalText number place = joined (
     ∷ keyLine (bytes "line=") (decimal place)
     ∷ [])
 
--- room for the lines before the ranks, or for a refusal's; for the lines of a rank; and for every plan
+-- room for the lines before the ranks, or for a refusal's; for the lines of a rank; and for every plan of n ranks
 abbrev pub headRoom : ℕ
 headRoom = 40
 
 abbrev pub rankRoom : ℕ
 rankRoom = 82
 
+abbrev pub roomFor : ℕ → ℕ
+roomFor n = headRoom + n * rankRoom
+
 abbrev pub planRoom : ℕ
-planRoom = headRoom + maxTasks * rankRoom
+planRoom = roomFor maxTasks
+
+-- the most ranks of a plan: its ranks have at most two digits
+abbrev pub mostRanks : ℕ
+mostRanks = 99

@@ -76,5 +76,6 @@ FiguresIn t blocked columns n k x =
     → x ≡ figuresUnder t (take k rows) below
 
 -- the blocking time of any rows below
-abbrev pub BlockingOfAny : ℕ → Type 0
-BlockingOfAny b = (below : List Row) → b ≡ blocking below
+pub record BlockingOfAny (blocked : ℕ) : Type 0 where
+  pub blocked-is : (below : List Row) → blocked ≡ blocking below
+  pub blocked-max : blocked ≤ maxTicks

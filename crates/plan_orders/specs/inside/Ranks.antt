@@ -1,13 +1,25 @@
 -- A promise between functions: what comes of an order's ranks, their text, put at an offset, or the first late rank.
 use mathlib.Core.Path.{_≡_}
+use mathlib.Core.Bool.{true}
 use mathlib.Core.List.{List}
-use Prim.Native.Nat.{ℕ}
+use Prim.Native.Nat.{ℕ, suc, _*_, _≤_, _<_}
+use lib.ListN.{length, getD, take}
 use Rattle.text.specs.Text.{joined}
 use Rattle.text.specs.inside.Puts.{Put}
+use Rattle.rows.specs.Rows.{fieldCount, inRange, allRows}
+use Rattle.rows.specs.inside.Numbers.{rowsIn}
 use Rattle.rows.specs.declared.Row.{Row}
-use Rattle.plan_orders.specs.declared.RanksPut.{RanksPut}
+use Rattle.analysis.specs.inside.Columns.{columnsMax}
 use Rattle.plans.specs.Entries.{entries, firstLate}
 use Rattle.plans.specs.Plans.{rankTexts}
+use Rattle.plan_orders.specs.declared.RanksPut.{RanksPut}
+
+-- an order is the rows at n positions among the numbers of rows, all in range
+pub record Ordered (ns positions : List ℕ) (n : ℕ) : Type 0 where
+  pub few : n ≤ columnsMax
+  pub positions-held : n ≤ length positions
+  pub rows-held : (j : ℕ) → j < n → fieldCount * suc (getD positions j 0) ≤ length ns
+  pub in-range : allRows inRange (rowsIn ns (take n positions)) ≡ true
 
 -- where a rank is late, the end and the bytes from the offset on are left open
 pub record PutsRanks (order : List Row) (at : ℕ) (buffer buffer′ : List ℕ) (r : RanksPut) : Type 0 where

@@ -1,0 +1,142 @@
+// An order's plan: the figures of each rank are found and written in one pass. And what a program prints of an answer.
+ghost use mathlib.Core.Path.{_≡_};
+ghost use Prim.Native.Nat.{_+_, _*_, _≤_};
+ghost use lib.ListN.{length, take, replicate};
+ghost use Rattle.text.specs.Buffers.{Wrote};
+ghost use Rattle.rows.specs.Rows.{maxTasks};
+ghost use Rattle.rows.specs.inside.Numbers.{rowsIn};
+ghost use Rattle.analysis.specs.inside.Columns.{Filled};
+ghost use Rattle.plans.specs.Plans.{rankRoom, roomFor, planRoom};
+ghost use Rattle.plans.specs.Outcomes.{ifInTime, Written};
+ghost use Rattle.plans.specs.inside.Prints.{toPrint};
+ghost use Rattle.plan_orders.specs.inside.Ranks.{Ordered, PutsRanks};
+use analysis::figures_under;
+use analysis::fill_columns;
+use analysis::no_blocking;
+use plan_lines::put_head;
+use plan_lines::put_rank;
+use plan_lines::put_refusal;
+use plans::Answer;
+use plans::Entry;
+use rows::MAX_TASKS;
+use rows::row_at;
+use text::put_bytes;
+
+// Room for the lines before a plan's ranks, or for a refusal's.
+const HEAD_ROOM: usize = 40;
+
+// Room for the lines of a rank.
+const RANK_ROOM: usize = 82;
+
+// Room for every plan.
+pub const ROOM: usize = HEAD_ROOM + MAX_TASKS * RANK_ROOM;
+
+// Room for the columns of every order.
+const COLUMNS: usize = 3 * MAX_TASKS;
+
+pub fn buffer() -> [u8; ROOM]
+    ensures { λ r. ⌜ r ≡ replicate planRoom 0 ⌝ }
+{
+    [0; ROOM]
+}
+
+// Where the text of an order's ranks ends, where none of its tasks is late; else the first late rank, counted from 1.
+pub struct RanksPut {
+    pub late: u32,
+    pub end: usize,
+}
+
+// The ranks of the rows at n positions, the highest first, up to the first late one; their columns are filled.
+fn put_ranks(out: &mut [u8], at: usize, rows: &[u64], positions: &[usize], n: usize, columns: &[u64]) -> RanksPut
+    requires { ⌜ Ordered (now rows) (now positions) n ⌝ }
+    requires { ⌜ Filled (rowsIn (now rows) (take n (now positions))) n n (now columns) ⌝ }
+    requires { ⌜ at + n * rankRoom ≤ length (now out) ⌝ }
+    ensures { λ r. ⌜ PutsRanks (rowsIn (now (rows .entry)) (take n (now (positions .entry)))) at
+        (now (out .entry)) (now (out .exit)) r ⌝ }
+{
+    let mut end = at;
+    let mut i = 0;
+    while i < n {
+        let row = row_at(rows, positions[i]);
+        let figures = figures_under(row, no_blocking(), columns, n, i);
+        if figures.late {
+            let rank = i as u32 + 1;
+            return RanksPut { late: rank, end };
+        }
+        let entry = Entry {
+            task: row.task,
+            best: figures.best,
+            worst: figures.worst,
+            jitter: figures.jitter,
+            margin: figures.margin,
+        };
+        end = put_rank(out, end, i as u64 + 1, entry);
+        i += 1;
+    }
+    RanksPut { late: 0, end }
+}
+
+// The plan of the rows at n positions as an order, highest rank first: refusal 7 where one is late, 9 where it does not
+// fit. It is written whole into a text of the caller's own, so that a refusal leaves out as it was.
+pub fn plan_in(
+    out: &mut [u8],
+    text: &mut [u8],
+    columns: &mut [u64],
+    board: u16,
+    rows: &[u64],
+    positions: &[usize],
+    n: usize,
+) -> Answer
+    requires { ⌜ Ordered (now rows) (now positions) n ⌝ }
+    requires { ⌜ (roomFor n ≤ length (now text)) × (3 * n ≤ length (now columns)) ⌝ }
+    ensures { λ r. ⌜ Written (ifInTime (length (now (out .entry))) board
+        (rowsIn (now (rows .entry)) (take n (now (positions .entry))))) (now (out .entry)) (now (out .exit)) r ⌝ }
+{
+    fill_columns(rows, positions, n, columns);
+    let at = put_head(text, board, n);
+    let ranks = put_ranks(text, at, rows, positions, n, columns);
+    let late = ranks.late;
+    if late != 0 {
+        return Answer::refused(7, late);
+    }
+    let long = ranks.end;
+    let room = out.len();
+    if room < long {
+        return Answer::refused(9, 0);
+    }
+    put_bytes(out, 0, &text[..long]);
+    let written = long as u32;
+    Answer {
+        number: 0,
+        place: 0,
+        long: written,
+    }
+}
+
+// The same with room for a table's rows. Few ranks are soon written, and a short text is soon blank.
+pub fn plan_order(out: &mut [u8], board: u16, rows: &[u64], positions: &[usize], n: usize) -> Answer
+    requires { ⌜ (n ≤ maxTasks) × Ordered (now rows) (now positions) n ⌝ }
+    ensures { λ r. ⌜ Written (ifInTime (length (now (out .entry))) board
+        (rowsIn (now (rows .entry)) (take n (now (positions .entry))))) (now (out .entry)) (now (out .exit)) r ⌝ }
+{
+    let mut text = [0; ROOM];
+    let mut columns = [0u64; COLUMNS];
+    plan_in(out, &mut text, &mut columns, board, rows, positions, n)
+}
+
+// A length, or all of a buffer that is shorter.
+fn held(out: &[u8], long: usize) -> usize
+    ensures { λ r. ⌜ r ≡ length (take long (now (out .entry))) ⌝ }
+{
+    if out.len() < long { out.len() } else { long }
+}
+
+// What a program prints of an answer: the plan that stands in the buffer, or the refusal's lines.
+pub fn printed(answer: Answer, out: &mut [u8; ROOM]) -> usize
+    ensures { λ r. ⌜ Wrote (toPrint answer (now (out .entry))) (now (out .entry)) (now (out .exit)) r ⌝ }
+{
+    if answer.number != 0 {
+        return put_refusal(out, answer.number, answer.place);
+    }
+    held(out, answer.long as usize)
+}
