@@ -6,10 +6,10 @@ ghost use Rattle.text.specs.Buffers.{Wrote};
 ghost use Rattle.rows.specs.Rows.{maxTasks};
 ghost use Rattle.rows.specs.inside.Numbers.{rowsIn};
 ghost use Rattle.analysis.specs.inside.Columns.{Filled};
-ghost use Rattle.plans.specs.Plans.{rankRoom, roomFor, planRoom};
+ghost use Rattle.plans.specs.Plans.{rankRoom, roomFor, planRoom, mostRanks};
 ghost use Rattle.plans.specs.Outcomes.{ifInTime, Written};
 ghost use Rattle.plans.specs.inside.Prints.{toPrint};
-ghost use Rattle.plan_orders.specs.inside.Ranks.{Ordered, PutsRanks};
+ghost use Rattle.plan_orders.specs.inside.Ranks.{Ordered, PutsRanks, PutsPlan, givenPlan};
 use analysis::figures_under;
 use analysis::fill_columns;
 use analysis::no_blocking;
@@ -47,7 +47,14 @@ pub struct RanksPut {
 }
 
 // The ranks of the rows at n positions, the highest first, up to the first late one; their columns are filled.
-fn put_ranks(out: &mut [u8], at: usize, rows: &[u64], positions: &[usize], n: usize, columns: &[u64]) -> RanksPut
+fn put_ranks(
+    out: &mut [u8],
+    at: usize,
+    rows: &[u64],
+    positions: &[usize],
+    n: usize,
+    columns: &[u64],
+) -> RanksPut
     requires { ⌜ Ordered (now rows) (now positions) n ⌝ }
     requires { ⌜ Filled (rowsIn (now rows) (take n (now positions))) n n (now columns) ⌝ }
     requires { ⌜ at + n * rankRoom ≤ length (now out) ⌝ }
@@ -76,8 +83,50 @@ fn put_ranks(out: &mut [u8], at: usize, rows: &[u64], positions: &[usize], n: us
     RanksPut { late: 0, end }
 }
 
-// The plan of the rows at n positions as an order, highest rank first: refusal 7 where one is late, 9 where it does not
-// fit. It is written whole into a text of the caller's own, so that a refusal leaves out as it was.
+// The plan of the rows at n positions as an order, highest rank first, up to the first late rank.
+fn put_plan(
+    text: &mut [u8],
+    columns: &mut [u64],
+    board: u16,
+    rows: &[u64],
+    positions: &[usize],
+    n: usize,
+) -> RanksPut
+    requires { ⌜ Ordered (now rows) (now positions) n ⌝ }
+    requires { ⌜ (roomFor n ≤ length (now text)) × (3 * n ≤ length (now columns)) ⌝ }
+    ensures { λ r. ⌜ PutsPlan board (rowsIn (now (rows .entry)) (take n (now (positions .entry))))
+        (now (text .entry)) (now (text .exit)) r ⌝ }
+{
+    fill_columns(rows, positions, n, columns);
+    let at = put_head(text, board, n);
+    put_ranks(text, at, rows, positions, n, columns)
+}
+
+// The outcome of a plan that stands in a text: refusal 7 where a rank is late, 9 where out is shorter.
+fn plan_from(out: &mut [u8], text: &[u8], put: RanksPut) -> Answer
+    requires { ⌜ (put .late ≡ 0 → (put .end ≤ length (now text)) × (put .end ≤ roomFor mostRanks)) ⌝ }
+    ensures { λ r. ⌜ Written (givenPlan (length (now (out .entry))) put (now (text .entry)))
+        (now (out .entry)) (now (out .exit)) r ⌝ }
+{
+    let late = put.late;
+    if late != 0 {
+        return Answer::refused(7, late);
+    }
+    let long = put.end;
+    if out.len() < long {
+        return Answer::refused(9, 0);
+    }
+    put_bytes(out, 0, &text[..long]);
+    let written = long as u32;
+    Answer {
+        number: 0,
+        place: 0,
+        long: written,
+    }
+}
+
+// The plan of an order, or its refusal. It is written whole into a text of the caller's own, so that a refusal leaves out
+// as it was.
 pub fn plan_in(
     out: &mut [u8],
     text: &mut [u8],
@@ -92,25 +141,8 @@ pub fn plan_in(
     ensures { λ r. ⌜ Written (ifInTime (length (now (out .entry))) board
         (rowsIn (now (rows .entry)) (take n (now (positions .entry))))) (now (out .entry)) (now (out .exit)) r ⌝ }
 {
-    fill_columns(rows, positions, n, columns);
-    let at = put_head(text, board, n);
-    let ranks = put_ranks(text, at, rows, positions, n, columns);
-    let late = ranks.late;
-    if late != 0 {
-        return Answer::refused(7, late);
-    }
-    let long = ranks.end;
-    let room = out.len();
-    if room < long {
-        return Answer::refused(9, 0);
-    }
-    put_bytes(out, 0, &text[..long]);
-    let written = long as u32;
-    Answer {
-        number: 0,
-        place: 0,
-        long: written,
-    }
+    let put = put_plan(text, columns, board, rows, positions, n);
+    plan_from(out, text, put)
 }
 
 // The same with room for a table's rows. Few ranks are soon written, and a short text is soon blank.

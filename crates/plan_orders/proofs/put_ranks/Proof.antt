@@ -97,10 +97,11 @@ row-at-requires : tie.Need-row-at-requires Inv-loop μ-loop
 row-at-requires c κs =
     let k = c .before in
     let s = start k in
-    let x = k .before .loop in
-    (s .pre .0 .rows-held (x .i) (k .loop-test .taken),
-    ap inRange (sym (row-is (s .args .rows .now) (s .args .positions .now) (s .args .n) (s .pre .0 .positions-held)
-    (x .i) (k .loop-test .taken))) ∙ here-in-range (x .inv) (k .loop-test .taken))
+    let x = k .before .loop in (
+      s .pre .0 .rows-held (x .i) (k .loop-test .taken),
+      ap inRange (sym (row-is (s .args .rows .now) (s .args .positions .now) (s .args .n) (s .pre .0 .positions-held)
+          (x .i) (k .loop-test .taken))) ∙ here-in-range (x .inv) (k .loop-test .taken),
+    )
 
 no-blocking-requires : tie.Need-no-blocking-requires Inv-loop μ-loop
 no-blocking-requires c κs = search needs
