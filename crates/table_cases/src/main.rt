@@ -4,9 +4,12 @@ ghost use mathlib.Core.Path.{_≡_};
 ghost use Prim.Native.Nat.{_≤_};
 ghost use lib.ListN.{length};
 ghost use Rattle.basics.specs.Basics.{pick};
+ghost use Rattle.tables.specs.inside.Numbers.{Room};
 use rows::FIELDS;
+use tables::FEW_LINES;
 use tables::HEAD;
 use tables::LINES;
+use tables::is_short;
 use tables::read_table;
 use text::Line;
 
@@ -46,16 +49,29 @@ fn rank_lines(ranked: bool, count: usize) -> usize
     if ranked { count } else { 0 }
 }
 
-fn print_reading(text: &[u8], ranked: bool) {
-    let mut numbers = [0u64; LINES];
-    let reading = read_table(text, ranked, &mut numbers);
+// A text as it is read into lent numbers.
+fn print_read(text: &[u8], ranked: bool, numbers: &mut [u64])
+    requires { ⌜ Room (now text) (now numbers) ⌝ }
+{
+    let reading = read_table(text, ranked, numbers);
     io::print_decimal(STDOUT, reading.refused as u64);
     print_next(reading.line as u64);
     if reading.refused == 0 {
         let ranks = rank_lines(ranked, reading.count);
-        print_table(&numbers, HEAD + FIELDS * reading.count + ranks);
+        print_table(numbers, HEAD + FIELDS * reading.count + ranks);
     }
     io::write_all(STDOUT, b"\n");
+}
+
+// A short text is read into few numbers.
+fn print_reading(text: &[u8], ranked: bool) {
+    if is_short(text) {
+        let mut few = [0u64; FEW_LINES];
+        print_read(text, ranked, &mut few);
+    } else {
+        let mut all = [0u64; LINES];
+        print_read(text, ranked, &mut all);
+    }
 }
 
 // The text at an offset of the input, after its length and whether rank lines are expected.

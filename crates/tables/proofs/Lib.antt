@@ -9,3 +9,4 @@ pub mod Stands
 pub mod Steps
 pub mod Turns
 pub mod Tables
+pub mod Again

@@ -1,7 +1,10 @@
--- What each line of a row has, and an empty line past them, has the line at any position: whatever the lines are.
+-- What each line of a row has, has the line at a position in it; and the line at any position, if an empty line past
+-- them has it too: whatever the lines are.
 use mathlib.Core.List.{List, [], _∷_}
-use Prim.Native.Nat.{ℕ, zero, suc}
-use lib.ListN.{getD}
+use Prim.Native.Nat.{ℕ, zero, suc, _<_}
+use native.Mathlib.Omega.{arith}
+use lib.ListN.{length, getD}
+use Rattle.rows.specs.Rows.{fieldCount}
 use Rattle.tables.specs.TableLines.{RowLine, rowLine, anyNumber, rowLines, rowLineAt}
 
 abbrev pub Each : (RowLine → Type 0) → List RowLine → Type 0
@@ -16,3 +19,13 @@ module _ (F : RowLine → Type 0) (past : F (rowLine [] 0 0 (λ rs vs. anyNumber
 
   pub at-each : Each F rowLines → (i : ℕ) → F (rowLineAt i)
   at-each h i = among rowLines h i
+
+module _ (F : RowLine → Type 0) where
+  within : (ls : List RowLine) → Each F ls → (i : ℕ) → i < length ls
+      → F (getD ls i (rowLine [] 0 0 (λ rs vs. anyNumber)))
+  within [] h i l = absurd (omega arith)
+  within (r ∷ ls) h zero l = h .0
+  within (r ∷ ls) h (suc i) l = within ls (h .1) i (omega arith)
+
+  pub at-within : Each F rowLines → (i : ℕ) → i < fieldCount → F (rowLineAt i)
+  at-within h i l = within rowLines h i l

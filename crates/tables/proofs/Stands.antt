@@ -18,8 +18,10 @@ use Rattle.text.specs.Lines.{lineAt}
 use Rattle.text.specs.declared.Line.{Line}
 use Rattle.text.specs.declared.Line.the-variants as L
 use Rattle.text.proofs.Line as T
+use Rattle.text.proofs.Lines.{line-long}
 use Rattle.grammars.specs.Grammars.{step}
 use Rattle.grammars.specs.inside.Answers.{tested, onAnswer}
+use Rattle.grammars.proofs.Answers.{tested-number}
 use Rattle.grammars.proofs.Naturals.{number-within, no-number-at-end, step-line, step-end}
 use Rattle.rows.specs.Rows.{minTask, maxTask, minTasks, maxTasks, fieldCount}
 use Rattle.tables.specs.declared.progress.Part.{Part}
@@ -27,10 +29,11 @@ use Rattle.tables.specs.declared.progress.Part.the-variants as P
 use Rattle.tables.specs.declared.progress.Stand.{Stand}
 use Rattle.tables.specs.TableLines.{minBoard, maxBoard, newRank, rowLineAt}
 use Rattle.tables.specs.TableLines.{Stage, at-board, at-tasks, at-field, ranksStage, rowsStage, after, table}
-use Rattle.tables.specs.inside.Numbers.{headCount, lineCount, rowStart, boardIn, rowsIn, behind}
+use Rattle.tables.specs.inside.Numbers.{headCount, lineBytes, rowStart, boardIn, rowsIn, behind}
 use Rattle.tables.specs.inside.Stands.{fieldLine, lineHere, faultIn, stand, ranksNext, rowsNext, afterField}
 use Rattle.tables.specs.inside.Stands.{standAfter, readBy, Counted, stageIn, progress, endedBy}
 use Rattle.rows.proofs.RowNumbers.{rows-length, between-length}
+use Rattle.tables.proofs.RowLines.{at-within}
 use Rattle.tables.proofs.LineNumbers.{board-stays, grows, row-made, rows-front}
 
 -- a line that is neither a number nor refused is the end
@@ -40,18 +43,18 @@ ends-else s L.End h = refl
 ends-else s (L.Refused n k) h = absurd (miss (0 ∷ 1 ∷ []) 2 tt h)
 
 -- ---- the step from a stage that is shown
-module _ (ranked : Bool) (text : List ℕ) (at k : ℕ) (s : Stand) (ns : List ℕ) (long : length ns ≡ lineCount) where
+module _ (ranked : Bool) (text : List ℕ) (at k : ℕ) (s : Stand) (ns : List ℕ) where
   abbrev StepOf : Part → Type 0
   StepOf p =
       let st = stageIn p s (take (readBy p s) ns) in
       step (table ranked) text st at k
       ≡ onAnswer (table ranked) st k (tested (faultIn p s ns) (lineHere p (s .position) text at k) k)
 
-  rows-of : rowStart (s .count) + s .position ≤ lineCount
+  rows-of : rowStart (s .count) + s .position ≤ length ns
       → rowsIn (s .count) (take (rowStart (s .count) + s .position) ns) ≡ rowsIn (s .count) ns
-  rows-of h = rows-front (s .count) (rowStart (s .count) + s .position) ns (omega arith) (omega arith)
+  rows-of h = rows-front (s .count) (rowStart (s .count) + s .position) ns (omega arith) h
 
-  pub step-shown : (p : Part) → Counted p s → StepOf p
+  pub step-shown : (p : Part) → readBy p s ≤ length ns → StepOf p
   step-shown P.Board h = step-line (table ranked) text at-board at k (bytes "board=") minBoard maxBoard refl
   step-shown P.Tasks h =
       step-line (table ranked) text (at-tasks (boardIn (take 1 ns))) at k (bytes "tasks=") minTasks maxTasks refl
@@ -61,13 +64,13 @@ module _ (ranked : Bool) (text : List ℕ) (at k : ℕ) (s : Stand) (ns : List �
       let l = rowLineAt (length vs) in
       step-line (table ranked) text st at k (l .key) (l .low) (l .high) refl
       ∙ ap₂ (λ i rs. onAnswer (table ranked) st k (tested (rowLineAt i .fault rs vs) (fieldLine i text at k) k))
-      (between-length (rowStart (s .count)) ns (s .position) (omega arith)) (rows-of (omega arith))
+      (between-length (rowStart (s .count)) ns (s .position) h) (rows-of h)
   step-shown P.Rank h =
       let os = behind (s .count) (s .position) ns in
       let st = stageIn P.Rank s (take (readBy P.Rank s) ns) in
       let l = lineAt (bytes "rank=") minTask maxTask text at k in
       step-line (table ranked) text st at k (bytes "rank=") minTask maxTask refl
-      ∙ ap (λ rs. onAnswer (table ranked) st k (tested (newRank rs os) l k)) (rows-of (omega arith))
+      ∙ ap (λ rs. onAnswer (table ranked) st k (tested (newRank rs os) l k)) (rows-of h)
   step-shown P.End h = step-end (table ranked) text (stageIn P.End s (take (readBy P.End s) ns)) at k refl
 
 -- ---- the stand behind a number shows the next stage
@@ -169,12 +172,32 @@ stand-follows P.Rank ranked count left position ws v e h w =
     rank-follows ranked count left position ws v e (h .0) (h .1)
 stand-follows P.End ranked count left position ws v e h w = absurd w
 
--- a number that a line answers is such
-pub answer-taken : (p : Part) (i : ℕ) (fault : ℕ → ℕ) (text : List ℕ) (at k v next : ℕ)
-    → tested fault (lineHere p i text at k) k ≡ L.Number v next → Taken p v
-answer-taken P.Board i fault text at k v next e = tt
-answer-taken P.Tasks i fault text at k v next e =
-    number-within fault (bytes "tasks=") minTasks maxTasks text at k v next e .le-high
-answer-taken P.Row i fault text at k v next e = tt
-answer-taken P.Rank i fault text at k v next e = tt
-answer-taken P.End i fault text at k v next e = no-number-at-end fault text at k v next e
+-- a number that a line answers is such, and its line has so many bytes of the text at least
+key-long : (i : ℕ) → i < fieldCount → lineBytes ≤ suc (suc (length (rowLineAt i .key)))
+key-long =
+    at-within (λ l. lineBytes ≤ suc (suc (length (l .key))))
+    (omega arith, (omega arith, (omega arith, (omega arith, (omega arith, (omega arith, tt))))))
+
+pub record LineTaken (p : Part) (text : List ℕ) (at v next : ℕ) : Type 0 where
+  pub taken : Taken p v
+  pub past : at + lineBytes ≤ next
+  pub inside : next ≤ length text
+
+module _ (fault : ℕ → ℕ) (text : List ℕ) (at k v next : ℕ) where
+  by-key : (p : Part) (key : List ℕ) (low high : ℕ) → Taken p v → lineBytes ≤ suc (suc (length key))
+      → tested fault (lineAt key low high text at k) k ≡ L.Number v next → LineTaken p text at v next
+  by-key p key low high t h e =
+      let (long, inside) = line-long key low high text at k v next (tested-number fault _ k v next e) in
+      record { taken = t; past = omega arith; inside = inside }
+
+  pub answer-taken : (p : Part) (s : Stand) → Counted p s
+      → tested fault (lineHere p (s .position) text at k) k ≡ L.Number v next → LineTaken p text at v next
+  answer-taken P.Board s h e = by-key P.Board (bytes "board=") minBoard maxBoard tt (omega arith) e
+  answer-taken P.Tasks s h e =
+      let few = number-within fault (bytes "tasks=") minTasks maxTasks text at k v next e .le-high in
+      by-key P.Tasks (bytes "tasks=") minTasks maxTasks few (omega arith) e
+  answer-taken P.Row s h e =
+      let l = rowLineAt (s .position) in
+      by-key P.Row (l .key) (l .low) (l .high) tt (key-long (s .position) (h .0)) e
+  answer-taken P.Rank s h e = by-key P.Rank (bytes "rank=") minTask maxTask tt (omega arith) e
+  answer-taken P.End s h e = absurd (no-number-at-end fault text at k v next e)

@@ -3,6 +3,7 @@
 use mathlib.Core.Path.{_≡_, refl, sym, ap, ap₂, _∙_}
 use mathlib.Core.Bool.{false}
 use mathlib.Core.List.{List, [], _∷_, _++_}
+use mathlib.Core.Logic.{inl, inr}
 use Prim.Native.Nat.{ℕ, suc, _+_, _-_, _≤_}
 use native.Mathlib.Numerals.{add-one}
 use native.Mathlib.Omega.{arith}
@@ -23,7 +24,7 @@ use Rattle.tables.specs.inside.Numbers.{lineCount}
 use Rattle.tables.specs.inside.Stands.{lineHere, faultIn, standAfter, readBy, Counted, stageIn, stageOf}
 use Rattle.tables.specs.inside.Stands.{Stands, progress, endedBy, reader, On, TakesLine}
 use Rattle.tables.proofs.Keys.{table-plain}
-use Rattle.tables.proofs.Stands.{step-shown, Follows, stand-follows, answer-taken}
+use Rattle.tables.proofs.Stands.{step-shown, Follows, stand-follows, LineTaken, answer-taken}
 
 -- ---- there is a line for each number, and one more where nothing is left
 few-read : (p : Part) (s : Stand) → Counted p s → readBy p s ≤ lineCount
@@ -33,11 +34,12 @@ few-read P.Row s h = omega (arith, h .0, h .1)
 few-read P.Rank s h = omega (arith, h .0, h .1)
 few-read P.End s h = omega (arith, h .0, h .1)
 
-pub line-small : (s : Stand) (k : ℕ) (ns : List ℕ) → Stands s k ns → (1 ≤ k) × (k ≤ suc lineCount)
-line-small s k ns h =
+pub line-small : (text : List ℕ) (at : ℕ) (s : Stand) (k : ℕ) (ns : List ℕ) → Stands text at s k ns
+    → (1 ≤ k) × (k ≤ suc lineCount)
+line-small text at s k ns h =
     let few = few-read (s .part) s (h .counted) in (omega (arith, h .line), omega (arith, h .line))
 
-module _ (p : Progress) (text : List ℕ) (at k : ℕ) (ns : List ℕ) (h : Stands (p .stand) k ns) (l : Line)
+module _ (p : Progress) (text : List ℕ) (at k : ℕ) (ns : List ℕ) (h : Stands text at (p .stand) k ns) (l : Line)
     (is : l
     ≡ tested (faultIn (p .stand .part) (p .stand) ns) (lineHere (p .stand .part) (p .stand .position) text at k) k)
   where
@@ -49,14 +51,14 @@ module _ (p : Progress) (text : List ℕ) (at k : ℕ) (ns : List ℕ) (h : Stan
 
     step-is : (x : Line) → l ≡ x → step (table (s .ranked)) text here at k ≡ onAnswer (table (s .ranked)) here k x
     step-is x e =
-        step-shown (s .ranked) text at k s ns (h .long) (s .part) (h .counted)
+        step-shown (s .ranked) text at k s ns (s .part) (h .long)
         ∙ ap (onAnswer (table (s .ranked)) here k) (sym is ∙ e)
 
     -- ---- no number: the reading ends
     pub takes-end : NoNumber l → (q : Progress) → q ≡ endedBy s l → TakesLine p text at k ns q ns
     takes-end none q e =
         rw e
-        (ends-by reader (On (s .ranked)) (table (s .ranked)) (table-plain (s .ranked)) text here at k l none
+        (ends-by reader (On (s .ranked) text) (table (s .ranked)) (table-plain (s .ranked)) text here at k l none
         (step-is l refl) (endedBy s l, ns) refl refl refl refl (h .counted, h .long))
 
     -- ---- a number: the stage after it
@@ -68,22 +70,29 @@ module _ (p : Progress) (text : List ℕ) (at k : ℕ) (ns : List ℕ) (h : Stan
       there = standAfter (s .part) s v
 
       read-so-far : length ws ≡ readBy (s .part) s
-      read-so-far = length-take-le (readBy (s .part) s) ns (omega (arith, h .long, few-read (s .part) s (h .counted)))
+      read-so-far = length-take-le (readBy (s .part) s) ns (h .long)
+
+      line-taken : LineTaken (s .part) text at v next
+      line-taken = answer-taken (faultIn (s .part) s ns) text at k v next (s .part) s (h .counted) (sym is ∙ e)
 
       follows : Follows (s .ranked) (after (s .ranked) here v) (suc (readBy (s .part) s)) there (ws ++ (v ∷ []))
       follows =
           stand-follows (s .part) (s .ranked) (s .count) (s .left) (s .position) ws v read-so-far (h .counted)
-          (answer-taken (s .part) (s .position) (faultIn (s .part) s ns) text at k v next (sym is ∙ e))
+          (line-taken .taken)
 
-      -- there is room for it
-      pub number-room : k ≤ lineCount
-      number-room = omega (arith, h .line, few-read (there .part) there (follows .counted), follows .read-is)
+      -- there is room for it: for that of each line of any table, or for one for so many bytes
+      pub number-room : k ≤ length ns
+      number-room =
+          elim (h .room) [
+            | inl all ↦ omega (arith, h .line, few-read (there .part) there (follows .counted), follows .read-is)
+            | inr each ↦ omega (arith, h .line, h .bytes, line-taken .past, line-taken .inside)
+          ]
 
       put-behind : take (readBy (there .part) there) (set ns (k - 1) v) ≡ ws ++ (v ∷ [])
       put-behind =
           let before : k - 1 ≡ readBy (s .part) s = omega (arith, h .line) in
           ap₂ (λ m i. take m (set ns i v)) (follows .read-is) before
-          ∙ take-suc-set ns (readBy (s .part) s) v (omega (arith, h .line, h .long, number-room))
+          ∙ take-suc-set ns (readBy (s .part) s) v (omega (arith, h .line, number-room))
 
       pub takes-number : (t : Stand) → t ≡ there
           → TakesLine p text at k ns (progress t false 0 (k + 1) next) (set ns (k - 1) v)
@@ -95,7 +104,9 @@ module _ (p : Progress) (text : List ℕ) (at k : ℕ) (ns : List ℕ) (h : Stan
               stands = (
                 follows .asked,
                 record {
-                  long = length-set ns (k - 1) v ∙ h .long;
+                  room = rw (length-set ns (k - 1) v) (h .room);
+                  bytes = omega (arith, h .bytes, line-taken .past, follows .read-is);
+                  long = omega (arith, h .line, number-room, follows .read-is, length-set ns (k - 1) v);
                   line = omega (arith, h .line, follows .read-is);
                   counted = follows .counted;
                 },

@@ -1,24 +1,29 @@
 -- The table that the code has read, once its reading has ended: the text's own, in the numbers of its lines. The end of
 -- a table is shown by the end of the code's reading only.
 use mathlib.Core.Path.{_≡_, refl, sym, ap, ap₂, _∙_}
-use mathlib.Core.Bool.{Bool}
+use mathlib.Core.Bool.{Bool, true, false, _&&_}
 use mathlib.Core.List.{List}
 use Prim.Native.Nat.{ℕ, _+_, _≤_}
 use native.Mathlib.Omega.{arith}
+use lib.Dec.{eqb}
 use lib.ListN.{length, take, drop}
 use lib.Seq.{getD-take}
+use borrow.Author.Tests.{eqb-true}
+use Rattle.basics.specs.Basics.{pick, distinct}
+use Rattle.basics.proofs.Tests.{and-left}
 use Rattle.grammars.specs.Grammars.{the-end, Verdict, accepted, refused}
 use Rattle.grammars.proofs.Steps.{no-line}
-use Rattle.rows.specs.Rows.{maxTasks}
+use Rattle.rows.specs.Rows.{allTasks}
 use Rattle.rows.proofs.RowNumbers.{rows-length, between-length}
 use Rattle.tables.specs.declared.Reading.{Reading}
 use Rattle.tables.specs.declared.progress.Part.{Part}
 use Rattle.tables.specs.declared.progress.Part.the-variants as P
 use Rattle.tables.specs.declared.progress.Stand.{Stand}
 use Rattle.tables.specs.declared.progress.Progress.{Progress}
-use Rattle.tables.specs.TableLines.{Stage, at-end, expected, turnedDown, tableAt, readTable}
-use Rattle.tables.specs.inside.Numbers.{headCount, lineCount, rowStart, boardIn, rowsIn, behind}
-use Rattle.tables.specs.inside.Stands.{readBy, Counted, stageIn, Ends}
+use Rattle.tables.specs.TableLines.{Stage, at-end, expected, TableRead, turnedDown, tableAt, readTable}
+use Rattle.tables.specs.Claims.{Accepted}
+use Rattle.tables.specs.inside.Numbers.{headCount, rowStart, boardIn, rowsIn, behind}
+use Rattle.tables.specs.inside.Stands.{readBy, stageIn, Ends}
 use Rattle.tables.specs.inside.Readings.{ReadAs}
 use Rattle.tables.proofs.Readings.{verdict, decided, read-is, read}
 use Rattle.tables.proofs.LineNumbers.{rows-front}
@@ -26,24 +31,33 @@ use Rattle.tables.proofs.LineNumbers.{rows-front}
 abbrev reading : ℕ → ℕ → ℕ → Reading
 reading number line count = record { refused = number; line = line; count = count }
 
+-- ---- a sound table has as many ranks as rows, where they are expected
+pub ranks-counted : (ranked : Bool) (a : TableRead) → Accepted ranked a
+    → length (a .order) ≡ pick ranked (length (a .rows)) 0
+ranks-counted true a h =
+    let same = eqb (length (a .order)) (length (a .rows)) in
+    let once = distinct (a .order) in
+    let both = and-left (same && once) (allTasks (a .order) (a .rows)) (h .ranks-possible refl) in
+    eqb-true (length (a .order)) (length (a .rows)) (and-left same once both)
+ranks-counted false a h = ap length (h .no-ranks refl)
+
 -- ---- where nothing more is expected, the numbers so far are the table's
 abbrev endIn : Stand → List ℕ → Stage
 endIn s ns = at-end (boardIn ns) (rowsIn (s .count) ns) (behind (s .count) (s .position) ns)
 
-shown-end : (p : Part) (s : Stand) (ns : List ℕ) → length ns ≡ lineCount → Counted p s
+shown-end : (p : Part) (s : Stand) (ns : List ℕ) → readBy p s ≤ length ns
     → expected (stageIn p s (take (readBy p s) ns)) ≡ the-end
     → (stageIn p s (take (readBy p s) ns) ≡ endIn s ns)
-    × (rowStart (s .count) + s .position ≤ lineCount)
-shown-end P.Board s ns long h e = no-line e
-shown-end P.Tasks s ns long h e = no-line e
-shown-end P.Row s ns long h e = no-line e
-shown-end P.Rank s ns long h e = no-line e
-shown-end P.End s ns long h e =
+    × (rowStart (s .count) + s .position ≤ length ns)
+shown-end P.Board s ns long e = no-line e
+shown-end P.Tasks s ns long e = no-line e
+shown-end P.Row s ns long e = no-line e
+shown-end P.Rank s ns long e = no-line e
+shown-end P.End s ns long e =
     let n = rowStart (s .count) + s .position in
-    let fit : n ≤ lineCount = omega (arith, h .0, h .1) in
     let board = getD-take n ns 0 0 (omega arith) in
-    let rows = rows-front (s .count) n ns (omega arith) (omega arith) in
-    (ap₂ (λ d qs. at-end d qs (behind (s .count) (s .position) ns)) board rows, fit)
+    let rows = rows-front (s .count) n ns (omega arith) long in
+    (ap₂ (λ d qs. at-end d qs (behind (s .count) (s .position) ns)) board rows, long)
 
 module _ (ranked : Bool) (text : List ℕ) (p : Progress) (ns : List ℕ) (ends : Ends (verdict ranked text) p ns) where
   pub as-refused : (p .refused ≡ 0 → ⊥) → ReadAs ranked text ns (reading (p .refused) (p .line) 0)
@@ -74,17 +88,16 @@ module _ (ranked : Bool) (text : List ℕ) (p : Progress) (ns : List ℕ) (ends 
           → ReadAs ranked text ns (reading 0 0 (p .stand .count))
       go (accepted st) e h =
           let s = p .stand in
-          let long = h .2 .1 in
           let last = ap expected (h .1) ∙ decided ranked text .as-written st e .ends in
-          let (stage, fit) = shown-end (s .part) s ns long (h .2 .0) last in
+          let (stage, fit) = shown-end (s .part) s ns (h .2 .1) last in
           let is : readTable ranked text ≡ tableAt (endIn s ns) =
           read-is ranked text (accepted st) e ∙ ap tableAt (sym (h .1) ∙ stage) in
-          let ranks = between-length (rowStart (s .count)) ns (s .position) (omega arith) in
+          let ranks = between-length (rowStart (s .count)) ns (s .position) fit in
           record {
             refused-is = rw is;
             line-is = rw is;
             count-is = rw is (sym (rows-length (s .count) (drop headCount ns)));
-            long = λ z. long;
+            long = λ z. rw is (omega (arith, ranks, fit));
             board-is = λ z. rw is;
             rows-are = λ z. rw is;
             order-is = λ z. rw is (ap (λ m. behind (s .count) m ns) ranks);

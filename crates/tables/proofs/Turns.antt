@@ -3,14 +3,15 @@ use mathlib.Core.Path.{_≡_, refl, subst}
 use mathlib.Core.Bool.{Bool, false}
 use mathlib.Core.List.{List}
 use Prim.Native.Nat.{ℕ, suc, _-_}
+use native.Mathlib.Omega.{arith}
 use lib.ListN.{length}
 use Rattle.grammars.specs.Grammars.{Verdict, step, read}
 use Rattle.grammars.specs.inside.Readers.{Takes}
 use Rattle.grammars.proofs.Loops as Loops
 use Rattle.tables.specs.declared.progress.Progress.{Progress}
 use Rattle.tables.specs.TableLines.{Stage, at-board, table}
-use Rattle.tables.specs.inside.Numbers.{lineCount}
-use Rattle.tables.specs.inside.Stands.{begun, stageOf, reader, On, TakesLine}
+use Rattle.tables.specs.inside.Numbers.{Room}
+use Rattle.tables.specs.inside.Stands.{start, Stands, begun, stageOf, reader, On, TakesLine}
 
 module _ (ranked : Bool) (text : List ℕ) where
   -- all that is to be read
@@ -19,21 +20,22 @@ module _ (ranked : Bool) (text : List ℕ) where
 
   -- where the loop is, with its measure, and after a turn
   abbrev pub Standing : Progress → List ℕ → ℕ → Type 0
-  Standing p ns left = Loops.Standing reader (On ranked) (table ranked) at-board text (p, ns) left
+  Standing p ns left = Loops.Standing reader (On ranked text) (table ranked) at-board text (p, ns) left
 
   abbrev pub Next : ℕ → Progress → List ℕ → Type 0
-  Next left q ms = Loops.Next reader (On ranked) (table ranked) at-board text left (q, ms)
+  Next left q ms = Loops.Next reader (On ranked text) (table ranked) at-board text left (q, ms)
 
   -- before the first line
-  pub begins : (ns : List ℕ) → length ns ≡ lineCount → Standing (begun ranked) ns (suc (length text - 0))
-  begins ns e =
-      Loops.goes refl
-      (record { stands = (refl, record { long = e; line = refl; counted = refl }); same = refl })
+  pub begins : (ns : List ℕ) → Room text ns → Standing (begun ranked) ns (suc (length text - 0))
+  begins ns room =
+      let here : Stands text 0 (start ranked) 1 ns =
+      record { room = room; bytes = omega arith; long = omega arith; line = refl; counted = refl } in
+      Loops.goes refl (record { stands = (refl, here); same = refl })
 
   -- a turn
   pub turn : {p : Progress} {ns : List ℕ} {left : ℕ} → Standing p ns left → p .ended ≡ false → (q : Progress)
       (ms : List ℕ) → TakesLine p text (p .offset) (p .line) ns q ms → Next left q ms
   turn {p} {ns} here go q ms t =
       Loops.turn here go (q, ms)
-      (subst (λ b. Takes reader (On b) (step (table b) text (stageOf (p .stand) ns) (p .offset) (p .line)) (q, ms))
+      (subst (λ b. Takes reader (On b text) (step (table b) text (stageOf (p .stand) ns) (p .offset) (p .line)) (q, ms))
       (Loops.going here go .stands .0) t)

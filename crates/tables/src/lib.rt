@@ -1,7 +1,9 @@
 // A table as text: what is read, and what is refused on which line.
 ghost use mathlib.Core.Path.{_≡_};
+ghost use Prim.Native.Nat.{_*_};
+ghost use lib.Dec.{leb};
 ghost use lib.ListN.{length};
-ghost use Rattle.tables.specs.inside.Numbers.{lineCount};
+ghost use Rattle.tables.specs.inside.Numbers.{lineBytes, fewLines, Room};
 ghost use Rattle.tables.specs.inside.Readings.{ReadAs};
 use reader::read_lines;
 use rows::FIELDS;
@@ -17,6 +19,18 @@ pub const HEAD: usize = 2;
 // A number for each line of the longest table with its rank lines.
 pub const LINES: usize = HEAD + FIELDS * MAX_TASKS + MAX_TASKS;
 
+// The fewest bytes of a line, and the lines of a short text, at most.
+pub const LINE_BYTES: usize = 7;
+
+pub const FEW_LINES: usize = 32;
+
+// Whether a text is short, so that FEW_LINES numbers are room enough.
+pub fn is_short(text: &[u8]) -> bool
+    ensures { λ r. ⌜ r ≡ leb (length (now (text .entry))) (lineBytes * fewLines) ⌝ }
+{
+    text.len() <= LINE_BYTES * FEW_LINES
+}
+
 // What a text reads as: refusal 0 and how many rows the table has, its numbers standing where they were lent; or a
 // refusal's number and its line.
 pub struct Reading {
@@ -25,9 +39,10 @@ pub struct Reading {
     pub count: usize,
 }
 
-// A table as the planner takes it, or with rank lines as the reviewer does: the numbers of its lines, one after another.
-pub fn read_table(text: &[u8], ranked: bool, numbers: &mut [u64; LINES]) -> Reading
-    requires { ⌜ length (now numbers) ≡ lineCount ⌝ }
+// A table as the planner takes it, or with rank lines as the reviewer does: the numbers of its lines stand where they
+// were lent, one after another.
+pub fn read_table(text: &[u8], ranked: bool, numbers: &mut [u64]) -> Reading
+    requires { ⌜ Room (now text) (now numbers) ⌝ }
     ensures { λ r. ⌜ ReadAs ranked (now (text .entry)) (now (numbers .exit)) r ⌝ }
 {
     let read = read_lines(text, ranked, numbers);

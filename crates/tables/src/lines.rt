@@ -6,7 +6,7 @@ ghost use Rattle.grammars.specs.inside.Answers.{tested};
 ghost use Rattle.rows.specs.Rows.{maxTasks};
 ghost use Rattle.rows.specs.Rows.{fieldCount};
 ghost use Rattle.tables.specs.TableLines.{atMost, newTask, newRank};
-ghost use Rattle.tables.specs.inside.Numbers.{lineCount, rowStart, rowsIn, behind};
+ghost use Rattle.tables.specs.inside.Numbers.{rowStart, rowsIn, behind};
 ghost use Rattle.tables.specs.inside.Stands.{rowLineTested, lineHere, faultIn, Stands};
 use super::HEAD;
 use super::progress::Part;
@@ -96,7 +96,8 @@ fn row_line(
     position: usize,
     numbers: &[u64],
 ) -> Line
-    requires { ⌜ (position < fieldCount) × (count < maxTasks) × (length (now numbers) ≡ lineCount) ⌝ }
+    requires { ⌜ (position < fieldCount) × (count < maxTasks) ⌝ }
+    requires { ⌜ rowStart count + position ≤ length (now numbers) ⌝ }
     ensures { λ r. ⌜ r ≡ rowLineTested count position (now (numbers .entry)) (now (text .entry)) at line ⌝ }
 {
     let start = HEAD + FIELDS * count;
@@ -121,7 +122,7 @@ fn row_line(
 
 // The line that is expected, at an offset.
 pub fn expected_line(text: &[u8], at: usize, line: u32, stand: Stand, numbers: &[u64]) -> Line
-    requires { ⌜ Stands stand line (now numbers) ⌝ }
+    requires { ⌜ Stands (now text) at stand line (now numbers) ⌝ }
     ensures { λ r. ⌜ r ≡ tested (faultIn (stand .part) stand (now (numbers .entry)))
         (lineHere (stand .part) (stand .position) (now (text .entry)) at line) line ⌝ }
 {

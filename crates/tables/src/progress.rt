@@ -6,7 +6,6 @@ ghost use Rattle.rows.specs.Rows.{maxTasks};
 ghost use Rattle.rows.specs.Rows.{fieldCount};
 ghost use Rattle.tables.specs.inside.Stands.{begun, ranksNext, rowsNext, afterField, standAfter, Counted};
 ghost use Rattle.tables.specs.inside.Stands.{endedBy, Stands, TakesLine};
-use super::LINES;
 use super::lines::expected_line;
 use rows::FIELDS;
 use text::Line;
@@ -173,9 +172,9 @@ pub fn take_line(
     offset: usize,
     line: u32,
     before: Progress,
-    numbers: &mut [u64; LINES],
+    numbers: &mut [u64],
 ) -> Progress
-    requires { ⌜ Stands (before .stand) line (now numbers) ⌝ }
+    requires { ⌜ Stands (now text) offset (before .stand) line (now numbers) ⌝ }
     ensures { λ p. ⌜ TakesLine before (now (text .entry)) offset line (now (numbers .entry)) p (now (numbers .exit)) ⌝ }
 {
     let stand = before.stand;

@@ -1,11 +1,8 @@
 // The reader walks the lent text line by line and remembers how far it has come.
-ghost use mathlib.Core.Path.{_≡_};
-ghost use lib.ListN.{length};
 ghost use Rattle.grammars.specs.Grammars.{read};
 ghost use Rattle.tables.specs.TableLines.{table, at-board};
-ghost use Rattle.tables.specs.inside.Numbers.{lineCount};
+ghost use Rattle.tables.specs.inside.Numbers.{Room};
 ghost use Rattle.tables.specs.inside.Stands.{Ends};
-use super::LINES;
 use super::progress::Progress;
 use super::progress::take_line;
 
@@ -17,8 +14,8 @@ pub struct Reader<'a> {
 }
 
 // Reads a table line by line, each number behind those before it.
-pub fn read_lines(text: &[u8], ranked: bool, numbers: &mut [u64; LINES]) -> Progress
-    requires { ⌜ length (now numbers) ≡ lineCount ⌝ }
+pub fn read_lines(text: &[u8], ranked: bool, numbers: &mut [u64]) -> Progress
+    requires { ⌜ Room (now text) (now numbers) ⌝ }
     ensures { λ p. ⌜ Ends (read (table ranked) at-board (now (text .entry))) p (now (numbers .exit)) ⌝ }
 {
     let mut r = Reader {

@@ -258,3 +258,53 @@ line-answers key low high text at k =
     ranged-answers Malformed next h l = refuses 1
     ranged-answers (Value v) next h l =
         elim (test-of (within low high v)) [ inl e ↦ rw e (tells v next e h l) | inr e ↦ rw e (refuses 2) ]
+
+-- ---- a line that answers a number has its key, a digit and a line feed at least, and they stand in the text
+numeral-some : (s : List ℕ) (v : ℕ) → numberOf s ≡ Value v → 1 ≤ length s
+unfolding numberOf
+numeral-some [] v e = let z : _≡_ {A = ℕ} 0 1 = cc in absurd (omega arith)
+numeral-some (b ∷ s) v e = omega arith
+
+module _ (key : List ℕ) (low high : ℕ) (text : List ℕ) (at k v next : ℕ) where
+  abbrev here : List ℕ
+  here = lineOf (drop at text)
+
+  abbrev value : List ℕ
+  value = drop (length key) here
+
+  pub line-long : lineAt key low high text at k ≡ L.Number v next
+      → (at + suc (suc (length key)) ≤ next) × (next ≤ length text)
+  unfolding lineAt
+  line-long e =
+      let s = drop at text in
+      elim (test-of (ltb (length here) (length s) && begins key here)) [
+        | inl t ↦
+            let told : ranged (numberOf value) low high k (at + suc (length here)) ≡ L.Number v next =
+            rw t at e in
+            let ended = and-left (ltb (length here) (length s)) (begins key here) t in
+            let inside = ltb-true (length here) (length s) ended in
+            let starts = and-right (ltb (length here) (length s)) (begins key here) t in
+            let is = told-next (numberOf value) refl told in
+            let long = ap length (key-splits key here starts) ∙ length-append key value in
+            (omega (arith, is .0, is .1, long), omega (arith, is .0, inside, length-drop at text))
+        | inr t ↦
+            let none : L.Refused 1 k ≡ L.Number v next = rw t at e in
+            let z : _≡_ {A = ℕ} 0 1 = cc in
+            absurd (omega arith)
+      ]
+    where
+      told-next : (d : Digits) → numberOf value ≡ d
+          → ranged d low high k (at + suc (length here)) ≡ L.Number v next
+          → (at + suc (length here) ≡ next) × (1 ≤ length value)
+      told-next Malformed n h = let z : _≡_ {A = ℕ} 0 1 = cc in absurd (omega arith)
+      told-next (Value u) n h =
+          let some = numeral-some value u n in
+          elim (test-of (within low high u)) [
+            | inl w ↦
+                let same : L.Number u (at + suc (length here)) ≡ L.Number v next = rw w at h in
+                (cc, some)
+            | inr w ↦
+                let none : L.Refused 3 k ≡ L.Number v next = rw w at h in
+                let z : _≡_ {A = ℕ} 0 1 = cc in
+                absurd (omega arith)
+          ]

@@ -6,17 +6,19 @@ use Rattle.tables.proofs.read_table.Tie as tie
 
 returns : tie.Need-returns
 returns c =
-    let r = c .before .before in
-    let a = r .before .before .before .args in
+    let r = c .before .before .before .before in
+    let a = r .before .before .before .before .args in
     as-refused (a .ranked) (a .text .now) (r .read-lines .result) (r .read-lines .last .1 .1 .0)
     (r .read-lines .ensures) (c .if1 .taken)
 
 returns-2 : tie.Need-returns-2
 returns-2 c =
-    let r = c .before .before in
-    let a = r .before .before .before .args in
+    let r = c .before .before .before .before in
+    let a = r .before .before .before .before .args in
     as-table (a .ranked) (a .text .now) (r .read-lines .result) (r .read-lines .last .1 .1 .0)
     (r .read-lines .ensures) (c .if1 .left)
 
 pub read-table-spec : {M : Type 1} → statement M
-read-table-spec = tie.close (tie.spec (λ c κs. search needs) returns returns-2)
+read-table-spec =
+    tie.close
+    (tie.spec (λ c κs. search needs) (λ c. search needs) returns (λ c. search needs) returns-2)

@@ -2,7 +2,7 @@
 use mathlib.Core.Path.{_≡_}
 use mathlib.Core.Bool.{Bool, true, false}
 use mathlib.Core.List.{List}
-use Prim.Native.Nat.{ℕ, zero, suc, _+_, _≤_, _<_}
+use Prim.Native.Nat.{ℕ, zero, suc, _+_, _*_, _≤_, _<_}
 use lib.Dec.{eqb}
 use lib.ListN.{length, take, drop}
 use Rattle.basics.specs.Basics.{pick}
@@ -20,7 +20,7 @@ use Rattle.tables.specs.declared.progress.Stand.{Stand}
 use Rattle.tables.specs.declared.progress.Progress.{Progress}
 use Rattle.tables.specs.TableLines.{minBoard, maxBoard, newRank, rowLineAt}
 use Rattle.tables.specs.TableLines.{Stage, at-board, at-tasks, at-field, at-rank, at-end, table}
-use Rattle.tables.specs.inside.Numbers.{lineCount, rowStart, boardIn, rowsIn, behind}
+use Rattle.tables.specs.inside.Numbers.{lineBytes, Room, rowStart, boardIn, rowsIn, behind}
 
 -- ---- the line that is expected
 abbrev pub fieldLine : ℕ → List ℕ → ℕ → ℕ → Line
@@ -104,9 +104,12 @@ soFar s ns = take (readBy (s .part) s) ns
 abbrev pub stageOf : Stand → List ℕ → Stage
 stageOf s ns = stageIn (s .part) s (soFar s ns)
 
--- a stand before line k, with a number for each line
-pub record Stands (s : Stand) (k : ℕ) (ns : List ℕ) : Type 0 where
-  pub long : length ns ≡ lineCount
+-- a stand before the line k that begins at an offset: each line before it had its bytes, and has its number; and there
+-- is room for more
+pub record Stands (text : List ℕ) (at : ℕ) (s : Stand) (k : ℕ) (ns : List ℕ) : Type 0 where
+  pub room : Room text ns
+  pub bytes : lineBytes * readBy (s .part) s ≤ at
+  pub long : readBy (s .part) s ≤ length ns
   pub line : k ≡ suc (readBy (s .part) s)
   pub counted : Counted (s .part) s
 
@@ -130,12 +133,14 @@ reader = record {
   line = λ x. x .0 .line;
   offset = λ x. x .0 .offset;
   shows = λ x. stageOf (x .0 .stand) (x .1);
-  Whole = λ x. Counted (x .0 .stand .part) (x .0 .stand) × (length (x .1) ≡ lineCount);
+  Whole = λ x.
+      let s = x .0 .stand in Counted (s .part) s × (readBy (s .part) s ≤ length (x .1));
 }
 
 -- before its line
-abbrev pub On : Bool → Progress × List ℕ → Type 0
-On ranked x = (x .0 .stand .ranked ≡ ranked) × Stands (x .0 .stand) (x .0 .line) (x .1)
+abbrev pub On : Bool → List ℕ → Progress × List ℕ → Type 0
+On ranked text x =
+    (x .0 .stand .ranked ≡ ranked) × Stands text (x .0 .offset) (x .0 .stand) (x .0 .line) (x .1)
 
 abbrev pub Ends : Verdict Stage → Progress → List ℕ → Type 0
 Ends v p ns = Readers.Ends reader v (p, ns)
@@ -144,4 +149,4 @@ Ends v p ns = Readers.Ends reader v (p, ns)
 abbrev pub TakesLine : Progress → List ℕ → ℕ → ℕ → List ℕ → Progress → List ℕ → Type 0
 TakesLine p text at k ns q ms =
     let ranked = p .stand .ranked in
-    Takes reader (On ranked) (step (table ranked) text (stageOf (p .stand) ns) at k) (q, ms)
+    Takes reader (On ranked text) (step (table ranked) text (stageOf (p .stand) ns) at k) (q, ms)

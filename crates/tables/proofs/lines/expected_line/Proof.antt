@@ -1,29 +1,35 @@
 -- `tables::lines::expected_line` meets its contract, part by part.
 use mathlib.Core.Path.{_≡_, _∙_, subst}
+use Prim.Native.Nat.{_≤_}
 use native.Mathlib.Omega.{arith}
+use lib.ListN.{length}
 use borrow.Author.Needs.{needs}
 use Rattle.grammars.proofs.Answers.{no-test}
 use Rattle.tables.specs.declared.progress.Part.{Part}
 use Rattle.tables.specs.declared.progress.Part.the-variants as P
-use Rattle.tables.specs.inside.Stands.{Counted}
+use Rattle.tables.specs.inside.Stands.{readBy, Counted}
 use Rattle.tables.proofs.lines.expected_line.Statement.{statement}
 use Rattle.tables.proofs.lines.expected_line.Tie as tie
 
 counted : (c : tie.Start) (p : Part) → c .args .stand .part ≡ p → Counted p (c .args .stand)
 counted c p is = subst (λ q. Counted q (c .args .stand)) is (c .pre .counted)
 
+read-so-far : (c : tie.Start) (p : Part) → c .args .stand .part ≡ p
+    → readBy p (c .args .stand) ≤ length (c .args .numbers .now)
+read-so-far c p is = subst (λ q. readBy q (c .args .stand) ≤ length (c .args .numbers .now)) is (c .pre .long)
+
 row-line-requires : tie.Need-row-line-requires
 row-line-requires c κs =
     let s = c .before .before .before .before in
-    let h = counted s P.Row (c .enum-told3 .given .1) in (h .0, omega (arith, h .1), s .pre .long)
+    let is = c .enum-told3 .given .1 in
+    let h = counted s P.Row is in
+    ((h .0, omega (arith, h .1)), read-so-far s P.Row is)
 
 new-rank-requires : tie.Need-new-rank-requires
 new-rank-requires c κs =
     let s = c .before .before .before .before .before .before in
-    let h = counted s P.Rank (c .before .before .enum-told4 .given .1) in (
-      h .1,
-      omega (arith, h .0, h .1, s .pre .long),
-    )
+    let is = c .before .before .enum-told4 .given .1 in
+    (counted s P.Rank is .1, read-so-far s P.Rank is)
 
 returns : tie.Need-returns
 returns c = rw (c .before .before .enum-told .given .1) (c .line-at .ensures ∙ no-test _ _)

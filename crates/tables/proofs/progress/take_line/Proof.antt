@@ -13,8 +13,8 @@ returns c =
     takes-end (a .before) (a .text .now) (a .offset) (a .line) (a .numbers .now) (s .pre) _
     (m .before .expected-line .ensures) (m .match .keys2) (c .ended-by .result) (c .ended-by .ensures)
 
-element-write-numbers : tie.Need-element-write-numbers
-element-write-numbers c =
+slice-write-numbers : tie.Need-slice-write-numbers
+slice-write-numbers c =
     let s = c .before .before .before .before .before .before .before .before in
     let a = s .args in
     let d = c .before .answer .given in
@@ -25,10 +25,11 @@ element-write-numbers c =
           (c .before .before .before .expected-line .ensures) (d .0 .0) (d .0 .1 .0) (d .1),
     )
 
-add-t17 : tie.Need-add-t17
-add-t17 c =
+add-t16 : tie.Need-add-t16
+add-t16 c =
     let s = c .before .before .before .before .before .before .before .before .before in
-    omega (arith, line-small (s .args .before .stand) (s .args .line) (s .args .numbers .now) (s .pre))
+    let a = s .args in
+    omega (arith, line-small (a .text .now) (a .offset) (a .before .stand) (a .line) (a .numbers .now) (s .pre))
 
 returns-2 : tie.Need-returns-2
 returns-2 c =
@@ -46,10 +47,12 @@ take-line-spec =
     (λ c κs. search needs)
     (λ c. search needs)
     (λ c κs. search needs)
+    (λ c. search needs)
     returns
     (λ c. search needs)
     (λ c. search needs)
-    element-write-numbers
+    slice-write-numbers
     (λ c κs. search needs)
-    add-t17
+    add-t16
+    (λ c. search needs)
     returns-2)

@@ -4,7 +4,7 @@
 -- proof knows of the functions that it calls is that each meets its contract.
 --     St       the loop's state: how far the reading has come, the numbers, and that the reader stands there
 --     turns    a turn from the state: it takes one line, or it leaves the loop and the rest of the body runs
-use Rattle.rows.proofs.Walk.{Array, ArrayOf, Atoms, Bool, Calls, Contract, Env, Fml, Fun, GName, Given, Heap}
+use Rattle.rows.proofs.Walk.{Atoms, Bool, Calls, Contract, Env, Fml, Fun, GName, Given, Heap}
 use Rattle.rows.proofs.Walk.{InvImage·wf, Is, Item, Lft, List, Loops, Meets, Memory, Nat·lt-wfRel, Out, RefT, Routine}
 use Rattle.rows.proofs.Walk.{SProp, Share, ShrSlice, Sq, Stays, Tables, Triple, Ty, URA, Val, WT, Walks, WellFounded}
 use Rattle.rows.proofs.Walk.{Wp, WpFn, WpFn-mono, addr, after, afterBlock, afterSeq, afterTurn, again, agg, alloc0}
@@ -16,29 +16,29 @@ use Rattle.rows.proofs.Walk.{length, lft-end, lft-new, lit, lit<, load, look, l
 use Rattle.rows.proofs.Walk.{nothing, of-opd, onEntry, owned, owns, params1, pass0, pass1, pick, plain, qed, raw, refl}
 use Rattle.rows.proofs.Walk.{returns, rewrite, runs, says, shr-slice-lawful, shr-slice-tells, shrSliceOf, skips}
 use Rattle.rows.proofs.Walk.{slice-vals, sliceTy, sliceVal, some, split, stay-dropped, stop, store, sub, subst}
-use Rattle.rows.proofs.Walk.{suffices, sym, tables, tablesOf, tripleOf, true, tyArray, tyBool, tyInt, tyRef, uint-makes}
-use Rattle.rows.proofs.Walk.{use0, use1, use2, use3, usize, vint, vptr, w64, walk-meets, walkOf, walked, whole, yes, ℕ}
-use Rattle.rows.proofs.Walk.{ !, [], _$_, _<_, _∵_, _∷_, _-_, _≡_, _⊛_, ‵, ⋆}
+use Rattle.rows.proofs.Walk.{suffices, sym, tables, tablesOf, tripleOf, true, tyBool, tyInt, tyRef, uint-makes}
+use Rattle.rows.proofs.Walk.{use0, use1, use2, use3, usize, vint, w64, walk-meets, walkOf, walked, whole, yes, ℕ}
+use Rattle.rows.proofs.Walk.{ !, [], _$_, _<_, _∙_, _∵_, _∷_, _-_, _≡_, _⊛_, ‵, ⋆}
 use Prim.Native.Nat.{suc}
 use Rattle.rows.proofs.Calls.{Asks, calls-left, calls-told}
 use denote.Builtin.{bool, u8, u32, u64}
-use denote.Lend.{LentAgain, lends-again, comes-back}
 use denote.Plain.{bool-makes, bool-tells, bool-vals}
-use denote.Ref.{MutRef, mut-tells, ptr-vals}
-use denote.Slice.{shr-slice-copy}
+use denote.Slice.{MutSlice, Room as Sized, mut-slice-tells, shr-slice-copy}
 use denote.Steps.{only}
 use denote.Struct.Laws as LL
-use denote.Triple.Walked.{goes-ref, needs, stay-ref}
+use denote.Triple.Walked.{goes-slice, needs, stay-slice}
 use lib.Dec.{T as Holds}
 use mathlib.Core.Bool.{false, not}
 use mir.Syntax.{Lifetime, mut, w8, w32}
 use mir.Val.{ofList, vbool, vstruct}
+use types.Kit.{feqL}
 use types.Part.{store-in}
 use types.Run.{Below, un}
 use Rattle.grammars.proofs.Loops.{finished, going}
 use Rattle.tables.specs.declared.progress.Progress.{Progress}
-use Rattle.tables.specs.inside.Numbers.{lineCount}
+use Rattle.tables.specs.inside.Numbers.{Room}
 use Rattle.tables.specs.inside.Stands.{Ends, Stands, TakesLine, begun}
+use Rattle.tables.proofs.Again.{LentAgain, comes-back, lends-again}
 use Rattle.tables.proofs.Turns.{Next, Standing, all, begins, turn}
 use Rattle.tables.proofs.progress.Progress as P
 use Rattle.tables.proofs.progress.Progress.Laws as P′
@@ -62,16 +62,19 @@ stayed = (
   stay-dropped (shrSliceOf (0 ∷ []) tt (plain (λ _. u8))) yes,
   (
     stay-dropped (plain (λ _. bool)) yes,
-    (stay-ref (1 ∷ []) tt (ArrayOf (plain (λ _. u64)) (λ _. tt) lineCount), tt),
+    (stay-slice (1 ∷ []) tt (plain (λ _. u64)), tt),
   ),
 )
 
--- the text, and a reference to the numbers' array
+-- the text, the numbers, and a pointer to them
 abbrev slice : Lifetime → Ty
 slice ℓ = sliceTy (tyRef ℓ imm (tyInt w8))
 
+abbrev pointer : Lifetime → Ty
+pointer ℓ = tyRef ℓ mut (tyInt w64)
+
 abbrev lent : Lifetime → Ty
-lent ℓ = tyRef ℓ mut (tyArray (tyInt w64) lineCount)
+lent ℓ = sliceTy (pointer ℓ)
 
 abbrev pval : Progress → Val
 pval p = LL.val P.the-type P′.the-laws p
@@ -95,36 +98,37 @@ is-ended true h = refl
 is-ended false h = absurd h
 
 -- ---- the loop's state
-record St (ranked : Bool) (text : List ℕ) : Type 0 where
+record St (ranked : Bool) (text : List ℕ) (count : ℕ) : Type 0 where
   p : Progress
   ns : List ℕ
   left : ℕ
+  counted : length ns ≡ count
   is : Is P.the-row p (pval p ∷ [])
   stands : Standing ranked text p ns left
 
-module _ {ranked : Bool} {text : List ℕ} where
-  abbrev Nearer : St ranked text → St ranked text → Type 0
+module _ {ranked : Bool} {text : List ℕ} {count : ℕ} where
+  abbrev Nearer : St ranked text count → St ranked text count → Type 0
   Nearer y x = y .left < x .left
 
   Nearer-wf : WellFounded Nearer
-  Nearer-wf = InvImage·wf (λ (x : St ranked text). x .left) (Nat·lt-wfRel .wf)
+  Nearer-wf = InvImage·wf (λ (x : St ranked text count). x .left) (Nat·lt-wfRel .wf)
 
   -- before the first line
   abbrev opened : (p : Progress) → p ≡ begun ranked → Is P.the-row p (pval p ∷ []) → (ns : List ℕ)
-      → length ns ≡ lineCount → St ranked text
-  opened p e ip ns h =
+      → length ns ≡ count → Room text ns → St ranked text count
+  opened p e ip ns c h =
       let l = suc (length text - 0) in
       let there = subst (λ z. Standing ranked text z ns l) (sym e) (begins ranked text ns h) in
-      record { p = p; ns = ns; left = l; is = ip; stands = there }
+      record { p = p; ns = ns; left = l; counted = c; is = ip; stands = there }
 
-  module _ (x : St ranked text) (go : Holds (not (x .p .ended))) (p′ : Progress) (ms : List ℕ)
+  module _ (x : St ranked text count) (go : Holds (not (x .p .ended))) (p′ : Progress) (ms : List ℕ)
       (t : TakesLine (x .p) text (x .p .offset) (x .p .line) (x .ns) p′ ms) where
     moved : Next ranked text (x .left) p′ ms
     moved = turn ranked text (x .stands) (not-ended (x .p .ended) go) p′ ms t
 
     -- one line more
-    abbrev next : Is P.the-row p′ (pval p′ ∷ []) → St ranked text
-    next ip = record { p = p′; ns = ms; left = moved .fewer; is = ip; stands = moved .there }
+    abbrev next : Is P.the-row p′ (pval p′ ∷ []) → length ms ≡ count → St ranked text count
+    next ip c = record { p = p′; ns = ms; left = moved .fewer; counted = c; is = ip; stands = moved .there }
 
 module _ {M : Type 1} (𝓤 : URA M) (H : Heap 𝓤) (A : Atoms 𝓤) (mem : Memory → SProp 𝓤) (run : Routine → Fun 𝓤) where
   -- the contracts that the proof cites
@@ -143,10 +147,13 @@ module _ {M : Type 1} (𝓤 : URA M) (H : Heap 𝓤) (A : Atoms 𝓤) (W : Given
     (run : Routine → Fun 𝓤) (κ κ′ : Lft) (q r : Share) (s : RefT (List ℕ)) (ranked : Bool) (d e : ℕ) (δ : GName)
     (ns₀ : List ℕ) where
   abbrev State : Type 0
-  State = St ranked (s .now)
+  State = St ranked (s .now) (length ns₀)
 
   abbrev v : Val
   v = sliceVal (s .ptr) (length (s .now))
+
+  abbrev w : Val
+  w = sliceVal (d, e) (length ns₀)
 
   -- the reader where a line begins
   abbrev reader : Progress → Val
@@ -157,7 +164,7 @@ module _ {M : Type 1} (𝓤 : URA M) (H : Heap 𝓤) (A : Atoms 𝓤) (W : Given
   held ε ns = record { ptr = (d, e); name = ε; now = ns }
 
   abbrev Own : Lft → GName → List ℕ → Fml
-  Own ι ε ns = MutRef (named 0) ι (Array u64 lineCount) .own (held ε ns) (vptr d e ∷ [])
+  Own ι ε ns = MutSlice (named 0) ι u64 .own (held ε ns) (w ∷ [])
 
   abbrev OwnText : Fml
   OwnText = ShrSlice (named 0) κ u8 .own s (v ∷ [])
@@ -166,7 +173,7 @@ module _ {M : Type 1} (𝓤 : URA M) (H : Heap 𝓤) (A : Atoms 𝓤) (W : Given
   a = (s, (ranked, (held δ ns₀, tt)))
 
   abbrev at : List Val × (List Val × (List Val × Unit {0}))
-  at = (v ∷ [], (vbool ranked ∷ [], (vptr d e ∷ [], tt)))
+  at = (v ∷ [], (vbool ranked ∷ [], (w ∷ [], tt)))
 
   abbrev Post : Val → SProp 𝓤
   Post = walkOf 𝓤 H A read-lines.ended stayed (read-lines.clauses 𝓤 H A mem run) .post
@@ -194,7 +201,7 @@ module _ {M : Type 1} (𝓤 : URA M) (H : Heap 𝓤) (A : Atoms 𝓤) (W : Given
         (s, (x .p .offset, (x .p .line, (x .p, (held ε (x .ns), tt))))),
         (
           v ∷ [],
-          (vint w64 (x .p .offset) ∷ [], (vint w32 (x .p .line) ∷ [], (pval (x .p) ∷ [], (vptr d e ∷ [], tt)))),
+          (vint w64 (x .p .offset) ∷ [], (vint w32 (x .p .line) ∷ [], (pval (x .p) ∷ [], (w ∷ [], tt)))),
         ),
       ),
       tt,
@@ -203,7 +210,8 @@ module _ {M : Type 1} (𝓤 : URA M) (H : Heap 𝓤) (A : Atoms 𝓤) (W : Given
     abbrev tokens : ℕ → Item 𝓤
     tokens α = ‵ (flft κ q) ⊛ (‵ (flft (α ∷ []) fullShare) ⊛ ‵ ftrue)
 
-    goes-line : (α : ℕ) (ε : GName) → Stands (x .p .stand) (x .p .line) (x .ns)
+    goes-line : (α : ℕ) (ε : GName)
+        → Stands (s .now) (x .p .offset) (x .p .stand) (x .p .line) (x .ns)
         → ent 𝓤 (⋆ 𝓤 H A (tokens α ∷ ‵ OwnText ∷ ‵ (Own (α ∷ []) ε (x .ns)) ∷ []))
         (TakeLine 𝓤 H A mem run .pre (to-line α ε))
     goes-line α ε h =
@@ -221,13 +229,13 @@ module _ {M : Type 1} (𝓤 : URA M) (H : Heap 𝓤) (A : Atoms 𝓤) (W : Given
         qed W (‵ (flft κ q) ∷ ‵ (Own κ′ δ (x .ns)) ∷ ‵ (flft κ′ r) ∷ []) ∵
         suffices ! _ (ends-at 𝓤 H A read-lines.ended stayed (read-lines.clauses 𝓤 H A mem run) W
         (((κ, (κ′, tt)), (q, (r, tt)), tt, a, at), tt) (pval (x .p)) (x .p) (tt, (tt, (x .ns, tt)))
-        (tt, (tt, (tt, tt)))) $ says ! h $
+        (tt, (tt, (x .counted, tt)))) $ says ! h $
         nothing ! $ move ! (3 ∷ 0 ∷ []) $ join ! $ move ! (1 ∷ 0 ∷ []) $ join ! $ frame ! $
         nothing ! $ move ! (1 ∷ 0 ∷ []) $ fjoin ! $ nothing ! $ fjoin ! $ nothing ! $ fjoin ! $ frame ! $
         owned ! P.the-row (Is P.the-row) (LL.makes P.the-type P′.the-plain 𝓤 H A) (x .p) _ (x .is) $ done !
 
   module _ (𝓣 : Tables 𝓤 H) (known : Known 𝓤 H A mem run (𝓣 .C)) (is : Is (ShrSlice (named 0) κ u8) s (v ∷ []))
-      (l₀ l₁ l₂ l₃ l₄ l₅ l₆ l₇ l₈ l₉ l₁₀ : ℕ) where
+      (sized : Sized u64 (length ns₀)) (l₀ l₁ l₂ l₃ l₄ l₅ l₆ l₇ l₈ l₉ l₁₀ l₁₁ : ℕ) where
     abbrev C : Calls 𝓤 H
     C = 𝓣 .C
 
@@ -238,19 +246,20 @@ module _ {M : Type 1} (𝓤 : URA M) (H : Heap 𝓤) (A : Atoms 𝓤) (W : Given
     En =
         (P′.mir, l₀) ∷ (slice (named 0), l₁) ∷ (tyBool, l₂) ∷ (lent (named 1), l₃) ∷ (T′.mir erased, l₄)
         ∷ (P′.mir, l₅) ∷ (tyBool, l₆) ∷ (slice erased, l₇) ∷ (tyInt w64, l₈) ∷ (tyInt w32, l₉)
-        ∷ (lent erased, l₁₀) ∷ []
+        ∷ (pointer erased, l₁₀) ∷ (lent erased, l₁₁) ∷ []
 
     -- what the text owns and its token, the numbers and theirs, and the locals
     abbrev At : State → List (Item 𝓤)
     At x =
         ‵ OwnText ∷ ‵ (flft κ q) ∷ ‵ (Own κ′ δ (x .ns)) ∷ ‵ (flft κ′ r)
-        ∷ ‵ (froom (lent erased) l₁₀ 0) ∷ ‵ (fdies (lent erased) l₁₀)
+        ∷ ‵ (froom (lent erased) l₁₁ 0) ∷ ‵ (fdies (lent erased) l₁₁)
+        ∷ ‵ (froom (pointer erased) l₁₀ 0) ∷ ‵ (fdies (pointer erased) l₁₀)
         ∷ ‵ (froom (tyInt w32) l₉ 0) ∷ ‵ (fdies (tyInt w32) l₉)
         ∷ ‵ (froom (tyInt w64) l₈ 0) ∷ ‵ (fdies (tyInt w64) l₈)
         ∷ ‵ (froom (slice erased) l₇ 0) ∷ ‵ (fdies (slice erased) l₇) ∷ ‵ (froom tyBool l₆ 0) ∷ ‵ (fdies tyBool l₆)
         ∷ ‵ (fat fullShare P′.mir l₅ 0 (pval (x .p))) ∷ ‵ (fdies P′.mir l₅)
         ∷ ‵ (fat fullShare (T′.mir erased) l₄ 0 (reader (x .p))) ∷ ‵ (fdies (T′.mir erased) l₄)
-        ∷ ‵ (fat fullShare (lent (named 1)) l₃ 0 (vptr d e)) ∷ ‵ (fdies (lent (named 1)) l₃)
+        ∷ ‵ (fat fullShare (lent (named 1)) l₃ 0 w) ∷ ‵ (fdies (lent (named 1)) l₃)
         ∷ ‵ (fat fullShare tyBool l₂ 0 (vbool ranked)) ∷ ‵ (fdies tyBool l₂)
         ∷ ‵ (fat fullShare (slice (named 0)) l₁ 0 v) ∷ ‵ (fdies (slice (named 0)) l₁)
         ∷ ‵ (froom P′.mir l₀ 0) ∷ ‵ (fdies P′.mir l₀) ∷ []
@@ -264,59 +273,66 @@ module _ {M : Type 1} (𝓤 : URA M) (H : Heap 𝓤) (A : Atoms 𝓤) (W : Given
     turns : (x : State) → Sq W (At x) (runs C Λ En turn-1 (anyQ (Turned x)))
     unfolding afterTurn
     turns x =
-        assigns ! (un ! (load ! (from ! (fld ! refl (stop !))) (look-in ! 14 (sub ! 1 refl (whole !)))) tt)
-        (from ! (stop !)) (init ! 12 refl (tt, tt)) $
-        first ! $ branches ! (load ! (from ! (stop !)) (look ! 12 refl))
+        assigns ! (un ! (load ! (from ! (fld ! refl (stop !))) (look-in ! 16 (sub ! 1 refl (whole !)))) tt)
+        (from ! (stop !)) (init ! 14 refl (tt, tt)) $
+        first ! $ branches ! (load ! (from ! (stop !)) (look ! 14 refl))
         (λ go. skips ! $ exec ! C Λ En (after (after turn-1)) (anyQ (Turned x)) $
-        assigns ! (of-opd ! (load ! (from ! (fld ! refl (stop !))) (look-in ! 16 (sub ! 0 refl (whole !)))))
-        (from ! (stop !)) (init ! 10 refl (tt, shr-slice-lawful 𝓤 H A W (named 0) κ u8 .typed s (v ∷ []) is .0 .1)) $
-        assigns ! (of-opd ! (load ! (from ! (fld ! refl (stop !))) (look-in ! 16 (sub ! 1 refl (whole !)))))
-        (from ! (stop !)) (init ! 8 refl (tt, offset-fits (x .p) _ (x .is))) $
-        assigns ! (of-opd ! (load ! (from ! (fld ! refl (stop !))) (look-in ! 16 (sub ! 2 refl (whole !)))))
-        (from ! (stop !)) (init ! 6 refl (tt, line-fits (x .p) _ (x .is))) $
-        assigns ! (addr ! (from ! (hop ! (look ! 18 refl) (stop !)))) (from ! (stop !)) (init ! 4 refl (tt, tt)) $
+        assigns ! (of-opd ! (load ! (from ! (fld ! refl (stop !))) (look-in ! 18 (sub ! 0 refl (whole !)))))
+        (from ! (stop !)) (init ! 12 refl (tt, shr-slice-lawful 𝓤 H A W (named 0) κ u8 .typed s (v ∷ []) is .0 .1)) $
+        assigns ! (of-opd ! (load ! (from ! (fld ! refl (stop !))) (look-in ! 18 (sub ! 1 refl (whole !)))))
+        (from ! (stop !)) (init ! 10 refl (tt, offset-fits (x .p) _ (x .is))) $
+        assigns ! (of-opd ! (load ! (from ! (fld ! refl (stop !))) (look-in ! 18 (sub ! 2 refl (whole !)))))
+        (from ! (stop !)) (init ! 8 refl (tt, line-fits (x .p) _ (x .is))) $
+        assigns ! (addr ! (from ! (fld ! refl (hop ! (look-in ! 20 (sub ! 0 refl (whole !))) (stop !)))))
+        (from ! (stop !)) (init ! 6 refl (tt, tt)) $
+        assigns ! (agg ! (and-then ! (load ! (from ! (stop !)) (look ! 6 refl))
+        (and-then ! (load ! (from ! (fld ! refl (stop !))) (look-in ! 20 (sub ! 1 refl (whole !)))) (no-more !))))
+        (from ! (stop !)) (init ! 4 refl (tt, (tt, (record { fits = sized .0 }, tt)))) $
         use1 W (‵ OwnText ⊛ ‵ OwnText) (shr-slice-copy 𝓤 H A W (named 0) κ u8 .twice s (v ∷ [])) $ split ! $
         -- the numbers are lent again, for a lifetime α of the call
         lft-new ! tt (λ α. move ! (4 ∷ 5 ∷ []) $
         use2 W (later (some (λ (ε : GName). ‵ (Own (α ∷ []) ε (x .ns))
-        ⊛ ‵ (LentAgain (Array u64 lineCount) κ′ (α ∷ []) r δ d e ε (x .ns)))))
-        (lends-again 𝓤 H A W (Array u64 lineCount) (named 0) κ′ (α ∷ []) r δ d e (named 0) (x .ns)) $ await ! tt $
-        -- [the numbers, lent; what is had of them; α's token; what the text owns, twice; its token; _10; …]
+        ⊛ ‵ (LentAgain u64 κ′ (α ∷ []) r δ d e ε (x .ns)))))
+        (lends-again u64 κ′ (α ∷ []) r δ d e 𝓤 H A W (named 0) (named 0) (x .ns) (length ns₀) (x .counted)) $
+        await ! tt $
+        -- [the numbers, lent; what is had of them; α's token; what the text owns, twice; its token; _11; …]
         pick ! (λ ε. split ! $ nothing ! $ move ! (3 ∷ 0 ∷ []) $ join ! $ move ! (5 ∷ 0 ∷ []) $ join ! $
         move ! (0 ∷ 3 ∷ 1 ∷ []) $
         use3 W (raw (TakeLine 𝓤 H A mem run .pre (to-line x α ε)))
         (goes-line x α ε (going (x .stands) (not-ended _ go) .stands .1)) $
-        -- [what `take_line` asks; what is had of the numbers; what the text owns; _10; …]
+        -- [what `take_line` asks; what is had of the numbers; what the text owns; _11; …]
         calls-left ! (fmOf 𝓤 H (W .laws) 𝓣) take-line.ended (take-line.clauses 𝓤 H A mem run) (known .take-line)
         (to-line x α ε) (tokens x α) refl
         (λ p ws. TakesLine (x .p) (s .now) (x .p .offset) (x .p .line) (x .ns) p (ws .1 .1 .1 .1 .0)) (λ p ws. refl)
-        (and-then ! (load ! (from ! (stop !)) (look ! 9 refl)) (and-then ! (load ! (from ! (stop !)) (look ! 7 refl))
-        (and-then ! (load ! (from ! (stop !)) (look ! 5 refl)) (and-then ! (load ! (from ! (stop !)) (look ! 13 refl))
+        (and-then ! (load ! (from ! (stop !)) (look ! 11 refl)) (and-then ! (load ! (from ! (stop !)) (look ! 9 refl))
+        (and-then ! (load ! (from ! (stop !)) (look ! 7 refl)) (and-then ! (load ! (from ! (stop !)) (look ! 15 refl))
         (and-then ! (load ! (from ! (stop !)) (look ! 3 refl)) (no-more !))))))
         (λ u p ws t ip. drop ! $
-        land ! (from ! (stop !)) (store ! 14 refl (typed p u ip)) $
-        rewrite ! 14 (λ (w : Val). ‵ (fat fullShare P′.mir l₅ 0 w))
+        land ! (from ! (stop !)) (store ! 16 refl (typed p u ip)) $
+        rewrite ! 16 (λ (z : Val). ‵ (fat fullShare P′.mir l₅ 0 z))
         (ap only (LL.tells P.the-type P′.the-laws p (u ∷ []) ip)) refl $
         -- the lifetime ends, and the numbers come back as `take_line` left them
         fsplit ! $ drop ! $ fsplit ! $ drop ! $ fsplit ! $ drop ! $ fsplit ! $ drop ! $ fsplit ! $ move ! (1 ∷ []) $
-        drop ! $ move ! (1 ∷ []) $ split ! $ move ! (1 ∷ []) $ split ! $ lft-end ! tt $ move ! (0 ∷ 4 ∷ 3 ∷ []) $
+        drop ! $ fsplit ! $ move ! (1 ∷ []) $ feqL ! (λ long. move ! (1 ∷ []) $ split ! $ move ! (1 ∷ []) $ split ! $
+        lft-end ! tt $ move ! (0 ∷ 4 ∷ 3 ∷ []) $
         use3 W (later (‵ (Own κ′ δ (ws .1 .1 .1 .1 .0)) ⊛ ‵ (flft κ′ r)))
-        (comes-back 𝓤 H A W (Array u64 lineCount) (named 0) κ′ (α ∷ []) r δ d e ε (x .ns) (ws .1 .1 .1 .1 .0)) $
+        (comes-back u64 κ′ (α ∷ []) r δ d e 𝓤 H A W (named 0) (named 0) (x .ns) (length ns₀) (x .counted) ε
+        (ws .1 .1 .1 .1 .0) sized long) $
         await ! tt $ split ! $
-        -- [the numbers; their token; true; the text's token; what the text owns; _10; …]
+        -- [the numbers; their token; true; the text's token; what the text owns; _11; …]
         move ! (2 ∷ []) $ drop ! $ move ! (3 ∷ 2 ∷ []) $
-        assigns ! (of-opd ! (load ! (from ! (fld ! refl (stop !))) (look-in ! 14 (sub ! 4 refl (whole !)))))
-        (from ! (fld ! refl (stop !))) (store-in ! 16 (sub ! 1 refl (whole !)) (tt, offset-fits p u ip)) $
-        assigns-last ! (of-opd ! (load ! (from ! (fld ! refl (stop !))) (look-in ! 14 (sub ! 3 refl (whole !)))))
-        (from ! (fld ! refl (stop !))) (store-in ! 16 (sub ! 2 refl (whole !)) (tt, line-fits p u ip)) $
-        forget ! 4 refl $ forget ! 6 refl $ forget ! 8 refl $ forget ! 10 refl $ forget ! 12 refl $
-        again ! Nearer At x (next x go p (ws .1 .1 .1 .1 .0) t (at-val p u ip))
-        (moved x go p (ws .1 .1 .1 .1 .0) t .less)))))
+        assigns ! (of-opd ! (load ! (from ! (fld ! refl (stop !))) (look-in ! 16 (sub ! 4 refl (whole !)))))
+        (from ! (fld ! refl (stop !))) (store-in ! 18 (sub ! 1 refl (whole !)) (tt, offset-fits p u ip)) $
+        assigns-last ! (of-opd ! (load ! (from ! (fld ! refl (stop !))) (look-in ! 16 (sub ! 3 refl (whole !)))))
+        (from ! (fld ! refl (stop !))) (store-in ! 18 (sub ! 2 refl (whole !)) (tt, line-fits p u ip)) $
+        forget ! 4 refl $ forget ! 6 refl $ forget ! 8 refl $ forget ! 10 refl $ forget ! 12 refl $ forget ! 14 refl $
+        again ! Nearer At x (next x go p (ws .1 .1 .1 .1 .0) t (at-val p u ip) (long ∙ x .counted))
+        (moved x go p (ws .1 .1 .1 .1 .0) t .less))))))
         (λ none. jumps ! $ exec ! C Λ En t-4 (atRet En Post) $
-        assigns ! (of-opd ! (load ! (from ! (stop !)) (look ! 14 refl))) (from ! (stop !))
-        (init ! 24 refl (typed (x .p) (pval (x .p)) (x .is))) $
-        returns ! (look ! 24 refl) $ forget ! 12 refl $ forget ! 14 refl $ forget ! 16 refl $ forget ! 18 refl $
-        forget ! 20 refl $ forget ! 22 refl $ forget ! 24 refl $
+        assigns ! (of-opd ! (load ! (from ! (stop !)) (look ! 16 refl))) (from ! (stop !))
+        (init ! 26 refl (typed (x .p) (pval (x .p)) (x .is))) $
+        returns ! (look ! 26 refl) $ forget ! 14 refl $ forget ! 16 refl $ forget ! 18 refl $ forget ! 20 refl $
+        forget ! 22 refl $ forget ! 24 refl $ forget ! 26 refl $ move ! (26 ∷ 27 ∷ []) $ free1 ! $
         move ! (24 ∷ 25 ∷ []) $ free1 ! $ move ! (22 ∷ 23 ∷ []) $ free1 ! $ move ! (20 ∷ 21 ∷ []) $ free1 ! $
         move ! (18 ∷ 19 ∷ []) $ free1 ! $ move ! (16 ∷ 17 ∷ []) $ free1 ! $ move ! (14 ∷ 15 ∷ []) $ free1 ! $
         move ! (12 ∷ 13 ∷ []) $ free1 ! $ move ! (10 ∷ 11 ∷ []) $ free1 ! $ move ! (8 ∷ 9 ∷ []) $ free1 ! $
@@ -328,35 +344,37 @@ module _ {M : Type 1} (𝓤 : URA M) (H : Heap 𝓤) (A : Atoms 𝓤) (W : Given
     looped x = first ! $ blocks ! $ loops ! 𝓣 Nearer Nearer-wf At turns x
 
   module _ (𝓣 : Tables 𝓤 H) (known : Known 𝓤 H A mem run (𝓣 .C)) where
-    walk : Is (ShrSlice (named 0) κ u8) s (v ∷ []) → length ns₀ ≡ lineCount
+    walk : Is (ShrSlice (named 0) κ u8) s (v ∷ []) → Sized u64 (length ns₀) → Room (s .now) ns₀
         → ent 𝓤 (onEntry 𝓤 H A read-lines.signature (κ, (κ′, tt)) (q, (r, tt)) a at)
-        (WpFn 𝓤 H (𝓣 .C) (𝓣 .Λ) code.function (v ∷ vbool ranked ∷ vptr d e ∷ []) Post)
-    walk is h =
+        (WpFn 𝓤 H (𝓣 .C) (𝓣 .Λ) code.function (v ∷ vbool ranked ∷ w ∷ []) Post)
+    walk is sized h =
         let ok = shr-slice-lawful 𝓤 H A W (named 0) κ u8 .typed s (v ∷ []) is .0 in
         qed W ((‵ (flft κ q) ⊛ (‵ (flft κ′ r) ⊛ ‵ ftrue))
-        ∷ ‵ (owns (ShrSlice (named 0) κ u8 ∷ bool ∷ MutRef (named 1) κ′ (Array u64 lineCount) ∷ []) a at) ∷ []) ∵
-        enter ! (𝓣 .C) (𝓣 .Λ) code.function (v ∷ vbool ranked ∷ vptr d e ∷ []) _ $
+        ∷ ‵ (owns (ShrSlice (named 0) κ u8 ∷ bool ∷ MutSlice (named 1) κ′ u64 ∷ []) a at) ∷ []) ∵
+        enter ! (𝓣 .C) (𝓣 .Λ) code.function (v ∷ vbool ranked ∷ w ∷ []) _ $
         alloc1 ! (λ l₀. alloc1 ! (λ l₁. alloc1 ! (λ l₂. alloc1 ! (λ l₃. alloc1 ! (λ l₄. alloc1 ! (λ l₅. alloc1 ! (λ l₆.
-        alloc1 ! (λ l₇. alloc1 ! (λ l₈. alloc1 ! (λ l₉. alloc1 ! (λ l₁₀. alloc0 ! $ params1 ! $
-        pass1 ! (init ! 18 refl ok) $ pass1 ! (init ! 16 refl (tt, tt)) $ pass1 ! (init ! 14 refl (tt, tt)) $ pass0 ! $
-        assigns ! (agg ! (and-then ! (load ! (from ! (stop !)) (look ! 18 refl))
+        alloc1 ! (λ l₇. alloc1 ! (λ l₈. alloc1 ! (λ l₉. alloc1 ! (λ l₁₀. alloc1 ! (λ l₁₁. alloc0 ! $ params1 ! $
+        pass1 ! (init ! 20 refl ok) $ pass1 ! (init ! 18 refl (tt, tt)) $
+        pass1 ! (init ! 16 refl (tt, (tt, (record { fits = sized .0 }, tt)))) $ pass0 ! $
+        assigns ! (agg ! (and-then ! (load ! (from ! (stop !)) (look ! 20 refl))
         (and-then ! (lit ! tt) (and-then ! (lit ! tt) (no-more !))))) (from ! (stop !))
-        (init ! 12 refl (tt, (ok .1, (record { fits = lit< tt }, (record { fits = lit< tt }, tt))))) $
+        (init ! 14 refl (tt, (ok .1, (record { fits = lit< tt }, (record { fits = lit< tt }, tt))))) $
         use0 W (raw (Start 𝓤 H A mem run .pre to-start)) goes-start $
-        -- [what `start` asks; _10; …; _0; …; the tokens; what the parameters own]
+        -- [what `start` asks; _11; …; _0; …; the tokens; what the parameters own]
         calls-told ! (fmOf 𝓤 H (W .laws) 𝓣) start.ended (start.clauses 𝓤 H A mem run) (known .start) to-start
         (‵ ftrue) refl (λ (p : Progress). p ≡ begun ranked) (λ p _. refl)
-        (and-then ! (load ! (from ! (stop !)) (look ! 17 refl)) (no-more !))
+        (and-then ! (load ! (from ! (stop !)) (look ! 19 refl)) (no-more !))
         (λ u p b ip. drop ! $ drop ! $
-        land ! (from ! (stop !)) (init ! 10 refl (typed p u ip)) $
-        rewrite ! 10 (λ (w : Val). ‵ (fat fullShare P′.mir l₅ 0 w))
+        land ! (from ! (stop !)) (init ! 12 refl (typed p u ip)) $
+        rewrite ! 12 (λ (z : Val). ‵ (fat fullShare P′.mir l₅ 0 z))
         (ap only (LL.tells P.the-type P′.the-laws p (u ∷ []) ip)) refl $
-        rewrite ! 12 (λ (z : Progress). ‵ (fat fullShare (T′.mir erased) l₄ 0 (reader z))) (sym b) refl $
-        move ! (23 ∷ []) $ fsplit ! $ move ! (1 ∷ []) $ fsplit ! $ drop ! $ fsplit ! $ move ! (1 ∷ []) $ drop ! $
-        move ! (24 ∷ []) $ split ! $ move ! (1 ∷ []) $ split ! $ move ! (1 ∷ []) $ drop ! $
-        -- [the numbers' token; the text's; the numbers; what the text owns; _10; …; _0; …]
+        rewrite ! 14 (λ (z : Progress). ‵ (fat fullShare (T′.mir erased) l₄ 0 (reader z))) (sym b) refl $
+        move ! (25 ∷ []) $ fsplit ! $ move ! (1 ∷ []) $ fsplit ! $ drop ! $ fsplit ! $ move ! (1 ∷ []) $ drop ! $
+        move ! (26 ∷ []) $ split ! $ move ! (1 ∷ []) $ split ! $ move ! (1 ∷ []) $ drop ! $
+        -- [the numbers' token; the text's; the numbers; what the text owns; _11; …; _0; …]
         move ! (3 ∷ 1 ∷ 2 ∷ []) $
-        looped 𝓣 known is l₀ l₁ l₂ l₃ l₄ l₅ l₆ l₇ l₈ l₉ l₁₀ (opened p b (at-val p u ip) ns₀ h)))))))))))))
+        looped 𝓣 known is sized l₀ l₁ l₂ l₃ l₄ l₅ l₆ l₇ l₈ l₉ l₁₀ l₁₁
+        (opened p b (at-val p u ip) ns₀ refl h))))))))))))))
 
 module _ {M : Type 1} (𝓤 : URA M) (H : Heap 𝓤) (A : Atoms 𝓤) (W : Given 𝓤 H A) (mem : Memory → SProp 𝓤)
     (run : Routine → Fun 𝓤) (𝓣 : Tables 𝓤 H) (known : Known 𝓤 H A mem run (𝓣 .C)) where
@@ -364,14 +382,14 @@ module _ {M : Type 1} (𝓤 : URA M) (H : Heap 𝓤) (A : Atoms 𝓤) (W : Given
       (read-lines.clauses 𝓤 H A mem run)
   read-lines-walks =
       walked 𝓤 H A read-lines.ended stayed (read-lines.clauses 𝓤 H A mem run) (WpFn 𝓤 H (𝓣 .C) (𝓣 .Λ) code.function)
-      (λ κs. (slice-vals, (bool-vals, (ptr-vals, tt))))
+      (λ κs. (slice-vals, (bool-vals, (slice-vals, tt))))
       (λ κs. (
         shr-slice-tells (named 0) (κs .0) u8,
-        (bool-tells, (mut-tells (named 1) (κs .1 .0) (Array u64 lineCount), tt)),
+        (bool-tells, (mut-slice-tells (named 1) (κs .1 .0) u64, tt)),
       ))
       (λ κs qs bounds a g are. needs 𝓤 _ _
       (walk 𝓤 H A W mem run (κs .0) (κs .1 .0) (qs .0) (qs .1 .0) (a .0) (a .1 .0) (a .1 .1 .0 .ptr .0)
-      (a .1 .1 .0 .ptr .1) (a .1 .1 .0 .name) (a .1 .1 .0 .now) 𝓣 known (are .0)))
+      (a .1 .1 .0 .ptr .1) (a .1 .1 .0 .name) (a .1 .1 .0 .now) 𝓣 known (are .0) (are .1 .1 .0 .0 .1)))
 
   read-lines-meets : Meets 𝓤 H A read-lines.signature (WpFn 𝓤 H (𝓣 .C) (𝓣 .Λ) code.function)
       (read-lines.spec 𝓤 H A mem run)
@@ -380,7 +398,7 @@ module _ {M : Type 1} (𝓤 : URA M) (H : Heap 𝓤) (A : Atoms 𝓤) (W : Given
         goes-dropped 𝓤 H A W 2 (shrSliceOf (0 ∷ []) tt (plain (λ _. u8))) yes (λ κs x f. refl),
         (
           goes-dropped 𝓤 H A W 2 (plain (λ _. bool)) yes (λ κs x f. refl),
-          (goes-ref 𝓤 H A W 2 1 tt (ArrayOf (plain (λ _. u64)) (λ _. tt) lineCount), tt),
+          (goes-slice 𝓤 H A W 2 1 tt (plain (λ _. u64)), tt),
         ),
       )
       (read-lines.clauses 𝓤 H A mem run) (WpFn 𝓤 H (𝓣 .C) (𝓣 .Λ) code.function)
