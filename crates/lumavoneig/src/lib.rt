@@ -1,6 +1,6 @@
 // The calls for programs in other languages: the answer's number, place and length go to a buffer of their own.
 ghost use mathlib.Core.Path.{_≡_};
-ghost use Rattle.ranks.specs.Demands.{PlanSays, ReviewSays};
+ghost use Rattle.demands.specs.Demands.{PlanSays, ReviewSays};
 ghost use Rattle.lumavoneig.specs.Answers.{answered, Answers};
 use plans::Answer;
 

@@ -31,11 +31,11 @@ use Rattle.orders.proofs.Tasks.{rows-for}
 use Rattle.boards.specs.Claims.{NoneLate}
 use Rattle.plans.specs.Outcomes.{refuses, planOf, ifInTime}
 use Rattle.plans.proofs.Outcomes.{timely-outcome}
-use Rattle.ranks.specs.Calls.{ifOrdered, planned, givenOrder, reviewed}
-use Rattle.ranks.proofs.Texts.{Accepts}
-use Rattle.ranks.proofs.Outcomes.{on-accepted}
-use Rattle.ranks.proofs.Planner as Planner
-use Rattle.ranks.proofs.Reviewer as Reviewer
+use Rattle.demands.specs.Calls.{ifOrdered, planned, givenOrder, reviewed}
+use Rattle.demands.proofs.Texts.{Accepts}
+use Rattle.demands.proofs.Outcomes.{on-accepted}
+use Rattle.demands.proofs.Planner as Planner
+use Rattle.demands.proofs.Reviewer as Reviewer
 use Rattle.ranks.proofs.Readings.{count-is, rows-front, few, board-is}
 
 in-time-plan : (room board : ℕ) (order : List Row) → NoneLate order

@@ -15,9 +15,9 @@ use Rattle.tables.specs.Claims.{Accepted}
 use Rattle.tables.proofs.Readings.{read}
 use Rattle.orders.specs.inside.Search.{TableRows, Lent}
 use Rattle.plans.specs.Outcomes.{Outcome, refuses}
-use Rattle.ranks.specs.Calls.{onTable}
-use Rattle.ranks.proofs.Texts.{Accepts}
-use Rattle.ranks.proofs.Outcomes.{on-turned-down}
+use Rattle.demands.specs.Calls.{onTable}
+use Rattle.demands.proofs.Texts.{Accepts}
+use Rattle.demands.proofs.Outcomes.{on-turned-down}
 
 module _ (ranked : Bool) (text : List ℕ) (r : Reading) (is : r ≡ reading (readTable ranked text)) where
   abbrev answer : TableRead

@@ -1,8 +1,8 @@
 // The public calls: a table's plan, the figures of an order chosen by hand, and what the programs print.
 ghost use Rattle.io.specs.Counts.{Counts};
 ghost use Rattle.text.specs.Buffers.{Wrote};
-ghost use Rattle.ranks.specs.Calls.{plannerPrints, reviewerPrints};
-ghost use Rattle.ranks.specs.Demands.{PlanSays, ReviewSays};
+ghost use Rattle.demands.specs.Calls.{plannerPrints, reviewerPrints};
+ghost use Rattle.demands.specs.Demands.{PlanSays, ReviewSays};
 use orders::order_of_first;
 pub use plans::Answer;
 pub use plans::ROOM;

@@ -7,9 +7,9 @@ use lib.ListN.{length}
 use Rattle.text.proofs.Puts.{wrote-counts}
 use Rattle.plans.specs.Plans.{planRoom}
 use Rattle.plans.proofs.Outcomes.{prints}
-use Rattle.ranks.specs.Calls.{planned}
-use Rattle.ranks.specs.Demands.{plannerRefusals}
-use Rattle.ranks.proofs.Outcomes.{numbered}
+use Rattle.demands.specs.Calls.{planned}
+use Rattle.demands.specs.Demands.{plannerRefusals}
+use Rattle.demands.proofs.Outcomes.{numbered}
 use Rattle.ranks.proofs.print_plan.Statement.{statement}
 use Rattle.ranks.proofs.print_plan.Tie as tie
 

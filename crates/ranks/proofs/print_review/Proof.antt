@@ -7,9 +7,9 @@ use lib.ListN.{length}
 use Rattle.text.proofs.Puts.{wrote-counts}
 use Rattle.plans.specs.Plans.{planRoom}
 use Rattle.plans.proofs.Outcomes.{prints}
-use Rattle.ranks.specs.Calls.{reviewed}
-use Rattle.ranks.specs.Demands.{reviewerRefusals}
-use Rattle.ranks.proofs.Outcomes.{numbered}
+use Rattle.demands.specs.Calls.{reviewed}
+use Rattle.demands.specs.Demands.{reviewerRefusals}
+use Rattle.demands.proofs.Outcomes.{numbered}
 use Rattle.ranks.proofs.print_review.Statement.{statement}
 use Rattle.ranks.proofs.print_review.Tie as tie
 

@@ -11,9 +11,9 @@ use lib.ListN.{length, take}
 use Rattle.rows.specs.Rows.{inRange, allRows}
 use Rattle.plans.specs.Outcomes.{Outcome, ifInTime, Written}
 use Rattle.plans.proofs.Outcomes.{refused}
-use Rattle.ranks.specs.Calls.{givenOrder}
-use Rattle.ranks.proofs.Texts.{Accepts}
-use Rattle.ranks.proofs.Reviewer.{review-demands, decided}
+use Rattle.demands.specs.Calls.{givenOrder}
+use Rattle.demands.proofs.Texts.{Accepts}
+use Rattle.demands.proofs.Reviewer.{review-demands, decided}
 use Rattle.ranks.proofs.Readings.{accepts, refusal-is, few, board-fits}
 use Rattle.ranks.proofs.Orders.{given-few, given-rows, given-ranged, given-plan}
 use Rattle.ranks.proofs.review_order.Statement.{statement}

@@ -14,8 +14,8 @@ use Rattle.rows.specs.Rows.{inRange, allRows}
 use Rattle.rows.specs.declared.Row.{Row}
 use Rattle.plans.specs.Outcomes.{Outcome, ifInTime, Written}
 use Rattle.plans.proofs.Outcomes.{refused}
-use Rattle.ranks.proofs.Texts.{Accepts}
-use Rattle.ranks.proofs.Planner.{plan-demands, decided}
+use Rattle.demands.proofs.Texts.{Accepts}
+use Rattle.demands.proofs.Planner.{plan-demands, decided}
 use Rattle.ranks.proofs.Readings.{accepts, refusal-is, few, lent, board-fits}
 use Rattle.ranks.proofs.Orders.{unordered-plan, order, order-few, order-rows, order-ranged, ordered-plan}
 use Rattle.ranks.proofs.write_plan.Statement.{statement}

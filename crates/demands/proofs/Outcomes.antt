@@ -12,7 +12,7 @@ use Rattle.basics.proofs.Tests.{true-not-false, le-or-lt}
 use Rattle.tables.specs.TableLines.{TableRead}
 use Rattle.plans.specs.Outcomes.{Outcome, writes, refuses, fitted}
 use Rattle.plans.proofs.Outcomes.{fits, fits-not, Numbered}
-use Rattle.ranks.specs.Calls.{onTable}
+use Rattle.demands.specs.Calls.{onTable}
 
 -- ---- outcomes differ by what they hold
 pub same-refusal : {n m p q : ℕ} → refuses n p ≡ refuses m q → (n ≡ m) × (p ≡ q)

@@ -8,12 +8,12 @@ use mathlib.Core.Option.{Option, none, some}
 use Prim.Native.Nat.{ℕ, suc, _≤_, _<_}
 use native.Mathlib.Omega.{arith}
 use lib.IntN.{pos}
-use lib.ListN.{length, take}
+use lib.ListN.{length}
 use lib.Signed.{leZ}
 use borrow.Author.Tests.{not-true}
 use Rattle.basics.specs.Basics.{isIn}
 use Rattle.basics.proofs.Tests.{and-left, and-right, true-not-false, le-or-lt}
-use Rattle.rows.specs.Rows.{inRange, allRows, rowAt}
+use Rattle.rows.specs.Rows.{inRange, allRows, rowAt, rowsAbove, rowsBelow}
 use Rattle.rows.specs.declared.Row.{Row}
 use Rattle.tables.specs.TableLines.{TableRead, readTable}
 use Rattle.tables.specs.Claims.{Accepted, Tells}
@@ -31,13 +31,13 @@ use Rattle.plans.specs.Plans.{planText, planRoom}
 use Rattle.plans.specs.Outcomes.{Outcome, writes, refuses, fitted}
 use Rattle.plans.proofs.Outcomes.{fits, fits-not}
 use Rattle.plans.proofs.Lengths.{plan-fits}
-use Rattle.ranks.specs.Calls.{ifOrdered, planned}
-use Rattle.ranks.specs.Demands.{Promised, entryAt, plannerRefusals}
-use Rattle.ranks.specs.Demands.{EveryOrderFails, ByRule, TablePlan, PlanDemands}
-use Rattle.ranks.proofs.Outcomes.{same-refusal, not-both, zero-or-more, on-accepted, on-refused}
-use Rattle.ranks.proofs.Outcomes.{nine-is, written-is, up-to-five}
-use Rattle.ranks.proofs.Texts.{Accepts, failing, refused-low, telling, tells-only, refused-exactly}
-use Rattle.ranks.proofs.Promises.{promised}
+use Rattle.demands.specs.Calls.{ifOrdered, planned}
+use Rattle.demands.specs.Demands.{Promised, entryAt, plannerRefusals}
+use Rattle.demands.specs.Demands.{EveryOrderFails, ByRule, TablePlan, PlanDemands}
+use Rattle.demands.proofs.Outcomes.{same-refusal, not-both, zero-or-more, on-accepted, on-refused}
+use Rattle.demands.proofs.Outcomes.{nine-is, written-is, up-to-five}
+use Rattle.demands.proofs.Texts.{Accepts, failing, refused-low, telling, tells-only, refused-exactly}
+use Rattle.demands.proofs.Promises.{promised}
 
 module _ (text : List ℕ) where
   abbrev answer : TableRead
@@ -55,29 +55,33 @@ module _ (text : List ℕ) where
       pub order-in-range : allRows inRange order ≡ true
       order-in-range = possible-passes inRange (choice .is-possible order is) (sound .rows-in-range)
 
-      rank-stable : (i : ℕ) → i < length order → isStable (rowAt order i) (take i order) ≡ true
+      rank-stable : (i : ℕ) → i < length order
+          → isStable (rowAt order i) (rowsAbove order i) (rowsBelow order i) ≡ true
       rank-stable = stable-at order (choice .is-passing order is)
 
       pub in-time : NoneLate order
       in-time i h =
-          let late = isLate (rowAt order i) (take i order) in
-          not-true late (and-left (not late) (leZ (pos 0) (margin (rowAt order i) (take i order))) (rank-stable i h))
+          let late = isLate (rowAt order i) (rowsAbove order i) (rowsBelow order i) in
+          let m = margin (rowAt order i) (rowsAbove order i) (rowsBelow order i) in
+          not-true late (and-left (not late) (leZ (pos 0) m) (rank-stable i h))
 
       order-promised : Promised order
       order-promised = promised order order-in-range in-time
 
       order-margins : (i : ℕ) → i < length order → leZ (pos 0) (entryAt order i .margin) ≡ true
       order-margins i h =
-          let m = margin (rowAt order i) (take i order) in
+          let late = isLate (rowAt order i) (rowsAbove order i) (rowsBelow order i) in
+          let m = margin (rowAt order i) (rowsAbove order i) (rowsBelow order i) in
           ap (λ e. leZ (pos 0) (e .margin)) (order-promised .entry-is i h)
-          ∙ and-right (not (isLate (rowAt order i) (take i order))) (leZ (pos 0) m) (rank-stable i h)
+          ∙ and-right (not late) (leZ (pos 0) m) (rank-stable i h)
 
       -- at most `maxTasks` ranks within the limits
       order-fits : length (planText (answer .board) (entries order)) ≤ planRoom
       order-fits =
           let as-many = possible-length (choice .is-possible order is) in
-          plan-fits (answer .board) order (omega (arith, sound .board-high)) (omega (arith, sound .few-rows))
-          order-in-range in-time
+          let fits = plan-fits (answer .board) order (omega (arith, sound .board-high)) (omega (arith, sound .few-rows))
+          order-in-range in-time in
+          omega (arith, fits, as-many, sound .few-rows)
 
   -- ---- how the outcome comes about
   module _ (room : ℕ) where

@@ -14,9 +14,9 @@ use Rattle.responses.specs.Figures.{latest, isLate, earliest, jitter, margin}
 use Rattle.orders.specs.Stability.{chosenOrder}
 use Rattle.plans.specs.Plans.{planRoom}
 use Rattle.plans.specs.Outcomes.{writes, refuses}
-use Rattle.ranks.specs.Calls.{planned, plannerPrints, reviewerPrints}
+use Rattle.demands.specs.Calls.{planned, plannerPrints, reviewerPrints}
 
--- a row under rows above it and its E, W, jitter and margin; a late row; a table's rows and the tasks of its order;
+-- a row under rows above it, whatever is below it, and its E, W, jitter and margin; a late row; a table's rows and the tasks of its order;
 -- a text and its whole plan; a text and its refusal; a text and what the planner's or the reviewer's program prints
 pub data Case : Type 0 where
   figures : Row → List Row → ℕ → ℕ → ℕ → ℤ → Case
@@ -33,12 +33,13 @@ tasksIn (some os) = some (tasksOf os)
 
 abbrev pub Holds : Case → Type 0
 Holds (figures t above e w j m) =
-    (isLate t above ≡ false)
-    × (earliest t above ≡ e)
-    × (latest t above ≡ w)
-    × (jitter t above ≡ j)
-    × (margin t above ≡ m)
-Holds (late t above) = isLate t above ≡ true
+    (below : List Row)
+    → (isLate t above below ≡ false)
+    × (earliest t above below ≡ e)
+    × (latest t above below ≡ w)
+    × (jitter t above below ≡ j)
+    × (margin t above below ≡ m)
+Holds (late t above) = (below : List Row) → isLate t above below ≡ true
 Holds (order rows tasks) = tasksIn (chosenOrder rows) ≡ some tasks
 Holds (plan text output) = planned text planRoom ≡ writes output
 Holds (refusal text number place) = planned text planRoom ≡ refuses number place

@@ -6,10 +6,10 @@ use mathlib.Core.List.{List, [], _∷_}
 use mathlib.Core.Logic.{_↔_}
 use Prim.Native.Nat.{ℕ, suc, _≤_, _<_}
 use lib.IntN.{pos}
-use lib.ListN.{length, getD, take}
+use lib.ListN.{length, getD}
 use lib.Signed.{leZ}
 use Rattle.basics.specs.Basics.{isIn}
-use Rattle.rows.specs.Rows.{tasksOf, rowsFor, rowAt}
+use Rattle.rows.specs.Rows.{tasksOf, rowsFor, rowAt, rowsAbove, rowsBelow}
 use Rattle.rows.specs.declared.Row.{Row}
 use Rattle.tables.specs.Claims.{Tells, Fails, Read}
 use Rattle.responses.specs.Figures.{isLate}
@@ -23,7 +23,7 @@ use Rattle.plans.specs.declared.Answer.{Answer}
 use Rattle.plans.specs.Entries.{entry, entries, noEntry}
 use Rattle.plans.specs.Plans.{planText, planRoom}
 use Rattle.plans.specs.Outcomes.{Outcome, writes, refuses, Written}
-use Rattle.ranks.specs.Calls.{planned, reviewed}
+use Rattle.demands.specs.Calls.{planned, reviewed}
 
 -- ---- an order whose plan is written
 -- rank i of a plan, counted from 0
@@ -31,10 +31,12 @@ abbrev pub entryAt : List Row → ℕ → Entry
 entryAt order i = getD (entries order) i noEntry
 
 pub record Promised (order : List Row) : Type 0 where
-  -- demand 2: rank i's entry has the figures of its row under the rows above it, and they are those of the formulas
+  -- demand 2: rank i's entry has the figures of its row between the rows above it and those below it, and they are those
+  -- of the formulas
   pub as-many : length (entries order) ≡ length order
-  pub entry-is : (i : ℕ) → i < length order → entryAt order i ≡ entry (rowAt order i) (take i order)
-  pub by-formulas : (i : ℕ) → i < length order → Figured (rowAt order i) (take i order)
+  pub entry-is :
+      (i : ℕ) → i < length order → entryAt order i ≡ entry (rowAt order i) (rowsAbove order i) (rowsBelow order i)
+  pub by-formulas : (i : ℕ) → i < length order → Figured (rowAt order i) (rowsAbove order i) (rowsBelow order i)
   -- demand 3: on every board, for all first releases and job lengths, the run is by the rules, and it keeps the `worst`
   -- and `best` lines
   pub by-rules : (offset : ℕ → ℕ) (need : ℕ → ℕ → ℕ) → LastsInRange order need → BoardRuns order offset need
@@ -92,8 +94,8 @@ pub record Given (rows : List Row) (tasks : List ℕ) (order : List Row) : Type 
 -- the first late rank from the top, counted from 0
 pub record FirstLate (order : List Row) (k : ℕ) : Type 0 where
   pub there : k < length order
-  pub late : isLate (rowAt order k) (take k order) ≡ true
-  pub above-in-time : (j : ℕ) → j < k → isLate (rowAt order j) (take j order) ≡ false
+  pub late : isLate (rowAt order k) (rowsAbove order k) (rowsBelow order k) ≡ true
+  pub above-in-time : (j : ℕ) → j < k → isLate (rowAt order j) (rowsAbove order j) (rowsBelow order j) ≡ false
 
 -- an accepted text: 7 exactly for the first late rank, counted from 1; else the plan of the order given
 pub record OrderReview (room board : ℕ) (order : List Row) (w : Outcome) : Type 0 where

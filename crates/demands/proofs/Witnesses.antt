@@ -10,27 +10,28 @@ use Rattle.text.specs.Text.{digits, decimal, signed, keyLine}
 use Rattle.text.specs.Lines.{numberOf, lineAt}
 use Rattle.grammars.specs.Forms.{formAt}
 use Rattle.grammars.specs.Grammars.{readFor}
-use Rattle.tables.specs.TableLines.{readTable}
+use Rattle.rows.specs.Rows.{cost}
 use Rattle.tables.specs.TableLines.{TableRead, readTable}
 use Rattle.responses.specs.Extremes.{smallest, largest}
+use Rattle.responses.specs.Figures.{blocking}
 use Rattle.orders.specs.Orders.{overSet}
 use Rattle.plans.specs.Entries.{entries}
 use Rattle.plans.specs.Plans.{rankText, headText, planText}
 use Rattle.plans.specs.Outcomes.{refuses, ifInTime}
-use Rattle.ranks.specs.Calls.{onTable, planned, reviewed}
-use Rattle.ranks.specs.Cases.{table}
+use Rattle.demands.specs.Calls.{onTable, planned, reviewed}
+use Rattle.demands.specs.Cases.{table}
 use Rattle.boards.specs.Witnesses.{exampleOrder}
 use Rattle.boards.proofs.Witnesses.{runs-met}
-use Rattle.ranks.specs.Witnesses.{example, exampleRows, timelyText, lateOrder, lateText, malformed}
-use Rattle.ranks.specs.Witnesses.{Met, Excluded}
-use Rattle.ranks.proofs.Outcomes.{same-refusal, not-both}
-use Rattle.ranks.proofs.Texts.{failing, telling, fails-only}
-use Rattle.ranks.proofs.Planner as Planner
-use Rattle.ranks.proofs.Reviewer as Reviewer
+use Rattle.demands.specs.Witnesses.{example, exampleRows, timelyText, lateOrder, lateText, malformed}
+use Rattle.demands.specs.Witnesses.{Met, Excluded}
+use Rattle.demands.proofs.Outcomes.{same-refusal, not-both}
+use Rattle.demands.proofs.Texts.{failing, telling, fails-only}
+use Rattle.demands.proofs.Planner as Planner
+use Rattle.demands.proofs.Reviewer as Reviewer
 
 pub met : Met
 unfolding digits decimal signed keyLine numberOf lineAt formAt readFor readTable
-    smallest largest overSet rankText headText planText ifInTime onTable
+    cost blocking smallest largest overSet rankText headText planText ifInTime onTable
 met =
     let late-told = telling true lateText refl in
     let late = Reviewer.review-demands lateText 0 in
@@ -68,7 +69,7 @@ unfolding numberOf lineAt formAt readFor readTable
 example-accepted = refl
 
 late-only : (room : ℕ) → reviewed lateText room ≡ refuses 7 3
-unfolding numberOf lineAt formAt readFor readTable smallest ifInTime onTable
+unfolding numberOf lineAt formAt readFor readTable cost blocking smallest ifInTime onTable
 late-only room = refl
 
 pub excluded : Excluded

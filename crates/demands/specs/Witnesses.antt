@@ -13,10 +13,10 @@ use Rattle.boards.specs.Witnesses.{exampleOrder}
 use Rattle.plans.specs.Entries.{entries}
 use Rattle.plans.specs.Plans.{planText}
 use Rattle.plans.specs.Outcomes.{writes, refuses}
-use Rattle.ranks.specs.Cases.{row11, row12, row13, table}
+use Rattle.demands.specs.Cases.{row11, row12, row13, table}
 use Rattle.tables.specs.Claims.{Tells, Fails}
-use Rattle.ranks.specs.Demands.{EveryOrderFails, ByRule, PlanDemands}
-use Rattle.ranks.specs.Demands.{Given, FirstLate, ReviewDemands}
+use Rattle.demands.specs.Demands.{EveryOrderFails, ByRule, PlanDemands}
+use Rattle.demands.specs.Demands.{Given, FirstLate, ReviewDemands}
 
 -- document 01's example: its text, its rows, and a text with the order of its plan
 abbrev pub example : List ℕ

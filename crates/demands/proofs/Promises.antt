@@ -1,12 +1,12 @@
--- An order of rows in range in which no task is late: its plan's entries are the figures of its rows under the rows
--- above them, by the formulas, and every board keeps them.
+-- An order of rows in range in which no task is late: its plan's entries are the figures of its rows between the rows
+-- above and below them, by the formulas, and every board keeps them.
 use mathlib.Core.Path.{_≡_, ap}
 use mathlib.Core.Bool.{true}
 use mathlib.Core.List.{List, []}
 use Prim.Native.Nat.{ℕ, _<_}
 use native.Mathlib.Omega.{arith}
-use lib.ListN.{length, take}
-use Rattle.rows.specs.Rows.{inRange, timesInRange, allRows, rowAt}
+use lib.ListN.{length}
+use Rattle.rows.specs.Rows.{inRange, timesInRange, allRows, rowAt, rowsAbove, rowsBelow}
 use Rattle.rows.specs.declared.Row.{Row}
 use Rattle.rows.proofs.Limits.{all-times, at-passes, front-passes}
 use Rattle.responses.specs.Claims.{Figured}
@@ -16,18 +16,19 @@ use Rattle.boards.proofs.Bounds as Boards
 use Rattle.boards.proofs.Runs.{board-runs}
 use Rattle.plans.specs.Entries.{entry, noEntry}
 use Rattle.plans.proofs.Entries.{entries-length, entry-at}
-use Rattle.ranks.specs.Demands.{entryAt, Promised}
+use Rattle.demands.specs.Demands.{entryAt, Promised}
 
 module _ (order : List Row) (ok : allRows inRange order ≡ true) (in-time : NoneLate order) where
   times-ok : allRows timesInRange order ≡ true
   times-ok = all-times order ok
 
-  entry-is : (i : ℕ) → i < length order → entryAt order i ≡ entry (rowAt order i) (take i order)
+  entry-is : (i : ℕ) → i < length order → entryAt order i
+      ≡ entry (rowAt order i) (rowsAbove order i) (rowsBelow order i)
   entry-is i h = entry-at order i noEntry h
 
-  by-formulas : (i : ℕ) → i < length order → Figured (rowAt order i) (take i order)
+  by-formulas : (i : ℕ) → i < length order → Figured (rowAt order i) (rowsAbove order i) (rowsBelow order i)
   by-formulas i h =
-      figured (rowAt order i) (take i order) (at-passes timesInRange order i times-ok h)
+      figured (rowAt order i) (rowsAbove order i) (rowsBelow order i) (at-passes timesInRange order i times-ok h)
       (front-passes timesInRange i order times-ok)
 
   -- what the board keeps is what the entries say

@@ -12,8 +12,8 @@ use Rattle.tables.specs.Claims.{Tells, Fails}
 use Rattle.tables.proofs.Readings.{read}
 use Rattle.tables.proofs.Refusals.{number-small}
 use Rattle.plans.specs.Outcomes.{Outcome, refuses}
-use Rattle.ranks.specs.Calls.{onTable}
-use Rattle.ranks.proofs.Outcomes.{same-refusal, zero-or-more, on-accepted, on-refused, on-turned-down}
+use Rattle.demands.specs.Calls.{onTable}
+use Rattle.demands.proofs.Outcomes.{same-refusal, zero-or-more, on-accepted, on-refused, on-turned-down}
 
 abbrev pub Accepts : Bool → List ℕ → Type 0
 Accepts ranked text = readTable ranked text .refused ≡ 0

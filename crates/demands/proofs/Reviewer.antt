@@ -6,10 +6,10 @@ use mathlib.Core.List.{List, [], _∷_}
 use mathlib.Core.Logic.{inl, inr}
 use Prim.Native.Nat.{ℕ, suc, _≤_, _<_}
 use native.Mathlib.Omega.{arith}
-use lib.ListN.{length, take}
+use lib.ListN.{length}
 use Rattle.basics.specs.Basics.{isIn}
 use Rattle.basics.proofs.Tests.{true-not-false, le-or-lt}
-use Rattle.rows.specs.Rows.{inRange, allRows, tasksOf, rowsFor, rowAt}
+use Rattle.rows.specs.Rows.{inRange, allRows, tasksOf, rowsFor, rowAt, rowsAbove, rowsBelow}
 use Rattle.rows.specs.declared.Row.{Row}
 use Rattle.tables.specs.TableLines.{TableRead, readTable}
 use Rattle.tables.specs.Claims.{Accepted}
@@ -25,12 +25,12 @@ use Rattle.plans.specs.Outcomes.{Outcome, writes, refuses, fitted, ifInTime}
 use Rattle.plans.proofs.Outcomes.{fits, fits-not, late-outcome, timely-outcome}
 use Rattle.plans.proofs.Entries.{first-late-none, first-late-some}
 use Rattle.plans.proofs.Lengths.{plan-fits}
-use Rattle.ranks.specs.Calls.{givenOrder, reviewed}
-use Rattle.ranks.specs.Demands.{Promised, reviewerRefusals, Given, FirstLate, OrderReview, ReviewDemands}
-use Rattle.ranks.proofs.Outcomes.{same-refusal, not-both, zero-or-more, on-accepted, on-refused}
-use Rattle.ranks.proofs.Outcomes.{nine-is, written-is, up-to-six}
-use Rattle.ranks.proofs.Texts.{Accepts, failing, refused-low, telling, tells-only, refused-exactly}
-use Rattle.ranks.proofs.Promises.{promised}
+use Rattle.demands.specs.Calls.{givenOrder, reviewed}
+use Rattle.demands.specs.Demands.{Promised, reviewerRefusals, Given, FirstLate, OrderReview, ReviewDemands}
+use Rattle.demands.proofs.Outcomes.{same-refusal, not-both, zero-or-more, on-accepted, on-refused}
+use Rattle.demands.proofs.Outcomes.{nine-is, written-is, up-to-six}
+use Rattle.demands.proofs.Texts.{Accepts, failing, refused-low, telling, tells-only, refused-exactly}
+use Rattle.demands.proofs.Promises.{promised}
 
 pub none-late-first : (order : List Row) → NoneLate order → firstLate order ≡ 0
 none-late-first order h = elim (zero-or-more (firstLate order)) [
@@ -65,8 +65,9 @@ module _ (text : List ℕ) where
       order-fits : length (planText (answer .board) (entries order)) ≤ planRoom
       order-fits =
           let as-many = possible-length (is-possible .0) in
-          plan-fits (answer .board) order (omega (arith, sound .board-high)) (omega (arith, sound .few-rows))
-          order-in-range in-time
+          let fits = plan-fits (answer .board) order (omega (arith, sound .board-high)) (omega (arith, sound .few-rows))
+          order-in-range in-time in
+          omega (arith, fits, as-many, sound .few-rows)
 
   -- ---- how the outcome comes about
   module _ (room : ℕ) where
@@ -90,7 +91,7 @@ module _ (text : List ℕ) where
     ]
       where
         -- a late rank is not above the first
-        not-lower : (i j : ℕ) → isLate (rowAt order i) (take i order) ≡ true → FirstLate order j → j ≤ i
+        not-lower : (i j : ℕ) → isLate (rowAt order i) (rowsAbove order i) (rowsBelow order i) ≡ true → FirstLate order j → j ≤ i
         not-lower i j late f = elim (le-or-lt j i) [
           | inl h ↦ h
           | inr h ↦ absurd (true-not-false _ late (f .above-in-time i h))
