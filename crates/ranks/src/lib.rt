@@ -1,53 +1,106 @@
 // The public calls: a table's plan, the figures of an order chosen by hand, and what the programs print.
+ghost use mathlib.Core.Path.{_≡_};
+ghost use lib.ListN.{length};
 ghost use Rattle.io.specs.Counts.{Counts};
 ghost use Rattle.text.specs.Buffers.{Wrote};
+ghost use Rattle.rows.specs.Rows.{rowsFor};
+ghost use Rattle.rows.specs.inside.Arrays.{ranked};
+ghost use Rattle.rows.specs.inside.Numbers.{rowsOf};
+ghost use Rattle.tables.specs.inside.Numbers.{Room};
+ghost use Rattle.plans.specs.Outcomes.{ifInTime, Written};
 ghost use Rattle.demands.specs.Calls.{plannerPrints, reviewerPrints};
 ghost use Rattle.demands.specs.Demands.{PlanSays, ReviewSays};
-use orders::order_of_first;
+ghost use Rattle.ranks.specs.inside.Tasks.{Tasked};
+pub use figures::row_figures;
+use plan_orders::plan_order;
+pub use plan_orders::ROOM;
+pub use plan_orders::buffer;
+use plan_orders::printed;
 pub use plans::Answer;
-pub use plans::ROOM;
-pub use plans::buffer;
-use plans::plan_order;
-pub use responses::row_figures;
-use rows::rows_for;
+use rows::FIELDS;
+use rows::MAX_TASKS;
+use rows::Order;
+use rows::order_at;
+use rows::positions_for;
+use search::choose;
+use tables::FEW_LINES;
+use tables::HEAD;
+use tables::LINES;
+use tables::is_short;
 use tables::read_table;
 
-// The planner: the plan of a table's text, in the order that the rule chooses.
-pub fn write_plan(text: &[u8], out: &mut [u8]) -> Answer
+// The plan of n rows in an order of their tasks.
+fn plan_tasks(out: &mut [u8], board: u16, rows: &[u64], n: usize, order: Order) -> Answer
+    requires { ⌜ Tasked (now rows) n order ⌝ }
+    ensures { λ r. ⌜ Written (ifInTime (length (now (out .entry))) board
+        (rowsFor (ranked order) (rowsOf n (now (rows .entry))))) (now (out .entry)) (now (out .exit)) r ⌝ }
+{
+    let tasks = order.tasks;
+    let mut positions = [0usize; MAX_TASKS];
+    positions_for(&tasks, rows, n, &mut positions);
+    plan_order(out, board, rows, &positions, n)
+}
+
+// The planner, with room for the numbers of the text's lines.
+fn plan_text(text: &[u8], out: &mut [u8], numbers: &mut [u64]) -> Answer
+    requires { ⌜ Room (now text) (now numbers) ⌝ }
     ensures { λ r. ⌜ PlanSays (now (text .entry)) (now (out .entry)) (now (out .exit)) r ⌝ }
 {
-    let reading = read_table(text, false);
+    let reading = read_table(text, false, numbers);
     let refused = reading.refused;
     if refused != 0 {
         return Answer::refused(refused, reading.line);
     }
-    let rows = reading.rows;
     let n = reading.count;
-    let choice = order_of_first(rows, n);
+    let board = numbers[0] as u16;
+    let rows = &numbers[HEAD..];
+    let choice = choose(rows, n);
     if !choice.found {
         return Answer::refused(8, 0);
     }
     let order = choice.order;
-    let ordered = rows_for(order, rows, n);
-    let board = reading.board as u16;
-    plan_order(out, board, ordered, n)
+    plan_tasks(out, board, rows, n, order)
+}
+
+// The planner: the plan of a table's text, in the order that the rule chooses. A short text has few numbers.
+pub fn write_plan(text: &[u8], out: &mut [u8]) -> Answer
+    ensures { λ r. ⌜ PlanSays (now (text .entry)) (now (out .entry)) (now (out .exit)) r ⌝ }
+{
+    if is_short(text) {
+        let mut few = [0u64; FEW_LINES];
+        return plan_text(text, out, &mut few);
+    }
+    let mut numbers = [0u64; LINES];
+    plan_text(text, out, &mut numbers)
+}
+
+// The reviewer, with room for the numbers of the text's lines.
+fn review_text(text: &[u8], out: &mut [u8], numbers: &mut [u64]) -> Answer
+    requires { ⌜ Room (now text) (now numbers) ⌝ }
+    ensures { λ r. ⌜ ReviewSays (now (text .entry)) (now (out .entry)) (now (out .exit)) r ⌝ }
+{
+    let reading = read_table(text, true, numbers);
+    let refused = reading.refused;
+    if refused != 0 {
+        return Answer::refused(refused, reading.line);
+    }
+    let n = reading.count;
+    let board = numbers[0] as u16;
+    let order = order_at(numbers, HEAD + FIELDS * n, n);
+    let rows = &numbers[HEAD..];
+    plan_tasks(out, board, rows, n, order)
 }
 
 // The reviewer: the figures of the order that a text's rank lines give.
 pub fn review_order(text: &[u8], out: &mut [u8]) -> Answer
     ensures { λ r. ⌜ ReviewSays (now (text .entry)) (now (out .entry)) (now (out .exit)) r ⌝ }
 {
-    let reading = read_table(text, true);
-    let refused = reading.refused;
-    if refused != 0 {
-        return Answer::refused(refused, reading.line);
+    if is_short(text) {
+        let mut few = [0u64; FEW_LINES];
+        return review_text(text, out, &mut few);
     }
-    let rows = reading.rows;
-    let n = reading.count;
-    let order = reading.order;
-    let given = rows_for(order, rows, n);
-    let board = reading.board as u16;
-    plan_order(out, board, given, n)
+    let mut numbers = [0u64; LINES];
+    review_text(text, out, &mut numbers)
 }
 
 // What the planner's program prints for the text it took: the plan, or the three lines of its refusal.
@@ -56,7 +109,7 @@ pub fn print_plan(text: &[u8], out: &mut [u8; ROOM]) -> usize
     ensures { λ r. ⌜ Counts r (now (out .exit)) ⌝ }
 {
     let planned = write_plan(text, out);
-    planned.printed(out)
+    printed(planned, out)
 }
 
 // What the reviewer's program prints for the text it took.
@@ -65,5 +118,5 @@ pub fn print_review(text: &[u8], out: &mut [u8; ROOM]) -> usize
     ensures { λ r. ⌜ Counts r (now (out .exit)) ⌝ }
 {
     let reviewed = review_order(text, out);
-    reviewed.printed(out)
+    printed(reviewed, out)
 }
