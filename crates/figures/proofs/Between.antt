@@ -1,18 +1,18 @@
 -- Rows among numbers are tested and figured where they stand. A row that is read with a test is in range if the row is;
 -- too many rows are in no limits; and what is answered of the rows among the numbers is answered of the rows put there.
 use mathlib.Core.Path.{_≡_, refl, ap, ap₂, sym, _∙_}
-use mathlib.Core.Bool.{Bool, true, false, _&&_}
+use mathlib.Core.Bool.{Bool, true, false, _&&_, not}
 use mathlib.Core.Logic.{inl, inr}
 use mathlib.Core.List.{List, [], _∷_}
-use Prim.Native.Nat.{ℕ, zero, suc, _+_, _-_, _*_, _≤_, _<_}
+use Prim.Native.Nat.{ℕ, suc, _+_, _-_, _*_, _≤_, _<_}
 use native.Mathlib.Omega.{arith}
 use lib.Dec.{leb}
 use lib.ListN.{length, getD, take, drop}
 use lib.Seq.{drop-drop}
-use borrow.Author.Tests.{leb-true, le-leb, lt-leb}
+use borrow.Author.Tests.{leb-true, le-leb, lt-leb, not-true, not-false}
 use Rattle.basics.specs.Basics.{pick}
 use Rattle.basics.proofs.Tests.{test-of, le-or-lt, and-left, and-right}
-use Rattle.rows.specs.Rows.{maxTasks, maxTicks, fieldCount, inRange, timesInRange, allRows, noRow}
+use Rattle.rows.specs.Rows.{maxTicks, fieldCount, inRange, timesInRange, allRows, noRow}
 use Rattle.rows.specs.declared.Row.{Row}
 use Rattle.rows.specs.inside.Constructor.{checked}
 use Rattle.rows.specs.inside.Numbers.{rowIn, rowsOf, rowsIn, numbersRoom, RowsPut}
@@ -56,6 +56,7 @@ with-true true true false = refl
 with-true true false c = refl
 with-true false b c = refl
 
+-- what a test that is passed says of the rows
 pub record InLimits (t : Row) (above below : List Row) : Type 0 where
   pub in-range : inRange t ≡ true
   pub times-in-range : allRows timesInRange above ≡ true
@@ -77,9 +78,9 @@ module _ (t : Row) (above below : List Row) where
       with-true (inRange t) r s
       ∙ ap (λ b. inRange t && (r && (s && b))) (sym (le-leb (length above + length below) maxOthers h))
 
-  -- what rows in limits are known by
-  pub in-limits : inLimits t above below ≡ true → InLimits t above below
-  in-limits h =
+  pub in-limits : (b : Bool) → b ≡ inLimits t above below → not b ≡ false → InLimits t above below
+  in-limits b e passed =
+      let h = sym e ∙ not-false b passed in
       let r = allRows inRange above in
       let s = allRows inRange below in
       let few = leb (length above + length below) maxOthers in
@@ -90,11 +91,13 @@ module _ (t : Row) (above below : List Row) where
         few = leb-true (length above + length below) maxOthers (and-right s few (and-right r (s && few) rest));
       }
 
-  pub answered : inLimits t above below ≡ true → figuresUnder t above below ≡ figuresOf t above below
-  answered h = sym (ap (λ b. pick b (figuresUnder t above below) noFigures) h)
+  -- the answer, by a test that is theirs
+  pub answered : (b : Bool) → b ≡ inLimits t above below → not b ≡ false
+      → figuresUnder t above below ≡ figuresOf t above below
+  answered b e h = ap (λ c. pick c (figuresUnder t above below) noFigures) (sym (sym e ∙ not-false b h))
 
-  pub unanswered : inLimits t above below ≡ false → noFigures ≡ figuresOf t above below
-  unanswered h = sym (ap (λ b. pick b (figuresUnder t above below) noFigures) h)
+  pub unanswered : (b : Bool) → b ≡ inLimits t above below → not b ≡ true → noFigures ≡ figuresOf t above below
+  unanswered b e h = ap (λ c. pick c (figuresUnder t above below) noFigures) (sym (sym e ∙ not-true b h))
 
 -- no rows block for longer than a period lasts
 pub blocking-max : (below : List Row) → blocking below ≤ maxTicks
@@ -131,7 +134,8 @@ say t above below us us′ ls ls′ x upper put lower put′ e = record {
     is = e ∙ elim (le-or-lt (n + m) maxOthers) [
       | inl few ↦ ap₂ (figuresOf t) (put .there upper (omega (arith, few))) (put′ .there lower (omega (arith, few)))
       | inr many ↦
-          sym (unanswered t (rowsOf n us′) (rowsOf m ls′)
-          (too-many t (rowsOf n us′) (rowsOf m ls′) (omega (arith, many, rows-length n us′, rows-length m ls′))))
-          ∙ unanswered t above below (too-many t above below many)
+          let none = too-many t (rowsOf n us′) (rowsOf m ls′)
+          (omega (arith, many, rows-length n us′, rows-length m ls′)) in
+          sym (unanswered t (rowsOf n us′) (rowsOf m ls′) false (sym none) refl)
+          ∙ unanswered t above below false (sym (too-many t above below many)) refl
     ]

@@ -35,7 +35,7 @@ fn no_figures() -> Figures
 
 // Whether each of n rows is in range.
 fn all_in_range(numbers: &[u64], n: usize) -> bool
-    requires { ⌜ (n ≤ maxTasks) × (fieldCount * n ≤ length (now numbers)) ⌝ }
+    requires { ⌜ fieldCount * n ≤ length (now numbers) ⌝ }
     ensures { λ r. ⌜ r ≡ allRows inRange (rowsOf n (now (numbers .entry))) ⌝ }
 {
     let mut i = 0;
@@ -75,7 +75,13 @@ fn positions() -> [usize; MAX_TASKS]
 }
 
 // The figures of a row between n rows above it and m rows below it.
-fn figures_between(row: Row, above: &[u64; NUMBERS], n: usize, below: &[u64; NUMBERS], m: usize) -> Figures
+fn figures_between(
+    row: Row,
+    above: &[u64; NUMBERS],
+    n: usize,
+    below: &[u64; NUMBERS],
+    m: usize,
+) -> Figures
     ensures { λ x. ⌜ x ≡ figuresOf row (rowsOf n (now (above .entry))) (rowsOf m (now (below .entry))) ⌝ }
 {
     if !in_limits(row, above, n, below, m) {

@@ -1,22 +1,26 @@
 -- In the limits of a table, the columns hold the rows above in their sequence, and the figures found in them are those
 -- of the row between these rows.
-use mathlib.Core.Path.{_≡_, sym, ap, _∙_, subst}
-use mathlib.Core.Bool.{true}
+use mathlib.Core.Path.{ap, _∙_, subst}
 use mathlib.Core.List.{List}
-use Prim.Native.Nat.{ℕ, _<_}
+use Prim.Native.Nat.{_<_}
 use native.Mathlib.Omega.{arith}
 use borrow.Author.Needs.{needs}
-use borrow.Author.Tests.{not-true, not-false}
-use lib.ListN.{take, getD}
 use Rattle.rows.specs.Rows.{maxTasks}
 use Rattle.rows.specs.declared.Row.{Row}
 use Rattle.rows.specs.inside.Numbers.{rowsOf}
 use Rattle.rows.proofs.RowNumbers.{rows-length, rows-front}
-use Rattle.responses.specs.Figures.{inLimits, figuresUnder}
-use Rattle.analysis.specs.inside.Columns.{Fillable, Filled, UnderColumns}
+use Rattle.responses.specs.Figures.{figuresUnder}
+use Rattle.analysis.specs.inside.Columns.{Filled}
 use Rattle.figures.proofs.Between.{InLimits, in-limits, answered, unanswered, in-sequence, blocking-max}
 use Rattle.figures.proofs.figures_between.Statement.{statement}
 use Rattle.figures.proofs.figures_between.Tie as tie
+
+-- the rows above and the rows below
+abbrev upper : tie.Start → List Row
+upper s = rowsOf (s .args .n) (s .args .above .now)
+
+abbrev lower : tie.Start → List Row
+lower s = rowsOf (s .args .m) (s .args .below .now)
 
 in-limits-requires : tie.Need-in-limits-requires
 in-limits-requires c κs = search needs
@@ -26,11 +30,10 @@ no-figures-requires c κs = search needs
 
 returns : tie.Need-returns
 returns c =
-    let a = c .before .before .before .args in
+    let s = c .before .before .before in
     let test = c .before .before .in-limits in
     c .no-figures .ensures
-    ∙ unanswered (a .row) (rowsOf (a .n) (a .above .now)) (rowsOf (a .m) (a .below .now))
-    (sym (test .ensures) ∙ not-true (test .result) (c .before .if1 .taken))
+    ∙ unanswered (s .args .row) (upper s) (lower s) (test .result) (test .ensures) (c .before .if1 .taken)
 
 positions-requires : tie.Need-positions-requires
 positions-requires c κs = search needs
@@ -42,17 +45,11 @@ slice-aggregate-fill-columns-2 : tie.Need-slice-aggregate-fill-columns-2
 slice-aggregate-fill-columns-2 c = search needs
 
 -- past the test
-abbrev upper : tie.Start → List Row
-upper s = rowsOf (s .args .n) (s .args .above .now)
-
-abbrev lower : tie.Start → List Row
-lower s = rowsOf (s .args .m) (s .args .below .now)
-
-passed : (c : tie.Else1) → let s = c .before .before in inLimits (s .args .row) (upper s) (lower s) ≡ true
-passed c = let test = c .before .in-limits in sym (test .ensures) ∙ not-false (test .result) (c .if1 .left)
-
 known : (c : tie.Else1) → let s = c .before .before in InLimits (s .args .row) (upper s) (lower s)
-known c = let s = c .before .before in in-limits (s .args .row) (upper s) (lower s) (passed c)
+known c =
+    let s = c .before .before in
+    let test = c .before .in-limits in
+    in-limits (s .args .row) (upper s) (lower s) (test .result) (test .ensures) (c .if1 .left)
 
 few : (c : tie.Else1) → c .before .before .args .n < maxTasks
 few c = let a = c .before .before .args in omega (arith, known c .few, rows-length (a .n) (a .above .now))
@@ -107,12 +104,13 @@ returns-2 c =
     let q = c .before .before .before .before .before .before .before .before .before in
     let s = q .before .before in
     let a = s .args in
+    let test = q .before .in-limits in
     let found = c .figures-under .ensures (upper s) (lower s) (filled (c .before .before .before .before))
     (c .before .before .no-blocking .ensures (lower s)) in
     let all = rows-front (a .n) (a .n) (a .above .now) (omega arith) in
     found
     ∙ ap (λ rows. figuresUnder (a .row) rows (lower s)) all
-    ∙ answered (a .row) (upper s) (lower s) (passed q)
+    ∙ answered (a .row) (upper s) (lower s) (test .result) (test .ensures) (q .if1 .left)
 
 pub figures-between-spec : {M : Type 1} → statement M
 figures-between-spec =

@@ -1,6 +1,6 @@
 -- Too many rows above, or too many with those below, are in no limits; of few the tests decide.
 use mathlib.Core.Path.{_∙_, ap₂, sym}
-use mathlib.Core.Bool.{Bool, _&&_}
+use mathlib.Core.Bool.{_&&_}
 use native.Mathlib.Omega.{arith}
 use borrow.Author.Needs.{needs}
 use Rattle.rows.specs.inside.Numbers.{rowsOf}

@@ -1,9 +1,9 @@
--- `row_figures` meets its contract: a walk of its MIR, by hand. Two local arrays of numbers are lent to `put_rows`, which
--- puts the rows above and the rows below among them, and then to `figures_between`; each time for a lifetime that the
--- walk makes. All that the proof knows of `put_rows` and of `figures_between` is that each meets its contract. Nothing
--- of the parameters is owned at exit (`stay-dropped`).
+-- `row_figures` meets its contract: a walk of its MIR, by hand. Two local arrays of numbers are lent to `put_rows`,
+-- which puts the rows above and the rows below among them, and then to `figures_between`; each time for a lifetime that
+-- the walk makes. All that the proof knows of `put_rows` and of `figures_between` is that each meets its contract.
+-- Nothing of the parameters is owned at exit (`stay-dropped`).
 use Rattle.rows.proofs.Walk.{_≡_, refl, List, [], _∷_, length, ℕ, _<_, _^_, _≤_, URA, named, Val, SProp, ent, emp, via}
-use Rattle.rows.proofs.Walk.{fst∗, Lft, Share, Fml, flent, ftrue, flft, froom, Memory, Routine, Heap, Calls, Loops, WpFn}
+use Rattle.rows.proofs.Walk.{fst∗, Lft, Share, Fml, flent, ftrue, flft, froom, Memory, Routine, Heap, Calls, Loops}
 use Rattle.rows.proofs.Walk.{Tables, Atoms, Fun, givenOf, tables, tablesOf, Given, ‵, raw, _⊛_, ⋆, _$_, _∵_, !, qed}
 use Rattle.rows.proofs.Walk.{by, move, keep, drop, use1, use2, use3, split, join, pick, some, later, await, fsplit}
 use Rattle.rows.proofs.Walk.{fjoin, suffices, frame, done, addr, assigns, look, look-in, sub, whole, init, forget, stop}
@@ -13,7 +13,7 @@ use Rattle.rows.proofs.Walk.{shows, peeks, RefT, plain, shrSliceOf, sliceVal, S
 use Rattle.rows.proofs.Walk.{shr-slice-lawful, owned, nothing, Contract, Triple, Vals, onEntry, Meets, tripleOf}
 use Rattle.rows.proofs.Walk.{entered, cited, says, Stays, stay-dropped, walkOf, goes-dropped, Walks, ends-at, walked}
 use Rattle.rows.proofs.Walk.{walk-meets, yes, Array, arrayVal, array-lawful, usize, uint-makes, of-opd, fullShare, vint}
-use Rattle.rows.proofs.Walk.{vptr, w64, tyArray, tyInt, GName}
+use Rattle.rows.proofs.Walk.{vptr, w64, tyArray, tyInt, GName, WpFn}
 use Rattle.rows.proofs.Calls.{Asks, calls-left, calls-told}
 use lib.ListN.{replicate}
 use borrow.Rule.Array.Init.{part-room}
