@@ -5,7 +5,7 @@ ghost use Prim.Native.Nat.{suc, _+_, _*_, _≤_, _<_};
 ghost use lib.ListN.{length, take};
 ghost use Rattle.rows.specs.Rows.{maxTicks, fieldCount, inRange};
 ghost use Rattle.responses.specs.Interference.{ceiling, interference, leastFixed, largestFixed};
-ghost use Rattle.responses.specs.Figures.{marginAt, noFigures, lateFigures};
+ghost use Rattle.responses.specs.Figures.{marginAt, lateFigures};
 ghost use Rattle.rows.specs.inside.Numbers.{rowIn, rowsIn};
 ghost use Rattle.analysis.specs.inside.Columns.{loads, columnsMax, baseMax, Columns, withTimes, Filled};
 ghost use Rattle.analysis.specs.inside.Columns.{Fillable, UnderColumns};
@@ -16,21 +16,6 @@ use rows::FIELDS;
 use rows::PERIOD;
 use rows::Row;
 use rows::cost_at;
-
-// Of a row that is out of range, or between rows that are.
-fn no_figures() -> Figures
-    ensures { λ x. ⌜ x ≡ noFigures ⌝ }
-{
-    Figures {
-        figured: false,
-        late: false,
-        worst: 0,
-        best: 0,
-        jitter: 0,
-        margin: 0,
-        stable: false,
-    }
-}
 
 // Of a row that is late: nothing but that.
 fn late_figures() -> Figures

@@ -1,0 +1,2 @@
+-- Laws of rows among numbers, tested and figured there.
+pub mod Between
