@@ -16,7 +16,7 @@ use Rattle.rows.specs.declared.Row.{Row}
 use Rattle.rows.specs.Rows.{taskAt, periodAt, worstAt, bestAt, alphaAt, betaAt, fieldCount, rowOf}
 use Rattle.rows.specs.Rows.{row, noRow, rowAt, inRange, allRows, tasksOf, hasTask, positionOf}
 use Rattle.rows.specs.inside.Constructor.{checked}
-use Rattle.rows.specs.inside.Numbers.{rowsOf, rowIn, between}
+use Rattle.rows.specs.inside.Numbers.{rowsOf, rowIn, rowsIn, rowsAt, Below, between}
 use Rattle.rows.proofs.Limits.{at-passes}
 
 -- ---- a row by its numbers
@@ -169,3 +169,9 @@ module _ (t n i : ℕ) (ws : List ℕ) (h : i < n) where
   pub position-later : (t ≡ getD ws (fieldCount * i + taskAt) 0 → ⊥)
       → positionOf t (tasksOf (rowsPast n i ws)) ≡ suc (positionOf t rest)
   position-later e = split ∙ rw (ne-eqb t (getD ws (fieldCount * i + taskAt) 0) e, positionOf)
+
+-- the rows at positions below n are those of n rows
+pub rows-in : (n : ℕ) (ws ps : List ℕ) → Below n ps → rowsIn ws ps ≡ rowsAt (rowsOf n ws) ps
+rows-in n ws [] h = refl
+rows-in n ws (p ∷ ps) h =
+    ap₂ _∷_ (sym (rows-at n p ws (h 0 (omega arith)))) (rows-in n ws ps (λ k l. h (suc k) (omega arith)))
