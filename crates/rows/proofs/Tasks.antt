@@ -9,12 +9,12 @@ use lib.Dec.{eqb}
 use lib.ListN.{length, getD, take, drop, length-map}
 use lib.Seq.{length-take-le, take-append-seam}
 use borrow.Author.Tests.{eqb-true}
-use Rattle.basics.proofs.Tests.{never, and-left, and-right, or-cases}
+use Rattle.basics.proofs.Tests.{never, and-left, and-right, and-both, or-cases}
 use Rattle.rows.specs.declared.Row.{Row}
 use Rattle.rows.specs.Rows.{maxTask, noRow, inRange, allRows, tasksOf, hasTask, positionOf, rowFor, rowsFor}
 use Rattle.rows.specs.Rows.{rowAt, allTasks}
 use Rattle.rows.specs.inside.Numbers.{rowsAt, positionsFor, Below, TaskNumbers}
-use Rattle.rows.proofs.Limits.{limits, head-passes, tail-passes}
+use Rattle.rows.proofs.Limits.{limits, head-passes, tail-passes, at-passes}
 
 pub tasks-length : (rs : List Row) → length (tasksOf rs) ≡ length rs
 tasks-length [] = refl
@@ -102,3 +102,11 @@ module _ (ts : List ℕ) (rs : List Row) (n : ℕ) (ps qs : List ℕ) (many : n 
 
   pub rows-for-positions : rowsAt rs (take n qs) ≡ rowsFor (take n ts) rs
   rows-for-positions = ap (rowsAt rs) positions-are ∙ positions-rows (take n ts) rs
+
+-- rows at positions below their number pass what all rows pass
+pub at-all-pass : (f : Row → Bool) (rs : List Row) (ps : List ℕ) → Below (length rs) ps → allRows f rs ≡ true
+    → allRows f (rowsAt rs ps) ≡ true
+at-all-pass f rs [] h ok = refl
+at-all-pass f rs (p ∷ ps) h ok =
+    and-both (f (rowAt rs p)) (allRows f (rowsAt rs ps)) (at-passes f rs p ok (h 0 (omega arith)))
+    (at-all-pass f rs ps (λ k l. h (suc k) (omega arith)) ok)
