@@ -110,7 +110,8 @@ fn position_of(task: u16, rows: &[u64], n: usize) -> usize
 pub fn positions_for(tasks: &[u16], rows: &[u64], n: usize, positions: &mut [usize])
     requires { ⌜ (n ≤ length (now tasks)) × (fieldCount * n ≤ length (now rows)) × (n ≤ length (now positions)) ⌝ }
     ensures { λ _. ⌜ now (positions .exit)
-        ≡ positionsFor (take n (now (tasks .entry))) (rowsOf n (now (rows .entry))) ++ drop n (now (positions .entry)) ⌝ }
+        ≡ positionsFor (take n (now (tasks .entry))) (rowsOf n (now (rows .entry)))
+        ++ drop n (now (positions .entry)) ⌝ }
 {
     let mut k = 0;
     while k < n {
