@@ -10,7 +10,6 @@ pub use numbers::NUMBERS;
 pub use numbers::PERIOD;
 pub use numbers::TASK;
 pub use numbers::WORST;
-pub use numbers::checked_row_at;
 pub use numbers::has_task;
 pub use numbers::is_among;
 pub use numbers::order_at;

@@ -5,9 +5,8 @@ ghost use mathlib.Core.List.{_++_};
 ghost use Prim.Native.Nat.{suc, _+_, _*_, _≤_};
 ghost use lib.ListN.{length, take, drop};
 ghost use Rattle.basics.specs.Basics.{isIn};
-ghost use Rattle.rows.specs.Rows.{maxTasks, fieldCount, inRange, rowOf, tasksOf, hasTask, positionOf};
+ghost use Rattle.rows.specs.Rows.{maxTasks, fieldCount, inRange, tasksOf, hasTask, positionOf};
 ghost use Rattle.rows.specs.inside.Arrays.{ranking};
-ghost use Rattle.rows.specs.inside.Constructor.{checked};
 ghost use Rattle.rows.specs.inside.Numbers.{rowIn, rowsOf, RowPut, RowsPut, positionsFor};
 ghost use Rattle.rows.specs.inside.Numbers.{between, TaskNumbers};
 use super::MAX_TASKS;
@@ -72,22 +71,6 @@ pub fn put_rows(rows: &[Row], numbers: &mut [u64; NUMBERS])
         put_row(numbers, i, rows[i]);
         i += 1;
     }
-}
-
-// The row whose numbers begin at an index, if it is in range.
-pub fn checked_row_at(numbers: &[u64], at: usize) -> Row
-    requires { ⌜ at + fieldCount ≤ length (now numbers) ⌝ }
-    ensures { λ r. ⌜ r ≡ checked (rowOf (drop at (now (numbers .entry)))) .row ⌝ }
-{
-    let checked = Row::new(
-        numbers[at + TASK],
-        numbers[at + PERIOD],
-        numbers[at + WORST],
-        numbers[at + BEST],
-        numbers[at + ALPHA],
-        numbers[at + BETA],
-    );
-    checked.row
 }
 
 // Where a task stands among the first n rows; n where it does not.
