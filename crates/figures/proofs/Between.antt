@@ -1,5 +1,5 @@
--- Rows among numbers are tested and figured where they stand. A row that is read with a test is in range if the row is;
--- too many rows are in no limits; and what is answered of the rows among the numbers is answered of the rows put there.
+-- Rows among numbers are figured where they stand: too many rows are in no limits, and what is answered of the rows among
+-- the numbers is answered of the rows put there.
 use mathlib.Core.Path.{_≡_, refl, ap, ap₂, sym, _∙_}
 use mathlib.Core.Bool.{Bool, true, false, _&&_, not}
 use mathlib.Core.Logic.{inl, inr}
@@ -12,9 +12,8 @@ use lib.Seq.{drop-drop}
 use borrow.Author.Tests.{leb-true, le-leb, lt-leb, not-true, not-false}
 use Rattle.basics.specs.Basics.{pick}
 use Rattle.basics.proofs.Tests.{test-of, le-or-lt, and-left, and-right}
-use Rattle.rows.specs.Rows.{maxTicks, fieldCount, inRange, timesInRange, allRows, noRow}
+use Rattle.rows.specs.Rows.{fieldCount, inRange, timesInRange, allRows, noRow}
 use Rattle.rows.specs.declared.Row.{Row}
-use Rattle.rows.specs.inside.Constructor.{checked}
 use Rattle.rows.specs.inside.Numbers.{rowIn, rowsOf, rowsIn, numbersRoom, RowsPut}
 use Rattle.rows.proofs.RowNumbers.{rowsPast, rows-length, rows-are}
 use Rattle.analysis.proofs.Filling.{rows-long, row-is}
@@ -23,25 +22,6 @@ use Rattle.responses.specs.Claims.{FiguresSay}
 use Rattle.responses.specs.declared.Figures.{Figures}
 use Rattle.responses.proofs.Responses.{limits-times, figured}
 use Rattle.responses.proofs.Sequences.{figures-permuted}
-
--- ---- each row in range
-pub past-step : (n i : ℕ) (ws : List ℕ) → i < n → rowsPast n i ws ≡ rowIn ws i ∷ rowsPast n (i + 1) ws
-past-step n i ws h =
-    let one-more : n - i ≡ suc (n - (i + 1)) = omega arith in
-    let next : fieldCount * i + fieldCount ≡ fieldCount * (i + 1) = omega arith in
-    ap (λ m. rowsOf m (drop (fieldCount * i) ws)) one-more
-    ∙ ap (λ xs. rowIn ws i ∷ rowsOf (n - (i + 1)) xs)
-    (drop-drop fieldCount (fieldCount * i) ws ∙ ap (λ m. drop m ws) next)
-
-pub past-end : (n i : ℕ) (ws : List ℕ) → n ≤ i → rowsPast n i ws ≡ []
-past-end n i ws h =
-    let none : n - i ≡ 0 = omega arith in ap (λ m. rowsOf m (drop (fieldCount * i) ws)) none
-
-pub read-in-range : (r : Row) → inRange (checked r .row) ≡ inRange r
-read-in-range r = elim (test-of (inRange r)) [
-  | inl e ↦ ap (λ b. inRange (pick b r noRow)) e
-  | inr e ↦ ap (λ b. inRange (pick b r noRow)) e ∙ sym e
-]
 
 -- ---- few enough
 none-left : (a b c : Bool) → (a && (b && (c && false))) ≡ false
@@ -98,11 +78,6 @@ module _ (t : Row) (above below : List Row) where
 
   pub unanswered : (b : Bool) → b ≡ inLimits t above below → not b ≡ true → noFigures ≡ figuresOf t above below
   unanswered b e h = ap (λ c. pick c (figuresUnder t above below) noFigures) (sym (sym e ∙ not-true b h))
-
--- no rows block for longer than a period lasts
-pub blocking-max : (below : List Row) → blocking below ≤ maxTicks
-unfolding blocking
-blocking-max below = omega arith
 
 -- ---- rows at the positions 0, 1, 2, .. are those of the numbers, in their sequence
 pub in-sequence : (ns ps : List ℕ) (n : ℕ) → n ≤ length ps → ((i : ℕ) → i < n → getD ps i 0 ≡ i)

@@ -11,11 +11,10 @@ use analysis::figures_under;
 use analysis::fill_columns;
 use analysis::no_blocking;
 use responses::Figures;
-use rows::FIELDS;
 use rows::MAX_TASKS;
 use rows::NUMBERS;
 use rows::Row;
-use rows::checked_row_at;
+use rows::in_range_at;
 use rows::put_rows;
 
 // Of rows that are out of range or too many.
@@ -40,9 +39,7 @@ fn all_in_range(numbers: &[u64], n: usize) -> bool
 {
     let mut i = 0;
     while i < n {
-        // A row out of range is read as no row, and that is out of range too.
-        let row = checked_row_at(numbers, FIELDS * i);
-        if !row.in_range() {
+        if !in_range_at(numbers, i) {
             return false;
         }
         i += 1;

@@ -3,49 +3,50 @@
 use mathlib.Core.Path.{_≡_, refl, ap, ap₂, sym, _∙_}
 use mathlib.Core.Bool.{true}
 use mathlib.Core.List.{List, [], _∷_, _++_}
-use Prim.Native.Nat.{ℕ, zero, suc, _-_, _/_, _%_, _^_, _≤_, _<_}
+use Prim.Native.Nat.{ℕ, zero, suc, _-_, _*_, _/_, _%_, _^_, _≤_, _<_}
 use native.Mathlib.Decide.{ℕ-discrete}
 use native.Mathlib.Omega.{arith}
-use lib.ListN.{length, getD, set, take, drop, replicate, length-append}
-use lib.Seq.{getD-take, drop-cons, append-snoc, set-append-seam}
+use lib.ListN.{length, getD, set, drop, replicate, length-append}
 use lib.Pow.{pow-pos}
 use Rattle.rows.specs.declared.Row.{Row}
-use Rattle.rows.specs.Rows.{maxTasks, inRange, noRow, rowAt}
+use Rattle.rows.specs.Rows.{maxTasks, fieldCount, inRange, rowAt}
 use Rattle.rows.specs.inside.Arrays.{ranking}
-use Rattle.rows.proofs.Limits.{at-passes}
+use Rattle.rows.specs.inside.Numbers.{rowsOf, rowIn}
 use Rattle.rows.proofs.Tasks.{tasks-last}
-use Rattle.rows.proofs.Arrays.{blank-left}
+use Rattle.rows.proofs.Arrays.{blank-left, front-next}
+use Rattle.rows.proofs.RowNumbers.{rows-length, rows-at}
 use Rattle.orders.specs.Orders.{theOrder}
 use Rattle.orders.specs.inside.Sets.{members, isSome, orderAt, Known, Recorded}
 use Rattle.orders.specs.Stability.{stable}
 use Rattle.orders.specs.inside.Search.{tasksIn, Lent, Chained, chainTasks}
 use Rattle.orders.proofs.Possible.{taken-length}
 use Rattle.orders.proofs.Sets.{less-row, taken-at, no-members, all-members, some-member}
-use Rattle.orders.proofs.LentRows.{small, a-set}
+use Rattle.orders.proofs.LentRows.{small, a-set, row-held, ranged}
 use Rattle.orders.proofs.Scan.{at-empty}
 use Rattle.orders.proofs.Record.{says-lowest}
 
 -- ---- along the chain of a set that is not empty
-module _ (rows : List Row) (sets : List ℕ) where
+module _ (ns sets : List ℕ) where
   -- its lowest row, and the rest
   pub row-of :
       (m k : ℕ) →
       0 < k →
-      Chained rows sets k m →
+      Chained ns sets k m →
       let i = getD sets m 0 in
       (i < maxTasks)
-      × (inRange (rowAt rows i) ≡ true)
+      × (fieldCount * suc i ≤ length ns)
+      × (inRange (rowIn ns i) ≡ true)
       × (m / 2 ^ i % 2 ≡ 1)
-      × Chained rows sets (k - 1) (m - 2 ^ i)
+      × Chained ns sets (k - 1) (m - 2 ^ i)
   row-of m zero l c = absurd (omega arith)
   row-of m (suc k) l c = let e : suc k - 1 ≡ k = omega arith in rw e c
 
-  pub chain-length : (k m : ℕ) → length (chainTasks rows sets k m) ≡ k
+  pub chain-length : (k m : ℕ) → length (chainTasks ns sets k m) ≡ k
   chain-length zero m = refl
   chain-length (suc k) m =
       let i = getD sets m 0 in
-      let above = chainTasks rows sets k (m - 2 ^ i) in
-      omega (arith, length-append above (rowAt rows i .task ∷ []), chain-length k (m - 2 ^ i))
+      let above = chainTasks ns sets k (m - 2 ^ i) in
+      omega (arith, length-append above (rowIn ns i .task ∷ []), chain-length k (m - 2 ^ i))
 
   -- the lowest row's task goes below those of the rest, next in the array
   pub chain-lowest :
@@ -53,20 +54,17 @@ module _ (rows : List Row) (sets : List ℕ) where
       0 < k →
       k ≤ length tasks →
       let i = getD sets m 0 in
-      r ≡ rowAt rows i →
-      filled ≡ chainTasks rows sets (k - 1) (m - 2 ^ i) ++ drop (k - 1) tasks →
-      set filled (k - 1) (r .task) ≡ chainTasks rows sets k m ++ drop k tasks
+      r ≡ rowIn ns i →
+      filled ≡ chainTasks ns sets (k - 1) (m - 2 ^ i) ++ drop (k - 1) tasks →
+      set filled (k - 1) (r .task) ≡ chainTasks ns sets k m ++ drop k tasks
   chain-lowest m zero tasks filled r l few is h = absurd (omega arith)
   chain-lowest m (suc k) tasks filled r l few is h =
       let e : suc k - 1 ≡ k = omega arith in
       let i = getD sets m 0 in
-      let task = rowAt rows i .task in
-      let above = chainTasks rows sets k (m - 2 ^ i) in
-      let here = (rw e at h) ∙ ap (λ (l : List ℕ). above ++ l) (drop-cons tasks k 0 few) in
-      rw (is, e) (
-      ap₂ (λ (l : List ℕ) (j : ℕ). set l j task) here (sym (chain-length k (m - 2 ^ i)))
-      ∙ set-append-seam above (getD tasks k 0) (drop (suc k) tasks) task
-      ∙ sym (append-snoc above task (drop (suc k) tasks)))
+      let above = chainTasks ns sets k (m - 2 ^ i) in
+      rw (is, e)
+      (ap (λ (l : List ℕ). set l k (rowIn ns i .task)) (rw e at h)
+      ∙ front-next 0 above tasks k (rowIn ns i .task) (chain-length k (m - 2 ^ i)) few)
 
 -- in an array that had nothing in it, they are an order
 pub chain-order : (tasks filled : List ℕ) (n : ℕ) → n ≤ maxTasks → length tasks ≡ n
@@ -79,10 +77,9 @@ chain-order tasks filled n few many e =
     (sym many)
 
 -- ---- the chain of a set that has an order, and is in the record
-module _ (rows : List Row) (n : ℕ) (lent : Lent rows n) (sets : List ℕ)
-    (rec : Recorded stable (take n rows) sets) where
+module _ (n : ℕ) (ns : List ℕ) (lent : Lent n ns) (sets : List ℕ) (rec : Recorded stable (rowsOf n ns) sets) where
   abbrev table : List Row
-  table = take n rows
+  table = rowsOf n ns
 
   chain-of :
       (k m : ℕ) →
@@ -90,7 +87,7 @@ module _ (rows : List Row) (n : ℕ) (lent : Lent rows n) (sets : List ℕ)
       m < 2 ^ n →
       Known stable table sets m →
       isSome (orderAt stable table m) ≡ true →
-      Chained rows sets k m × (chainTasks rows sets k m ≡ tasksIn (orderAt stable table m))
+      Chained ns sets k m × (chainTasks ns sets k m ≡ tasksIn (orderAt stable table m))
   chain-of zero m e l h o = elim (ℕ-discrete m 0) [
     | yes z ↦ (
       z,
@@ -103,14 +100,13 @@ module _ (rows : List Row) (n : ℕ) (lent : Lent rows n) (sets : List ℕ)
       let some-row : m ≡ 0 → ⊥ =
       λ z. omega (arith, ap (λ (j : ℕ). length (members j table)) z, ap length (no-members table)) in
       let low = says-lowest stable table (small lent) m i (h some-row) o in
-      let row : i < n = omega (arith, low .in-table, lent .counted) in
+      let row : i < n = omega (arith, low .in-table, rows-length n ns) in
       let taken = taken-at 1 table i m (m - 2 ^ i) (low .in-table) (less-row i m (low .in-set) .0) in
-      let is = sym (getD-take n rows i noRow row) in
-      let ranged = at-passes inRange table i (lent .table .in-range) (low .in-table) in
+      let is = sym (rows-at n i ns row) in
       let there = rec .closed m (a-set lent m l) low in
       let rest = chain-of k (m - 2 ^ i) (omega (arith, taken-length taken)) (omega arith) there
       (ap isSome (low .above-is)) in (
-        (omega (arith, row, lent .held), ap inRange is ∙ ranged, low .in-set, rest .0),
+        (omega (arith, row, lent .few), row-held lent i row, ranged lent i row, low .in-set, rest .0),
         ap₂ (λ (ts : List ℕ) (r : Row). ts ++ (r .task ∷ [])) (rest .1 ∙ ap tasksIn (low .above-is)) is
             ∙ sym (ap tasksIn (low .order-is) ∙ tasks-last (low .above) (rowAt table i)),
       )
@@ -121,8 +117,9 @@ module _ (rows : List Row) (n : ℕ) (lent : Lent rows n) (sets : List ℕ)
       all ≡ 2 ^ n - 1 →
       Known stable table sets all →
       isSome (orderAt stable table all) ≡ true →
-      Chained rows sets n all × (chainTasks rows sets n all ≡ tasksIn (orderAt stable table all))
+      Chained ns sets n all × (chainTasks ns sets n all ≡ tasksIn (orderAt stable table all))
   chain all e =
-      let whole : all ≡ 2 ^ length table - 1 = e ∙ ap (λ (k : ℕ). 2 ^ k - 1) (sym (lent .counted)) in
-      let full = ap (λ (m : ℕ). length (members m table)) whole ∙ ap length (all-members table) ∙ lent .counted in
+      let many = rows-length n ns in
+      let whole : all ≡ 2 ^ length table - 1 = e ∙ ap (λ (k : ℕ). 2 ^ k - 1) (sym many) in
+      let full = ap (λ (m : ℕ). length (members m table)) whole ∙ ap length (all-members table) ∙ many in
       chain-of n all full (omega (arith, pow-pos n))

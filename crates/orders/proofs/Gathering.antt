@@ -1,8 +1,8 @@
--- The rows of a set gathered as columns, one row of the table after another: after j rows the columns hold the times of
--- the set's rows among them. So the figures found in the columns are those under the set.
-use mathlib.Core.Path.{_≡_, refl, sym, ap, subst, _∙_}
+-- The rows of a set gathered as positions, one row of the table after another: after j rows the positions are those of
+-- the set's rows among them.
+use mathlib.Core.Path.{_≡_, refl, sym, ap, _∙_}
 use mathlib.Core.Bool.{Bool, true}
-use mathlib.Core.List.{List, [], _∷_, _++_, append-nil}
+use mathlib.Core.List.{List, [], _∷_, _++_, map-append, append-nil}
 use Prim.Native.Nat.{ℕ, zero, suc, _+_, _/_, _%_, _^_, _≤_, _<_}
 use native.Mathlib.Decide.{ℕ-discrete}
 use native.Mathlib.Nat.{add-zero}
@@ -10,18 +10,15 @@ use native.Mathlib.Numerals.{add-one}
 use native.Mathlib.Omega.{arith}
 use borrow.Author.Tests.{eq-eqb, ne-eqb}
 use lib.Dec.{eqb}
-use lib.ListN.{length, take, set}
-use lib.Seq.{take-length}
+use lib.ListN.{length, take, set, length-append, List·getD-append}
+use lib.Seq.{take-all, take-set-le, take-suc-set, getD-at}
 use Rattle.basics.proofs.Tests.{and-both}
-use Rattle.rows.specs.Rows.{maxTasks, inRange, allRows, rowAt}
+use Rattle.rows.specs.Rows.{allRows, rowAt}
 use Rattle.rows.specs.declared.Row.{Row}
+use Rattle.rows.specs.inside.Numbers.{rowsAt, Below}
 use Rattle.rows.proofs.Limits.{head-passes, tail-passes}
-use Rattle.responses.specs.declared.Figures.{Figures}
-use Rattle.responses.specs.inside.Columns.{rowsAbove, UnderColumns}
-use Rattle.responses.specs.Figures.{figuresUnder, isStable}
-use Rattle.responses.proofs.Filling.{Filled, filled-none, filled-more, filled-over, filled-under, filled-figures}
-use Rattle.responses.proofs.Responses.{stable-is}
 use Rattle.orders.specs.inside.Sets.{keep, members}
+use Rattle.orders.specs.inside.Search.{PositionsIn}
 use Rattle.orders.proofs.Sets.{halved-after, before-next}
 
 -- ---- the members of a set
@@ -35,60 +32,77 @@ members-pass f m (r ∷ rs) h =
     ]
 
 -- ---- how far the gathering has come
-pub record Gathering (table : List Row) (m : ℕ) (ps ws bs : List ℕ) (count rest j : ℕ) : Type 0 where
+pub record Gathering (m n : ℕ) (ps : List ℕ) (count rest j : ℕ) : Type 0 where
   pub few : count ≤ j
-  pub passed : j ≤ length table
+  pub passed : j ≤ n
   pub rest-is : rest ≡ m / 2 ^ j
-  pub filled : Filled (members m (take j table)) ps ws bs count
+  pub below : Below n (take count ps)
+  pub rows-there :
+      (table : List Row) → length table ≡ n → rowsAt table (take count ps) ≡ members m (take j table)
 
-pub gathering-none : (table : List Row) (m : ℕ) (ps ws bs : List ℕ)
-    → length ps ≡ maxTasks → length ws ≡ maxTasks → length bs ≡ maxTasks
-    → Gathering table m ps ws bs 0 m 0
-gathering-none table m ps ws bs p w b = record {
+pub gathering-none : (m n : ℕ) (ps : List ℕ) → Gathering m n ps 0 m 0
+gathering-none m n ps = record {
   few = omega arith;
   passed = omega arith;
   rest-is = omega arith;
-  filled = filled-none ps ws bs p w b;
+  below = λ k l. absurd (omega arith);
+  rows-there = λ table l. refl;
 }
 
-module _ {table : List Row} {m : ℕ} {ps ws bs : List ℕ} {count rest j : ℕ} (g : Gathering table m ps ws bs count rest j)
-    (small : length table ≤ maxTasks) where
-  -- row j is written after the others: it counts if its bit b is set
-  module _ (more : j < length table) (r : Row) (is : r ≡ rowAt table j) where
-    abbrev Written : List Row → ℕ → Type 0
-    Written rs n = Filled rs (set ps count (r .period)) (set ws count (r .worst)) (set bs count (r .best)) n
+-- one more after those below n
+below-last : (n : ℕ) (ps : List ℕ) (p : ℕ) → Below n ps → p < n → Below n (ps ++ (p ∷ []))
+below-last n ps p h l k less = elim (ℕ-discrete k (length ps)) [
+  | yes e ↦ omega (arith, getD-at ps p [] 0 k (sym e))
+  | no ne ↦ (
+      let early : k < length ps = omega (arith, less, ne, length-append ps (p ∷ [])) in
+      omega (arith, List·getD-append ps (p ∷ []) 0 k early, h k early))
+]
 
-    written : (b : ℕ) → b < 2 → Written (members m (take j table) ++ keep (eqb b 1) (rowAt table j) []) (count + b)
-    written zero h = rw (add-zero count, append-nil (members m (take j table))) (filled-over (g .filled) r)
+module _ {m n : ℕ} {ps : List ℕ} {count rest j : ℕ} (g : Gathering m n ps count rest j) where
+  -- position j is written after the others: it counts if its bit b is set
+  module _ (more : j < n) (room : n ≤ length ps) where
+    abbrev Written : ℕ → Type 0
+    Written b =
+        Below n (take (count + b) (set ps count j))
+        × ((table : List Row) → length table ≡ n
+        → rowsAt table (take (count + b) (set ps count j))
+        ≡ members m (take j table) ++ keep (eqb b 1) (rowAt table j) [])
+
+    written : (b : ℕ) → b < 2 → Written b
+    written zero h =
+        rw (add-zero count, take-set-le count ps count j (omega arith)) (
+          g .below,
+          λ table l. g .rows-there table l ∙ sym (append-nil (members m (take j table))),
+        )
     written (suc zero) h =
-        rw (add-one count)
-        (filled-more (g .filled) (omega (arith, g .few)) r
-        (ap (λ (x : Row). members m (take j table) ++ (x ∷ [])) (sym is)))
+        rw (add-one count, take-suc-set ps count j (omega (arith, g .few))) (
+          below-last n (take count ps) j (g .below) more,
+          λ table l. map-append (rowAt table) (take count ps) (j ∷ [])
+              ∙ ap (λ rs. rs ++ (rowAt table j ∷ [])) (g .rows-there table l),
+        )
     written (suc (suc b)) h = absurd (omega arith)
 
-    pub gathering-next : Gathering table m (set ps count (r .period)) (set ws count (r .worst)) (set bs count (r .best))
-        (count + rest % 2) (rest / 2) (suc j)
+    pub gathering-next : Gathering m n (set ps count j) (count + rest % 2) (rest / 2) (suc j)
     gathering-next =
         let bit : rest % 2 < 2 = omega arith in
-        let front = rw (sym (g .rest-is)) at (before-next 1 table j m more) in
+        let w = written (rest % 2) bit in
         record {
           few = omega (arith, g .few, bit);
           passed = more;
           rest-is = ap (λ (k : ℕ). k / 2) (g .rest-is) ∙ sym (halved-after m j);
-          filled = subst (λ (l : List Row). Written l (count + rest % 2)) (sym front) (written (rest % 2) bit);
+          below = w .0;
+          rows-there = λ table l.
+              w .1 table l
+              ∙ ap (λ (k : ℕ). members m (take j table) ++ keep (eqb (k % 2) 1) (rowAt table j) []) (g .rest-is)
+              ∙ sym (before-next 1 table j m (omega arith));
         }
 
-  -- ---- all rows are passed: the columns hold the set
-  module _ (done : length table ≤ j) where
-    held : Filled (members m table) ps ws bs count
-    held =
-        let all : j ≡ length table = omega (arith, g .passed) in
-        subst (λ (l : List Row). Filled (members m l) ps ws bs count)
-        (ap (λ (k : ℕ). take k table) all ∙ take-length table) (g .filled)
-
-    pub gathered-under : allRows inRange table ≡ true → (r : Row) → inRange r ≡ true → UnderColumns r count ps ws bs
-    gathered-under ok r h = filled-under held (omega (arith, g .few, g .passed)) (members-pass inRange m table ok) r h
-
-    pub gathered-stable : (r : Row) (x : Figures) → x ≡ figuresUnder r (rowsAbove count ps ws bs)
-        → x .stable ≡ isStable r (members m table)
-    gathered-stable r x e = ap (λ (f : Figures). f .stable) (filled-figures held r x e) ∙ stable-is r (members m table)
+  -- all rows are passed
+  pub gathered : n ≤ j → PositionsIn m n ps count
+  gathered done = record {
+    few = omega (arith, g .few, g .passed);
+    below = g .below;
+    rows-there = λ table l.
+        g .rows-there table l
+        ∙ ap (members m) (take-all j table (omega arith));
+  }

@@ -1,30 +1,29 @@
--- A set that the search is at is a set of the table, and the table has fewer rows than a byte has values. Rows lent as
--- numbers are in range.
-use mathlib.Core.Path.{_≡_, sym, ap, subst, _∙_}
+-- Rows lent as numbers: a set that the search is at is a set of the table, which has fewer rows than a byte has values,
+-- and each row is held by the numbers and in range.
+use mathlib.Core.Path.{_≡_, sym, subst}
 use mathlib.Core.Bool.{true}
 use mathlib.Core.List.{List}
-use Prim.Native.Nat.{ℕ, _^_, _<_}
+use Prim.Native.Nat.{ℕ, suc, _*_, _^_, _≤_, _<_}
 use native.Mathlib.Omega.{arith}
-use lib.ListN.{length, take}
-use Rattle.rows.specs.declared.Row.{Row}
-use Rattle.rows.specs.Rows.{inRange}
-use Rattle.rows.proofs.Limits.{at-passes}
+use lib.ListN.{length}
+use Rattle.rows.specs.Rows.{fieldCount, inRange}
+use Rattle.rows.specs.inside.Numbers.{rowsOf, rowIn}
+use Rattle.rows.proofs.RowNumbers.{rows-length, row-ranged}
 use Rattle.orders.specs.inside.Sets.{unknown}
-use Rattle.orders.specs.inside.Numbers.{rowIn, rowsIn}
 use Rattle.orders.specs.inside.Search.{Lent}
-use Rattle.orders.proofs.RowNumbers.{row-is}
 
-module _ {rows : List Row} {n : ℕ} (l : Lent rows n) where
-  pub small : length (take n rows) < unknown
-  small = omega (arith, l .counted, l .held)
+module _ {n : ℕ} {ns : List ℕ} (l : Lent n ns) where
+  pub small : length (rowsOf n ns) < unknown
+  small = omega (arith, rows-length n ns, l .few)
 
-  pub a-set : (m : ℕ) → m < 2 ^ n → m < 2 ^ length (take n rows)
-  a-set m h = subst (λ (k : ℕ). m < 2 ^ k) (sym (l .counted)) h
+  pub a-set : (m : ℕ) → m < 2 ^ n → m < 2 ^ length (rowsOf n ns)
+  a-set m h = subst (λ (k : ℕ). m < 2 ^ k) (sym (rows-length n ns)) h
 
-  pub a-row : (i : ℕ) → i < n → i < length (take n rows)
-  a-row i h = omega (arith, l .counted)
+  pub a-row : (i : ℕ) → i < n → i < length (rowsOf n ns)
+  a-row i h = omega (arith, rows-length n ns)
 
-pub row-ranged : (ns : List ℕ) (n : ℕ) (l : Lent (rowsIn ns) n) (i : ℕ) → i < n → inRange (rowIn ns i) ≡ true
-row-ranged ns n l i h =
-    ap inRange (row-is ns n (l .held) i h)
-    ∙ at-passes inRange (take n (rowsIn ns)) i (l .table .in-range) (a-row l i h)
+  pub row-held : (i : ℕ) → i < n → fieldCount * suc i ≤ length ns
+  row-held i h = omega (arith, l .held)
+
+  pub ranged : (i : ℕ) → i < n → inRange (rowIn ns i) ≡ true
+  ranged i h = row-ranged ns n i h (l .table .in-range)

@@ -8,7 +8,6 @@ pub mod Tasks
 pub mod Sets
 pub mod Scan
 pub mod Record
-pub mod Chains
-pub mod RowNumbers
-pub mod Gathering
 pub mod LentRows
+pub mod Chains
+pub mod Gathering

@@ -1,4 +1,3 @@
 -- What functions promise each other: nothing here is needed to believe what the public calls promise.
 pub mod Sets
-pub mod Numbers
 pub mod Search

@@ -1,26 +1,27 @@
 // The order of a table's tasks by the rule, found from the whole set down with a byte for each set.
 
-// numbers.rt: rows as numbers, which the search is lent.
-mod numbers;
-
 ghost use mathlib.Core.Path.{_≡_};
 ghost use mathlib.Core.List.{[], _++_};
 ghost use Prim.Native.Nat.{_/_, _%_, _^_, _≤_, _<_};
-ghost use lib.ListN.{length, take, drop};
+ghost use lib.ListN.{length, drop};
 ghost use Rattle.rows.specs.Rows.{maxTasks};
 ghost use Rattle.rows.specs.inside.Arrays.{ranking};
+ghost use Rattle.rows.specs.inside.Numbers.{rowsOf};
 ghost use Rattle.orders.specs.inside.Sets.{fits, Fresh, Settled};
 ghost use Rattle.orders.specs.Stability.{stable};
-ghost use Rattle.orders.specs.inside.Numbers.{rowsIn};
-ghost use Rattle.orders.specs.inside.Search.{Lent, Searching, MayGo, LowestFound};
+ghost use Rattle.orders.specs.inside.Search.{Lent, PositionsIn, Searching, MayGo, LowestFound};
 ghost use Rattle.orders.specs.inside.Search.{Chained, chainTasks, TableRows, Chooses};
-use numbers::NUMBERS;
-use numbers::put_rows;
-use numbers::row_at;
 use responses::figures_under;
+use rows::BEST;
+use rows::FIELDS;
 use rows::MAX_TASKS;
+use rows::NUMBERS;
 use rows::Order;
+use rows::PERIOD;
 use rows::Row;
+use rows::WORST;
+use rows::put_rows;
+use rows::row_at;
 
 // How many sets of tasks there are.
 const SETS: usize = 1 << MAX_TASKS;
@@ -43,36 +44,51 @@ fn power(i: usize) -> usize
     1 << i
 }
 
-// Whether row i of set m is stable as its lowest row, under the rest of the set.
-fn stable_under(numbers: &[u64; NUMBERS], n: usize, m: usize, i: usize) -> bool
-    requires { ⌜ Lent (rowsIn (now numbers)) n × (i < n) × (m / 2 ^ i % 2 ≡ 1) ⌝ }
-    ensures { λ r. ⌜ r ≡ fits stable (take n (rowsIn (now (numbers .entry)))) m i ⌝ }
+// Where the rows of set m stand among n rows, put at the front of positions, and how many they are.
+fn positions_in(m: usize, n: usize, positions: &mut [usize]) -> usize
+    requires { ⌜ n ≤ length (now positions) ⌝ }
+    ensures { λ r. ⌜ PositionsIn m n (now (positions .exit)) r ⌝ }
 {
-    let mut periods = [0u64; MAX_TASKS];
-    let mut worsts = [0u64; MAX_TASKS];
-    let mut bests = [0u64; MAX_TASKS];
     let mut count: usize = 0;
-    let mut rest = m - power(i);
+    let mut rest = m;
     let mut j: usize = 0;
-    // Every row is written, and the next overwrites one outside the set: no branch for the processor to mispredict.
+    // Every position is written, and the next overwrites one outside the set: no branch for a processor to mispredict.
     while j < n {
-        let row = row_at(numbers, j);
-        periods[count] = row.period as u64;
-        worsts[count] = row.worst as u64;
-        bests[count] = row.best as u64;
+        positions[count] = j;
         count += rest % 2;
         rest = rest / 2;
         j += 1;
     }
-    let row = row_at(numbers, i);
+    count
+}
+
+// Whether row i of set m is stable as its lowest row, under the rest of the set.
+fn stable_under(rows: &[u64], n: usize, m: usize, i: usize) -> bool
+    requires { ⌜ Lent n (now rows) × (i < n) × (m / 2 ^ i % 2 ≡ 1) ⌝ }
+    ensures { λ r. ⌜ r ≡ fits stable (rowsOf n (now (rows .entry))) m i ⌝ }
+{
+    let mut positions = [0usize; MAX_TASKS];
+    let count = positions_in(m - power(i), n, &mut positions);
+    let mut periods = [0u64; MAX_TASKS];
+    let mut worsts = [0u64; MAX_TASKS];
+    let mut bests = [0u64; MAX_TASKS];
+    let mut k: usize = 0;
+    while k < count {
+        let at = FIELDS * positions[k];
+        periods[k] = rows[at + PERIOD];
+        worsts[k] = rows[at + WORST];
+        bests[k] = rows[at + BEST];
+        k += 1;
+    }
+    let row = row_at(rows, i);
     let figures = figures_under(row, &periods, &worsts, &bests, count);
     figures.stable
 }
 
 // Whether row i may go lowest in set m: it is in the set and stable there, and the rest isn't known to have no order.
-fn may_go(numbers: &[u64; NUMBERS], n: usize, m: usize, i: usize, sets: &[u8]) -> bool
-    requires { ⌜ Searching (rowsIn (now numbers)) n m (now sets) × (i < n) ⌝ }
-    ensures { λ r. ⌜ MayGo (rowsIn (now (numbers .entry))) n m i r ⌝ }
+fn may_go(rows: &[u64], n: usize, m: usize, i: usize, sets: &[u8]) -> bool
+    requires { ⌜ Searching n (now rows) m (now sets) × (i < n) ⌝ }
+    ensures { λ r. ⌜ MayGo (rowsOf n (now (rows .entry))) m i r ⌝ }
 {
     if (m >> i) % 2 == 0 {
         return false;
@@ -80,18 +96,18 @@ fn may_go(numbers: &[u64; NUMBERS], n: usize, m: usize, i: usize, sets: &[u8]) -
     if sets[m - power(i)] == NO_ORDER {
         return false;
     }
-    stable_under(numbers, n, m, i)
+    stable_under(rows, n, m, i)
 }
 
 // The first row of the table that goes lowest in set m.
-fn lowest(numbers: &[u64; NUMBERS], n: usize, m: usize, sets: &mut [u8]) -> u8
-    requires { ⌜ Searching (rowsIn (now numbers)) n m (now sets) × (1 ≤ m) ⌝ }
-    ensures { λ r. ⌜ LowestFound (rowsIn (now (numbers .entry))) n m (now (sets .exit)) r ⌝ }
+fn lowest(rows: &[u64], n: usize, m: usize, sets: &mut [u8]) -> u8
+    requires { ⌜ Searching n (now rows) m (now sets) × (1 ≤ m) ⌝ }
+    ensures { λ r. ⌜ LowestFound (rowsOf n (now (rows .entry))) m (now (sets .exit)) r ⌝ }
 {
     let mut i: usize = 0;
     while i < n {
-        if may_go(numbers, n, m, i, sets) {
-            if settled(numbers, n, m - power(i), sets) {
+        if may_go(rows, n, m, i, sets) {
+            if settled(rows, n, m - power(i), sets) {
                 return i as u8;
             }
         }
@@ -101,16 +117,16 @@ fn lowest(numbers: &[u64; NUMBERS], n: usize, m: usize, sets: &mut [u8]) -> u8
 }
 
 // Whether set m has an order; the record then has the set.
-fn settled(numbers: &[u64; NUMBERS], n: usize, m: usize, sets: &mut [u8]) -> bool
-    requires { ⌜ Searching (rowsIn (now numbers)) n m (now sets) ⌝ }
-    ensures { λ r. ⌜ Settled stable (take n (rowsIn (now (numbers .entry)))) m (now (sets .exit)) r ⌝ }
+fn settled(rows: &[u64], n: usize, m: usize, sets: &mut [u8]) -> bool
+    requires { ⌜ Searching n (now rows) m (now sets) ⌝ }
+    ensures { λ r. ⌜ Settled stable (rowsOf n (now (rows .entry))) m (now (sets .exit)) r ⌝ }
 {
     if m == 0 {
         return true;
     }
     let known = sets[m];
     if known == UNKNOWN {
-        let found = lowest(numbers, n, m, sets);
+        let found = lowest(rows, n, m, sets);
         sets[m] = found;
         return found != NO_ORDER;
     }
@@ -129,27 +145,27 @@ fn nothing() -> Order
 
 // The n tasks of set m's order, read off the record into the front of tasks: those of the set without its lowest row,
 // then that row's.
-fn rebuild(numbers: &[u64; NUMBERS], n: usize, m: usize, sets: &[u8], tasks: &mut [u16])
-    requires { ⌜ (n ≤ length (now tasks)) × (m < length (now sets)) × Chained (rowsIn (now numbers)) (now sets) n m ⌝ }
+fn rebuild(rows: &[u64], n: usize, m: usize, sets: &[u8], tasks: &mut [u16])
+    requires { ⌜ (n ≤ length (now tasks)) × (m < length (now sets)) × Chained (now rows) (now sets) n m ⌝ }
     ensures { λ _. ⌜ now (tasks .exit)
-        ≡ chainTasks (rowsIn (now (numbers .entry))) (now (sets .entry)) n m ++ drop n (now (tasks .entry)) ⌝ }
+        ≡ chainTasks (now (rows .entry)) (now (sets .entry)) n m ++ drop n (now (tasks .entry)) ⌝ }
 {
     if 0 < n {
         let i = sets[m] as usize;
         let above = n - 1;
-        rebuild(numbers, above, m - power(i), sets, tasks);
-        let row = row_at(numbers, i);
+        rebuild(rows, above, m - power(i), sets, tasks);
+        let row = row_at(rows, i);
         tasks[above] = row.task as u16;
     }
 }
 
 // The order of the n rows of set m, read off the record.
-fn read_off(numbers: &[u64; NUMBERS], n: usize, m: usize, sets: &[u8]) -> Order
-    requires { ⌜ (n ≤ maxTasks) × (m < length (now sets)) × Chained (rowsIn (now numbers)) (now sets) n m ⌝ }
-    ensures { λ r. ⌜ r ≡ ranking (chainTasks (rowsIn (now (numbers .entry))) (now (sets .entry)) n m) ⌝ }
+fn read_off(rows: &[u64], n: usize, m: usize, sets: &[u8]) -> Order
+    requires { ⌜ (n ≤ maxTasks) × (m < length (now sets)) × Chained (now rows) (now sets) n m ⌝ }
+    ensures { λ r. ⌜ r ≡ ranking (chainTasks (now (rows .entry)) (now (sets .entry)) n m) ⌝ }
 {
     let mut tasks = [0u16; MAX_TASKS];
-    rebuild(numbers, n, m, sets, &mut tasks);
+    rebuild(rows, n, m, sets, &mut tasks);
     Order { tasks, count: n }
 }
 
@@ -160,13 +176,13 @@ pub struct Choice {
 }
 
 // The order of n rows by the rule, with a record of sets that has none yet.
-fn order_with(numbers: &[u64; NUMBERS], n: usize, sets: &mut [u8]) -> Choice
-    requires { ⌜ Lent (rowsIn (now numbers)) n × Fresh n (now sets) ⌝ }
-    ensures { λ r. ⌜ Chooses (take n (rowsIn (now (numbers .entry)))) r ⌝ }
+fn order_with(rows: &[u64], n: usize, sets: &mut [u8]) -> Choice
+    requires { ⌜ Lent n (now rows) × Fresh n (now sets) ⌝ }
+    ensures { λ r. ⌜ Chooses (rowsOf n (now (rows .entry))) r ⌝ }
 {
     let all = power(n) - 1;
-    if settled(numbers, n, all, sets) {
-        let order = read_off(numbers, n, all, sets);
+    if settled(rows, n, all, sets) {
+        let order = read_off(rows, n, all, sets);
         return Choice { found: true, order };
     }
     Choice {
@@ -176,16 +192,24 @@ fn order_with(numbers: &[u64; NUMBERS], n: usize, sets: &mut [u8]) -> Choice
 }
 
 // The order of n rows by the rule. Few rows have few sets, and a short record is soon filled.
-fn order_in(numbers: &[u64; NUMBERS], n: usize) -> Choice
-    requires { ⌜ Lent (rowsIn (now numbers)) n ⌝ }
-    ensures { λ r. ⌜ Chooses (take n (rowsIn (now (numbers .entry)))) r ⌝ }
+pub fn choose(rows: &[u64], n: usize) -> Choice
+    requires { ⌜ Lent n (now rows) ⌝ }
+    ensures { λ r. ⌜ Chooses (rowsOf n (now (rows .entry))) r ⌝ }
 {
     if n <= FEW_TASKS {
         let mut few = [UNKNOWN; FEW_SETS];
-        return order_with(numbers, n, &mut few);
+        return order_with(rows, n, &mut few);
     }
     let mut sets = [UNKNOWN; SETS];
-    order_with(numbers, n, &mut sets)
+    order_with(rows, n, &mut sets)
+}
+
+// The same of the first rows of an array.
+fn order_in(numbers: &[u64; NUMBERS], n: usize) -> Choice
+    requires { ⌜ Lent n (now numbers) ⌝ }
+    ensures { λ r. ⌜ Chooses (rowsOf n (now (numbers .entry))) r ⌝ }
+{
+    choose(numbers, n)
 }
 
 // The order of a table's rows by the rule.
@@ -197,12 +221,4 @@ pub fn order_of(rows: &[Row]) -> Choice
     let mut numbers = [0u64; NUMBERS];
     put_rows(rows, &mut numbers);
     order_in(&numbers, n)
-}
-
-// The order of the first n rows of an array, which are lent as a table.
-pub fn order_of_first(rows: [Row; MAX_TASKS], n: usize) -> Choice
-    requires { ⌜ Lent rows n ⌝ }
-    ensures { λ r. ⌜ Chooses (take n rows) r ⌝ }
-{
-    order_of(&rows[..n])
 }

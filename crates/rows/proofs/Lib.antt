@@ -1,4 +1,5 @@
--- What a row in range says; the tasks of some rows; rows as numbers; lists in arrays; what walks over a lent slice of rows share.
+-- What a row in range says; the tasks of some rows; rows as numbers; lists in arrays; what walks over a lent slice of
+-- rows share.
 pub mod Limits
 pub mod Tasks
 pub mod RowNumbers
@@ -6,4 +7,3 @@ pub mod Putting
 pub mod Arrays
 pub mod Calls
 pub mod Walk
-pub mod Lend

@@ -11,11 +11,9 @@ use borrow.Author.Tests.{eq-eqb, ne-eqb}
 use lib.ListN.{length, getD, take, drop, length-take, length-drop}
 use lib.ListN.{drop-of-length-le, List·getD-append}
 use lib.Seq.{drop-drop, drop-append-le, length-take-le, take-suc, getD-take, getD-drop, ext-getD}
-use Rattle.basics.specs.Basics.{pick}
 use Rattle.rows.specs.declared.Row.{Row}
 use Rattle.rows.specs.Rows.{taskAt, periodAt, worstAt, bestAt, alphaAt, betaAt, fieldCount, rowOf}
 use Rattle.rows.specs.Rows.{row, noRow, rowAt, inRange, allRows, tasksOf, hasTask, positionOf}
-use Rattle.rows.specs.inside.Constructor.{checked}
 use Rattle.rows.specs.inside.Numbers.{rowsOf, rowIn, rowsIn, rowsAt, Below, between}
 use Rattle.rows.proofs.Limits.{at-passes}
 
@@ -96,10 +94,12 @@ pub row-ranged : (ws : List ℕ) (n i : ℕ) → i < n → allRows inRange (rows
 row-ranged ws n i h ok =
     ap inRange (sym (rows-at n i ws h)) ∙ at-passes inRange (rowsOf n ws) i ok (omega (arith, rows-length n ws))
 
--- and is found by its first number
-pub row-found : (ws : List ℕ) (n i : ℕ) → i < n → allRows inRange (rowsOf n ws) ≡ true
-    → checked (rowIn ws i) .row ≡ rowIn ws i
-row-found ws n i h ok = ap (λ b. pick b (rowIn ws i) noRow) (row-ranged ws n i h ok)
+-- the row at position k of some
+pub at-position : (table : List Row) (ps : List ℕ) (k : ℕ) → k < length ps
+    → rowAt (rowsAt table ps) k ≡ rowAt table (getD ps k 0)
+at-position table [] k h = absurd (omega arith)
+at-position table (p ∷ ps) zero h = refl
+at-position table (p ∷ ps) (suc k) h = at-position table ps k (omega arith)
 
 -- ---- some numbers from an index on
 module _ (start : ℕ) (ns : List ℕ) where

@@ -5,9 +5,8 @@ ghost use mathlib.Core.List.{_++_};
 ghost use Prim.Native.Nat.{suc, _+_, _*_, _≤_};
 ghost use lib.ListN.{length, take, drop};
 ghost use Rattle.basics.specs.Basics.{isIn};
-ghost use Rattle.rows.specs.Rows.{maxTasks, fieldCount, cost, inRange, rowOf, tasksOf, hasTask, positionOf};
+ghost use Rattle.rows.specs.Rows.{maxTasks, fieldCount, cost, inRange, tasksOf, hasTask, positionOf};
 ghost use Rattle.rows.specs.inside.Arrays.{ranking};
-ghost use Rattle.rows.specs.inside.Constructor.{checked};
 ghost use Rattle.rows.specs.inside.Numbers.{rowIn, rowsOf, RowPut, RowsPut, positionsFor};
 ghost use Rattle.rows.specs.inside.Numbers.{between, TaskNumbers};
 use super::MAX_TASKS;
@@ -48,6 +47,23 @@ pub fn row_at(numbers: &[u64], i: usize) -> Row
     }
 }
 
+// Whether row i is in range.
+pub fn in_range_at(numbers: &[u64], i: usize) -> bool
+    requires { ⌜ fieldCount * suc i ≤ length (now numbers) ⌝ }
+    ensures { λ r. ⌜ r ≡ inRange (rowIn (now (numbers .entry)) i) ⌝ }
+{
+    let at = FIELDS * i;
+    let checked = Row::new(
+        numbers[at + TASK],
+        numbers[at + PERIOD],
+        numbers[at + WORST],
+        numbers[at + BEST],
+        numbers[at + ALPHA],
+        numbers[at + BETA],
+    );
+    checked.in_range
+}
+
 // The most ticks that a job of row i takes.
 pub fn cost_at(numbers: &[u64], i: usize) -> u64
     requires { ⌜ fieldCount * suc i ≤ length (now numbers) ⌝ }
@@ -82,22 +98,6 @@ pub fn put_rows(rows: &[Row], numbers: &mut [u64; NUMBERS])
     }
 }
 
-// The row whose numbers begin at an index, if it is in range.
-pub fn checked_row_at(numbers: &[u64], at: usize) -> Row
-    requires { ⌜ at + fieldCount ≤ length (now numbers) ⌝ }
-    ensures { λ r. ⌜ r ≡ checked (rowOf (drop at (now (numbers .entry)))) .row ⌝ }
-{
-    let checked = Row::new(
-        numbers[at + TASK],
-        numbers[at + PERIOD],
-        numbers[at + WORST],
-        numbers[at + BEST],
-        numbers[at + ALPHA],
-        numbers[at + BETA],
-    );
-    checked.row
-}
-
 // Where a task stands among the first n rows; n where it does not.
 fn position_of(task: u16, rows: &[u64], n: usize) -> usize
     requires { ⌜ fieldCount * n ≤ length (now rows) ⌝ }
@@ -118,7 +118,8 @@ fn position_of(task: u16, rows: &[u64], n: usize) -> usize
 pub fn positions_for(tasks: &[u16], rows: &[u64], n: usize, positions: &mut [usize])
     requires { ⌜ (n ≤ length (now tasks)) × (fieldCount * n ≤ length (now rows)) × (n ≤ length (now positions)) ⌝ }
     ensures { λ _. ⌜ now (positions .exit)
-        ≡ positionsFor (take n (now (tasks .entry))) (rowsOf n (now (rows .entry))) ++ drop n (now (positions .entry)) ⌝ }
+        ≡ positionsFor (take n (now (tasks .entry))) (rowsOf n (now (rows .entry)))
+        ++ drop n (now (positions .entry)) ⌝ }
 {
     let mut k = 0;
     while k < n {

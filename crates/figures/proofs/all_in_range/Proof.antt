@@ -3,12 +3,10 @@ use mathlib.Core.Path.{_≡_, sym, _∙_, ap}
 use mathlib.Core.Bool.{_&&_}
 use Prim.Native.Nat.{_+_, _-_, _≤_}
 use native.Mathlib.Omega.{arith}
-use borrow.Author.Needs.{needs}
 use borrow.Author.Tests.{not-true, not-false}
 use Rattle.rows.specs.Rows.{inRange, allRows}
-use Rattle.rows.specs.inside.Numbers.{rowIn, rowsOf}
-use Rattle.rows.proofs.RowNumbers.{rowsPast, scan-all}
-use Rattle.figures.proofs.Between.{past-step, past-end, read-in-range}
+use Rattle.rows.specs.inside.Numbers.{rowsOf}
+use Rattle.rows.proofs.RowNumbers.{rowsPast, past-next, past-end, past-all}
 use Rattle.figures.proofs.all_in_range.Statement.{statement}
 use Rattle.figures.proofs.all_in_range.Tie as tie
 
@@ -20,37 +18,29 @@ abbrev μ-loop : tie.MeasureT-loop
 μ-loop numbers n i₀ i = n - i
 
 loop-holds : tie.Need-loop-holds Inv-loop μ-loop
-loop-holds c = let a = c .before .args in (omega arith, ap (allRows inRange) (scan-all (a .n) (a .numbers .now)))
+loop-holds c = let a = c .before .args in (omega arith, ap (allRows inRange) (past-all (a .n) (a .numbers .now)))
 
-mul-checked-row-at : tie.Need-mul-checked-row-at Inv-loop μ-loop
-mul-checked-row-at c = omega arith
-
-checked-row-at-requires : tie.Need-checked-row-at-requires Inv-loop μ-loop
-checked-row-at-requires c κs = omega arith
-
-in-range-requires : tie.Need-in-range-requires Inv-loop μ-loop
-in-range-requires c κs = search needs
+in-range-at-requires : tie.Need-in-range-at-requires Inv-loop μ-loop
+in-range-at-requires c κs = omega arith
 
 -- the row at i, and the rest
-step : (c : tie.After-in-range Inv-loop μ-loop) → let s = c .before .before .before .before .before in
-    let x = c .before .before .before .loop in
+step : (c : tie.After-in-range-at Inv-loop μ-loop) → let s = c .before .before .before .before in
+    let x = c .before .before .loop in
     allRows inRange (rowsOf (s .args .n) (s .args .numbers .now))
-    ≡ (c .in-range .result && allRows inRange (rowsPast (s .args .n) (x .i + 1) (s .args .numbers .now)))
+    ≡ (c .in-range-at .result && allRows inRange (rowsPast (s .args .n) (x .i + 1) (s .args .numbers .now)))
 step c =
-    let a = c .before .before .before .before .before .args in
-    let x = c .before .before .before .loop in
+    let a = c .before .before .before .before .args in
+    let x = c .before .before .loop in
     let rest = allRows inRange (rowsPast (a .n) (x .i + 1) (a .numbers .now)) in
-    let row = rowIn (a .numbers .now) (x .i) in
-    let is = c .in-range .ensures ∙ ap inRange (c .before .checked-row-at .ensures) ∙ read-in-range row in
-    x .inv .1 ∙ ap (allRows inRange) (past-step (a .n) (x .i) (a .numbers .now) (omega arith))
-    ∙ ap (λ b. b && rest) (sym is)
+    x .inv .1 ∙ ap (allRows inRange) (past-next (a .n) (x .i) (a .numbers .now) (omega arith))
+    ∙ ap (λ b. b && rest) (sym (c .in-range-at .ensures))
 
 returns : tie.Need-returns Inv-loop μ-loop
 returns c =
-    let a = c .before .before .before .before .before .before .args in
-    let x = c .before .before .before .before .loop in
+    let a = c .before .before .before .before .before .args in
+    let x = c .before .before .before .loop in
     let rest = allRows inRange (rowsPast (a .n) (x .i + 1) (a .numbers .now)) in
-    sym (step (c .before) ∙ ap (λ b. b && rest) (not-true (c .before .in-range .result) (c .if1 .taken)))
+    sym (step (c .before) ∙ ap (λ b. b && rest) (not-true (c .before .in-range-at .result) (c .if1 .taken)))
 
 add-i : tie.Need-add-i Inv-loop μ-loop
 add-i c = omega arith
@@ -60,10 +50,10 @@ loop-less c = omega arith
 
 loop-again : tie.Need-loop-again Inv-loop μ-loop
 loop-again c =
-    let a = c .before .before .before .before .before .before .args in
-    let x = c .before .before .before .before .loop in
+    let a = c .before .before .before .before .before .args in
+    let x = c .before .before .before .loop in
     let rest = allRows inRange (rowsPast (a .n) (x .i + 1) (a .numbers .now)) in
-    (omega arith, step (c .before) ∙ ap (λ b. b && rest) (not-false (c .before .in-range .result) (c .if1 .left)))
+    (omega arith, step (c .before) ∙ ap (λ b. b && rest) (not-false (c .before .in-range-at .result) (c .if1 .left)))
 
 returns-2 : tie.Need-returns-2 Inv-loop μ-loop
 returns-2 c =
@@ -78,9 +68,7 @@ all-in-range-spec =
     Inv-loop
     μ-loop
     loop-holds
-    mul-checked-row-at
-    checked-row-at-requires
-    in-range-requires
+    in-range-at-requires
     returns
     add-i
     loop-less

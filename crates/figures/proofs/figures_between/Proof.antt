@@ -11,7 +11,7 @@ use Rattle.rows.specs.inside.Numbers.{rowsOf}
 use Rattle.rows.proofs.RowNumbers.{rows-length, rows-front}
 use Rattle.responses.specs.Figures.{figuresUnder}
 use Rattle.analysis.specs.inside.Columns.{Filled}
-use Rattle.figures.proofs.Between.{InLimits, in-limits, answered, unanswered, in-sequence, blocking-max}
+use Rattle.figures.proofs.Between.{InLimits, in-limits, answered, unanswered, in-sequence}
 use Rattle.figures.proofs.figures_between.Statement.{statement}
 use Rattle.figures.proofs.figures_between.Tie as tie
 
@@ -87,7 +87,7 @@ figures-under-requires : tie.Need-figures-under-requires
 figures-under-requires c κs =
     let q = c .before .before .before .before .before .before .before .before in
     let s = q .before .before in
-    let blocks = c .before .no-blocking .ensures (lower s) in
+    let blocks = c .before .no-blocking .ensures in
     record {
       in-range = known q .in-range;
       few = omega (arith, few q);
@@ -95,8 +95,8 @@ figures-under-requires c κs =
       filled = filled (c .before .before .before);
       times-in-range = known q .times-in-range;
       below = lower s;
-      blocked-is = blocks;
-      blocked-max = omega (arith, blocks, blocking-max (lower s));
+      blocked-is = blocks .blocked-is (lower s);
+      blocked-max = blocks .blocked-max;
     }
 
 returns-2 : tie.Need-returns-2
@@ -106,7 +106,7 @@ returns-2 c =
     let a = s .args in
     let test = q .before .in-limits in
     let found = c .figures-under .ensures (upper s) (lower s) (filled (c .before .before .before .before))
-    (c .before .before .no-blocking .ensures (lower s)) in
+    (c .before .before .no-blocking .ensures .blocked-is (lower s)) in
     let all = rows-front (a .n) (a .n) (a .above .now) (omega arith) in
     found
     ∙ ap (λ rows. figuresUnder (a .row) rows (lower s)) all

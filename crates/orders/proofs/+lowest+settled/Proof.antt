@@ -6,14 +6,15 @@ use mathlib.Core.Logic.{inl, inr, ⊎-elim}
 use Prim.Native.Nat.{ℕ, suc, _+_, _-_, _*_, _≤_, _<_}
 use native.Mathlib.Numerals.{add-one}
 use native.Mathlib.Omega.{arith}
-use lib.ListN.{length, take, length-set}
+use lib.ListN.{length, length-set}
 use lib.Pow.{pow-pos}
 use borrow.Fn.Kinds.{In}
 use borrow.Fn.PlainCycle.{Measures, is, falls, and}
+use Rattle.rows.specs.inside.Numbers.{rowsOf}
+use Rattle.rows.proofs.RowNumbers.{rows-length}
 use Rattle.orders.specs.Orders.{theOrder}
 use Rattle.orders.specs.inside.Sets.{isSome, orderAt, goes, Known, Recorded}
 use Rattle.orders.specs.Stability.{stable}
-use Rattle.orders.specs.inside.Numbers.{rowsIn}
 use Rattle.orders.proofs.LentRows.{small, a-set, a-row}
 use Rattle.orders.proofs.Stability.{by-sets}
 use Rattle.orders.proofs.Sets.{bit-le}
@@ -38,14 +39,14 @@ abbrev μ-settled : Measures 2 settled-kinds.ps ℕ
 μ-settled κs a = 2 * a .1 .1 .0 + 1
 
 abbrev lowest-Inv-loop : lowest-lts.InvT-loop
-lowest-Inv-loop numbers n m sets₀ i₀ sets i =
+lowest-Inv-loop rows n m sets₀ i₀ sets i =
     (i ≤ n)
-    × (orderAt stable (take n (rowsIn numbers)) m ≡ scan theOrder stable by-sets (take n (rowsIn numbers)) m i)
+    × (orderAt stable (rowsOf n rows) m ≡ scan theOrder stable by-sets (rowsOf n rows) m i)
     × (length sets ≡ length sets₀)
-    × Recorded stable (take n (rowsIn numbers)) sets
+    × Recorded stable (rowsOf n rows) sets
 
 abbrev lowest-μ-loop : lowest-lts.MeasureT-loop
-lowest-μ-loop numbers n m sets₀ i₀ sets i = n - i
+lowest-μ-loop rows n m sets₀ i₀ sets i = n - i
 
 module _ (t : ℕ) where
   abbrev lowest-at : In 2 lowest-kinds.ps
@@ -76,11 +77,11 @@ module _ (t : ℕ) where
   -- ---- lowest
   lowest-loop-holds : lowest-lts.Need-loop-holds lowest-calls lowest-at lowest.Post lowest-Inv-loop lowest-μ-loop
   lowest-loop-holds c =
-      let s = c .before in
+      let s = c .before .before in
       let a = s .args in
       let p = s .pre .1 in (
         omega arith,
-        scan-start theOrder stable by-sets (take (a .n) (rowsIn (a .numbers .now))) (a .m) (λ e. omega (arith, p .1))
+        scan-start theOrder stable by-sets (rowsOf (a .n) (a .rows .now)) (a .m) (λ e. omega (arith, p .1))
             (a-set (p .0 .lent) (a .m) (p .0 .set)),
         refl,
         p .0 .recorded,
@@ -89,26 +90,26 @@ module _ (t : ℕ) where
   lowest-may-go-requires :
       lowest-lts.Need-may-go-requires lowest-calls lowest-at lowest.Post lowest-Inv-loop lowest-μ-loop
   lowest-may-go-requires c κs =
-      let s = c .before .before .before .before in
+      let s = c .before .before .before .before .before in
       let p = s .pre .1 .0 in
       (record { lent = p .lent; set = p .set; recorded = c .before .before .loop .inv .3 }, c .before .loop-test .taken)
 
   lowest-power-requires :
       lowest-lts.Need-power-requires lowest-calls lowest-at lowest.Post lowest-Inv-loop lowest-μ-loop
   lowest-power-requires c κs =
-      let s = c .before .before .before .before .before .before in
-      omega (arith, c .before .before .before .loop-test .taken, s .pre .1 .0 .lent .held)
+      let s = c .before .before .before .before .before .before .before in
+      omega (arith, c .before .before .before .loop-test .taken, s .pre .1 .0 .lent .few)
 
   lowest-sub-settled : lowest-lts.Need-sub-settled lowest-calls lowest-at lowest.Post lowest-Inv-loop lowest-μ-loop
   lowest-sub-settled c =
-      let a = c .before .before .before .before .before .before .before .args in
+      let a = c .before .before .before .before .before .before .before .before .args in
       let bit = c .before .before .may-go .ensures .in-set (c .before .if1 .taken) in
       omega (arith, c .power .ensures, bit-le (a .m) (c .before .before .before .before .before .loop .i) bit)
 
   lowest-settled-requires :
       lowest-lts.Need-settled-requires lowest-calls lowest-at lowest.Post lowest-Inv-loop lowest-μ-loop
   lowest-settled-requires c κs =
-      let s = c .before .before .before .before .before .before .before .before in
+      let s = c .before .before .before .before .before .before .before .before .before in
       let a = s .args in
       let p = s .pre .1 .0 in
       let x = c .before .before .before .before .before .before .loop in
@@ -123,7 +124,8 @@ module _ (t : ℕ) where
   lowest-cast-result : lowest-lts.Need-cast-result lowest-calls lowest-at lowest.Post lowest-Inv-loop lowest-μ-loop
   lowest-cast-result c =
       let turn = c .before .before .before .before .before .before .before .before .before in
-      record { fits = omega (arith, turn .before .before .before .pre .1 .0 .lent .held, turn .loop-test .taken) }
+      let lent = turn .before .before .before .before .pre .1 .0 .lent in
+      record { fits = omega (arith, lent .few, turn .loop-test .taken) }
 
   lowest-same-length : lowest-lts.Need-same-length lowest-calls lowest-at lowest.Post lowest-Inv-loop lowest-μ-loop
   lowest-same-length c =
@@ -134,10 +136,10 @@ module _ (t : ℕ) where
   lowest-returns : lowest-lts.Need-returns lowest-calls lowest-at lowest.Post lowest-Inv-loop lowest-μ-loop
   lowest-returns c =
       let turn = c .before .before .before .before .before .before .before .before .before in
-      let s = turn .before .before .before in
+      let s = turn .before .before .before .before in
       let a = s .args in
       let x = turn .before .loop in
-      let table = take (a .n) (rowsIn (a .numbers .now)) in
+      let table = rowsOf (a .n) (a .rows .now) in
       let u = c .before .before .before .settled .ensures in
       let may = c .before .before .before .before .before .before .before .may-go .ensures in
       let yes = c .before .before .before .before .before .before .if1 .taken in
@@ -156,7 +158,8 @@ module _ (t : ℕ) where
   lowest-add-i : lowest-lts.Need-add-i lowest-calls lowest-at lowest.Post lowest-Inv-loop lowest-μ-loop
   lowest-add-i c =
       let turn = c .before .before .before in
-      record { fits = omega (arith, turn .loop-test .taken, turn .before .before .before .pre .1 .0 .lent .held) }
+      let lent = turn .before .before .before .before .pre .1 .0 .lent in
+      record { fits = omega (arith, lent .few, turn .loop-test .taken) }
 
   lowest-loop-less : lowest-lts.Need-loop-less lowest-calls lowest-at lowest.Post lowest-Inv-loop lowest-μ-loop
   lowest-loop-less c =
@@ -164,10 +167,10 @@ module _ (t : ℕ) where
 
   lowest-loop-again : lowest-lts.Need-loop-again lowest-calls lowest-at lowest.Post lowest-Inv-loop lowest-μ-loop
   lowest-loop-again c =
-      let s = c .before .before .before .before .before .before in
+      let s = c .before .before .before .before .before .before .before in
       let a = s .args in
       let x = c .before .before .before .before .loop in
-      let table = take (a .n) (rowsIn (a .numbers .now)) in
+      let table = rowsOf (a .n) (a .rows .now) in
       let test = c .before .before .before .loop-test .taken in
       let may = c .before .may-go .ensures in
       let row = a-row (s .pre .1 .0 .lent) (x .i) test in
@@ -200,11 +203,11 @@ module _ (t : ℕ) where
   -- no row goes
   lowest-returns-2 : lowest-lts.Need-returns-2 lowest-calls lowest-at lowest.Post lowest-Inv-loop lowest-μ-loop
   lowest-returns-2 c =
-      let s = c .before .before .before in
+      let s = c .before .before .before .before in
       let a = s .args in
-      let table = take (a .n) (rowsIn (a .numbers .now)) in
+      let table = rowsOf (a .n) (a .rows .now) in
       let x = c .before .loop in
-      let e : x .i ≡ length table = omega (arith, x .inv .0, c .loop-test .left, s .pre .1 .0 .lent .counted) in
+      let e : x .i ≡ length table = omega (arith, x .inv .0, c .loop-test .left, rows-length (a .n) (a .rows .now)) in
       record {
         recorded = x .inv .3;
         rest = λ low. absurd (omega (arith, low .in-table, small (s .pre .1 .0 .lent)));
@@ -217,49 +220,49 @@ module _ (t : ℕ) where
   -- ---- settled
   settled-returns : settled-lts.Need-returns settled-calls settled-at settled.Post
   settled-returns c =
-      let a = c .before .before .args in
-      let p = c .before .before .pre .1 in
+      let a = c .before .before .before .args in
+      let p = c .before .before .before .pre .1 in
       rw (c .if1 .taken)
-      (settled-empty stable (take (a .n) (rowsIn (a .numbers .now))) (small (p .lent)) (a .sets .now) (p .recorded))
+      (settled-empty stable (rowsOf (a .n) (a .rows .now)) (small (p .lent)) (a .sets .now) (p .recorded))
 
   settled-slice-read-known : settled-lts.Need-slice-read-known settled-calls settled-at settled.Post
   settled-slice-read-known c =
-      let s = c .before .before .before in
+      let s = c .before .before .before .before in
       let p = s .pre .1 in
       omega (arith, a-set (p .lent) (s .args .m) (p .set), p .recorded .room)
 
   settled-lowest-requires : settled-lts.Need-lowest-requires settled-calls settled-at settled.Post
   settled-lowest-requires c κs =
-      let s = c .before .before .before .before .before in
+      let s = c .before .before .before .before .before .before in
       (omega (arith, s .pre .0), (s .pre .1, omega (arith, c .before .before .before .if1 .left)))
 
   settled-slice-write-sets : settled-lts.Need-slice-write-sets settled-calls settled-at settled.Post
   settled-slice-write-sets c =
-      let s = c .before .before .before .before .before .before .before .before in
+      let s = c .before .before .before .before .before .before .before .before .before in
       let p = s .pre .1 in
       omega (arith, a-set (p .lent) (s .args .m) (p .set), c .before .before .lowest .ensures .recorded .room)
 
   settled-same-length : settled-lts.Need-same-length settled-calls settled-at settled.Post
   settled-same-length c =
-      let s = c .before .before .before .before .before .before .before .before in
+      let s = c .before .before .before .before .before .before .before .before .before in
       let w = c .before .before .lowest in
       length-set (w .last .1 .1 .1 .0) (s .args .m) (w .result) ∙ w .kept .1 .1 .1 .0
 
   settled-returns-2 : settled-lts.Need-returns-2 settled-calls settled-at settled.Post
   settled-returns-2 c =
-      let s = c .before .before .before .before .before .before .before .before in
+      let s = c .before .before .before .before .before .before .before .before .before in
       let a = s .args in
       let p = s .pre .1 in
       let w = c .before .before .lowest in
-      settled-new stable (take (a .n) (rowsIn (a .numbers .now))) (small (p .lent)) (w .last .1 .1 .1 .0)
+      settled-new stable (rowsOf (a .n) (a .rows .now)) (small (p .lent)) (w .last .1 .1 .1 .0)
       (w .ensures .recorded) (a .m) (w .result) (a-set (p .lent) (a .m) (p .set)) (w .ensures .says) (w .ensures .rest)
 
   settled-returns-3 : settled-lts.Need-returns-3 settled-calls settled-at settled.Post
   settled-returns-3 c =
-      let s = c .before .before .before .before in
+      let s = c .before .before .before .before .before in
       let a = s .args in
       let p = s .pre .1 in
-      settled-old stable (take (a .n) (rowsIn (a .numbers .now))) (small (p .lent)) (a .sets .now) (p .recorded) (a .m)
+      settled-old stable (rowsOf (a .n) (a .rows .now)) (small (p .lent)) (a .sets .now) (p .recorded) (a .m)
       (a-set (p .lent) (a .m) (p .set)) (c .if2 .left)
 
 pub +lowest+settled-spec : {M : Type 1} → statement M

@@ -1,26 +1,25 @@
 -- The order rebuilt: the tasks of the set without its lowest row, then that row's. The measure is the number of rows.
-use mathlib.Core.Path.{_≡_, sym, ap, subst, _∙_}
+use mathlib.Core.Path.{_≡_, sym, ap, subst}
 use mathlib.Core.Bool.{true}
 use mathlib.Core.List.{_++_}
-use Prim.Native.Nat.{ℕ, _-_, _/_, _%_, _^_, _<_}
+use Prim.Native.Nat.{ℕ, suc, _-_, _*_, _/_, _%_, _^_, _≤_, _<_}
 use native.Mathlib.Omega.{arith}
-use lib.ListN.{getD, drop}
+use lib.ListN.{length, getD, drop}
 use borrow.Author.Needs.{needs}
 use borrow.Fn.Kinds.{In}
 use borrow.Fn.PlainCycle.{Measures, is, falls, and}
-use Rattle.rows.specs.Rows.{maxTasks, inRange, rowAt}
+use Rattle.rows.specs.Rows.{maxTasks, fieldCount, inRange}
 use Rattle.rows.specs.declared.Row.{Row}
 use Rattle.rows.proofs.Limits.{limits}
-use Rattle.orders.specs.inside.Numbers.{rowIn, rowsIn}
+use Rattle.rows.specs.inside.Numbers.{rowIn}
 use Rattle.orders.specs.inside.Search.{Chained, chainTasks}
 use Rattle.orders.proofs.Sets.{bit-le}
-use Rattle.orders.proofs.RowNumbers.{row-there}
 use Rattle.orders.proofs.Chains.{row-of, chain-lowest}
 use Rattle.orders.proofs.rebuild.Reads as rebuild
 use Rattle.orders.proofs.rebuild.Kinds as rebuild-kinds
 use Rattle.orders.proofs.+rebuild.Lts-rebuild as rebuild-lts
 use Rattle.orders.proofs.power.Reads as power-reads
-use Rattle.orders.proofs.numbers.row_at.Reads as row-at-reads
+use Rattle.rows.proofs.row_at.Reads as row-at-reads
 use Rattle.orders.proofs.+rebuild.{statement}
 use Rattle.orders.proofs.+rebuild.Tie.{close}
 
@@ -46,26 +45,23 @@ module _ (t : ℕ) where
   )
 
   -- the lowest row of the set, and the rest
-  module _ (c : rebuild-lts.After-shared-slice-known2 calls rebuild-at rebuild.Post) where
+  module _ (c : rebuild-lts.After-shared-slice-known3 calls rebuild-at rebuild.Post) where
     abbrev start : rebuild-lts.Start calls rebuild-at rebuild.Post
-    start = c .before .before .before .before
+    start = c .before .before .before .before .before
 
     abbrev i : ℕ
     i = getD (start .args .sets .now) (start .args .m) 0
 
     row :
         let a = start .args in
-        let rows = rowsIn (a .numbers .now) in
         (i < maxTasks)
-        × (inRange (rowAt rows i) ≡ true)
+        × (fieldCount * suc i ≤ length (a .rows .now))
+        × (inRange (rowIn (a .rows .now) i) ≡ true)
         × (a .m / 2 ^ i % 2 ≡ 1)
-        × Chained rows (a .sets .now) (a .n - 1) (a .m - 2 ^ i)
+        × Chained (a .rows .now) (a .sets .now) (a .n - 1) (a .m - 2 ^ i)
     row =
         let a = start .args in
-        row-of (rowsIn (a .numbers .now)) (a .sets .now) (a .m) (a .n) (c .before .if1 .taken) (start .pre .1 .2)
-
-    ranged : inRange (rowIn (start .args .numbers .now) i) ≡ true
-    ranged = ap inRange (row-there (start .args .numbers .now) i (row .0)) ∙ row .1
+        row-of (a .rows .now) (a .sets .now) (a .m) (a .n) (c .before .if1 .taken) (start .pre .1 .2)
 
   shared-slice-read-i : rebuild-lts.Need-shared-slice-read-i calls rebuild-at rebuild.Post
   shared-slice-read-i c = start c .pre .1 .1
@@ -82,7 +78,7 @@ module _ (t : ℕ) where
   sub-rebuild : rebuild-lts.Need-sub-rebuild calls rebuild-at rebuild.Post
   sub-rebuild c =
       let read = c .before in
-      omega (arith, c .power .ensures, bit-le (start read .args .m) (i read) (row read .2))
+      omega (arith, c .power .ensures, bit-le (start read .args .m) (i read) (row read .3))
 
   rebuild-requires : rebuild-lts.Need-rebuild-requires calls rebuild-at rebuild.Post
   rebuild-requires c κs =
@@ -94,20 +90,20 @@ module _ (t : ℕ) where
         (
           omega (arith, p .1 .0),
           omega (arith, p .1 .1),
-          subst (λ (k : ℕ). Chained (rowsIn (a .numbers .now)) (a .sets .now) (a .n - 1) (a .m - k))
-              (sym (c .before .power .ensures)) (row read .3),
+          subst (λ (k : ℕ). Chained (a .rows .now) (a .sets .now) (a .n - 1) (a .m - k))
+              (sym (c .before .power .ensures)) (row read .4),
         ),
       )
 
   row-at-requires : rebuild-lts.Need-row-at-requires calls rebuild-at rebuild.Post
   row-at-requires c κs =
       let read = c .before .before .before .before .before in
-      (row read .0, ranged read)
+      (row read .1, row read .2)
 
   cast-tasks : rebuild-lts.Need-cast-tasks calls rebuild-at rebuild.Post
   cast-tasks c =
       let read = c .before .before .before .before .before .before .before in
-      let kept = limits (rowIn (start read .args .numbers .now) (i read)) (ranged read) in
+      let kept = limits (rowIn (start read .args .rows .now) (i read)) (row read .2) in
       let is = ap (λ (r : Row). r .task) (c .before .row-at .ensures) in
       record { fits = omega (arith, kept .task .le-high, is) }
 
@@ -125,19 +121,18 @@ module _ (t : ℕ) where
       let read = c .before .before .before .before .before .before .before in
       let s = start read in
       let a = s .args in
-      let rows = rowsIn (a .numbers .now) in
+      let rows = a .rows .now in
       let o = c .before .before .before .before .rebuild in
       let ts = o .last .1 .1 .1 .1 .0 in
       let k = a .n - 1 in
       let rest = subst (λ (p : ℕ). ts ≡ chainTasks rows (a .sets .now) k (a .m - p) ++ drop k (a .tasks .now))
       (c .before .before .before .before .before .before .power .ensures) (o .ensures) in
       chain-lowest rows (a .sets .now) (a .m) (a .n) (a .tasks .now) ts (c .before .row-at .result)
-      (read .before .if1 .taken) (s .pre .1 .0)
-      (c .before .row-at .ensures ∙ row-there (a .numbers .now) (i read) (row read .0)) rest
+      (read .before .if1 .taken) (s .pre .1 .0) (c .before .row-at .ensures) rest
 
   returns-2 : rebuild-lts.Need-returns-2 calls rebuild-at rebuild.Post
   returns-2 c =
-      let e : c .before .before .before .args .n ≡ 0 = omega (arith, c .if1 .left) in
+      let e : c .before .before .before .before .args .n ≡ 0 = omega (arith, c .if1 .left) in
       rw e
 
 pub +rebuild-spec : {M : Type 1} → statement M

@@ -5,12 +5,12 @@ use mathlib.Core.Bool.{false}
 use mathlib.Core.List.{List}
 use Prim.Native.Nat.{ℕ, _-_, _/_, _%_, _^_, _<_}
 use native.Mathlib.Omega.{arith}
-use lib.ListN.{getD, take}
+use lib.ListN.{getD}
 use Rattle.basics.proofs.Tests.{never}
 use Rattle.rows.specs.declared.Row.{Row}
+use Rattle.rows.specs.inside.Numbers.{rowsOf}
 use Rattle.orders.specs.inside.Sets.{goes}
 use Rattle.orders.specs.Stability.{stable}
-use Rattle.orders.specs.inside.Numbers.{rowsIn}
 use Rattle.orders.specs.inside.Search.{MayGo}
 use Rattle.orders.proofs.Sets.{bit-le}
 use Rattle.orders.proofs.Record.{goes-out, goes-unfit, goes-none, known-none}
@@ -20,8 +20,8 @@ use Rattle.orders.proofs.may_go.Statement.{statement}
 use Rattle.orders.proofs.may_go.Tie as tie
 
 -- a row that does not go
-stays-out : (rows : List Row) (n m i : ℕ) → goes stable (take n rows) m i ≡ false → MayGo rows n m i false
-stays-out rows n m i e = record { in-set = λ h. never h; passes = λ h. never h; goes-not = λ h. e }
+stays-out : (table : List Row) (m i : ℕ) → goes stable table m i ≡ false → MayGo table m i false
+stays-out table m i e = record { in-set = λ h. never h; passes = λ h. never h; goes-not = λ h. e }
 
 -- a bit that is not 0
 is-in : (m i : ℕ) → (m / 2 ^ i % 2 ≡ 0 → ⊥) → m / 2 ^ i % 2 ≡ 1
@@ -32,34 +32,34 @@ shr-if1 c = search needs
 
 returns : tie.Need-returns
 returns c =
-    let a = c .before .before .args in
-    let rows = rowsIn (a .numbers .now) in
+    let a = c .before .before .before .args in
+    let table = rowsOf (a .n) (a .rows .now) in
     let out : a .m / 2 ^ a .i % 2 ≡ 1 → ⊥ = λ e. omega (arith, c .if1 .taken) in
-    stays-out rows (a .n) (a .m) (a .i) (sym (goes-out stable (take (a .n) rows) (a .m) (a .i) out))
+    stays-out table (a .m) (a .i) (sym (goes-out stable table (a .m) (a .i) out))
 
 power-requires : tie.Need-power-requires
 power-requires c κs = search needs
 
 sub-if2 : tie.Need-sub-if2
 sub-if2 c =
-    let a = c .before .before .before .args in
+    let a = c .before .before .before .before .args in
     omega (arith, c .power .ensures, bit-le (a .m) (a .i) (is-in (a .m) (a .i) (c .before .if1 .left)))
 
 shared-slice-read-if2 : tie.Need-shared-slice-read-if2
 shared-slice-read-if2 c =
-    let s = c .before .before .before .before in
+    let s = c .before .before .before .before .before in
     omega (arith, a-set (s .pre .0 .lent) (s .args .m) (s .pre .0 .set), s .pre .0 .recorded .room)
 
 returns-2 : tie.Need-returns-2
 returns-2 c =
-    let s = c .before .before .before .before .before in
+    let s = c .before .before .before .before .before .before in
     let a = s .args in
     let p = s .pre .0 in
-    let table = take (a .n) (rowsIn (a .numbers .now)) in
+    let table = rowsOf (a .n) (a .rows .now) in
     let rest : a .m - 2 ^ a .i < 2 ^ a .n = omega (arith, p .set) in
     let bit = c .before .before .power .ensures in
     let byte = ap (λ (k : ℕ). getD (a .sets .now) (a .m - k) 0) (sym bit) ∙ c .if2 .taken in
-    stays-out (rowsIn (a .numbers .now)) (a .n) (a .m) (a .i)
+    stays-out table (a .m) (a .i)
     (sym (goes-none stable table (a .m) (a .i)
     (known-none stable table (small (p .lent)) (a .sets .now) (p .recorded) (a .m - 2 ^ a .i)
     (a-set (p .lent) (a .m - 2 ^ a .i) rest) byte)))
@@ -69,9 +69,9 @@ stable-under-requires c κs = search needs
 
 returns-3 : tie.Need-returns-3
 returns-3 c =
-    let s = c .before .before .before .before .before .before in
+    let s = c .before .before .before .before .before .before .before in
     let a = s .args in
-    let table = take (a .n) (rowsIn (a .numbers .now)) in
+    let table = rowsOf (a .n) (a .rows .now) in
     let is = c .stable-under .ensures in
     record {
       in-set = λ h. is-in (a .m) (a .i) (c .before .before .before .before .if1 .left);

@@ -2,7 +2,7 @@
 -- the rows among them, and then to `order_in`, which searches them; each time for a lifetime that the walk makes. All
 -- that the proof knows of `put_rows` and of `order_in` is that each meets its contract. Nothing of the parameter is
 -- owned at exit (`stay-dropped`).
-use Rattle.rows.proofs.Walk.{_≡_, refl, ap, sym, subst, List, [], _∷_, length, take, ℕ, _<_, _^_, _*_, _≤_, URA, named}
+use Rattle.rows.proofs.Walk.{_≡_, refl, sym, subst, List, [], _∷_, length, ℕ, _<_, _^_, URA, named}
 use Rattle.rows.proofs.Walk.{Val, SProp, ent, GName, Lft, Share, Fml, flent, ftrue, flft, froom, Memory, Routine, Heap}
 use Rattle.rows.proofs.Walk.{Calls, Loops, WpFn, Tables, Atoms, Fun, givenOf, tables, tablesOf, Given, ‵, raw, _⊛_, ⋆}
 use Rattle.rows.proofs.Walk.{_$_, _∵_, !, qed, by, move, keep, drop, use1, use2, use3, split, join, pick, some, later}
@@ -31,18 +31,17 @@ use denote.RattleType.{RattleType}
 use denote.Ref.{MutRef, ShrRef}
 use denote.Struct.Laws as LL
 use denote.Triple.Walked.{needs}
-use Rattle.rows.specs.Rows.{maxTasks}
 use Rattle.rows.specs.declared.Row.{Row}
+use Rattle.rows.specs.inside.Numbers.{numbersRoom, rowsOf, RowsPut}
 use Rattle.orders.specs.declared.Choice.{Choice}
-use Rattle.orders.specs.inside.Numbers.{numbersRoom, rowsIn}
 use Rattle.orders.specs.inside.Search.{TableRows, Lent, Chooses}
 use Rattle.rows.proofs.Row as T
 use Rattle.orders.proofs.Choice as L
 use Rattle.orders.proofs.Choice.Laws as L′
-use Rattle.orders.proofs.numbers.put_rows as put-rows
-use Rattle.orders.proofs.numbers.put_rows.Symbol as put-rows-def
-use Rattle.orders.proofs.numbers.put_rows.Symbol.{name as #put-rows}
-use Rattle.orders.proofs.numbers.put_rows.Met as put-rows-thm
+use Rattle.rows.proofs.put_rows as put-rows
+use Rattle.rows.proofs.put_rows.Symbol as put-rows-def
+use Rattle.rows.proofs.put_rows.Symbol.{name as #put-rows}
+use Rattle.rows.proofs.put_rows.Met as put-rows-thm
 use Rattle.orders.proofs.order_in as order-in
 use Rattle.orders.proofs.order_in.Symbol as order-in-def
 use Rattle.orders.proofs.order_in.Symbol.{name as #order-in}
@@ -55,10 +54,6 @@ use Rattle.orders.proofs.order_of.Code as code
 abbrev stayed : Stays (order-of.ended .signature .params) (order-of.ended .kept)
 stayed = (stay-dropped (shrSliceOf (0 ∷ []) tt (plain (λ _. T.the-row))) yes, tt)
 
--- an array that begins with a table's rows
-lent-front : (ys hs : List Row) → TableRows ys → take (length ys) hs ≡ ys → Lent hs (length ys)
-lent-front ys hs table e = record { held = table .few; counted = ap length e; table = subst TableRows (sym e) table }
-
 -- the local array: its type, its value at first, and room for the numbers of all rows
 abbrev Numbers : RattleType
 Numbers = Array u64 numbersRoom
@@ -69,8 +64,16 @@ zeros = replicate numbersRoom 0
 abbrev zeroVal : Val
 zeroVal = arrayVal (replicate numbersRoom (vint w64 0))
 
-long : numbersRoom ≤ length zeros
-long = omega arith
+-- the rows that `put_rows` put among them, and that they are lent as
+rows-are : (ys : List Row) (ns : List ℕ) → TableRows ys → RowsPut ys zeros ns → rowsOf (length ys) ns ≡ ys
+rows-are ys ns table put = put .there (omega arith) (table .few)
+
+lent-rows : (ys : List Row) (ns : List ℕ) → TableRows ys → RowsPut ys zeros ns → Lent (length ys) ns
+lent-rows ys ns table put = record {
+  few = table .few;
+  held = omega (arith, table .few, put .long);
+  table = subst TableRows (sym (rows-are ys ns table put)) table;
+}
 
 module _ {M : Type 1} (𝓤 : URA M) (H : Heap 𝓤) (A : Atoms 𝓤) (mem : Memory → SProp 𝓤) (run : Routine → Fun 𝓤) where
   -- the contracts that the proof cites
@@ -113,20 +116,20 @@ module _ {M : Type 1} (𝓤 : URA M) (H : Heap 𝓤) (A : Atoms 𝓤) (W : Given
   to-put-rows l α δ =
       (((κ, (α ∷ [], tt)), (q, (fullShare, tt)), tt, (s, (held l δ zeros, tt)), (v ∷ [], (vptr l 0 ∷ [], tt))), tt)
 
-  goes-put-rows : (l α : ℕ) (δ : GName) → TableRows (s .now)
+  goes-put-rows : (l α : ℕ) (δ : GName)
       → ent 𝓤 (⋆ 𝓤 H A ((‵ (flft (α ∷ []) fullShare) ⊛ (‵ (flft κ q) ⊛ ‵ ftrue)) ∷ ‵ Owns ∷ ‵ (Mut l α δ) ∷ []))
       (PutRows 𝓤 H A mem run .pre (to-put-rows l α δ))
-  goes-put-rows l α δ table =
+  goes-put-rows l α δ =
       qed W ((‵ (flft (α ∷ []) fullShare) ⊛ (‵ (flft κ q) ⊛ ‵ ftrue)) ∷ ‵ Owns ∷ ‵ (Mut l α δ) ∷ []) ∵
-      says ! (table .few, long) $
-      split ! $ move ! (1 ∷ []) $ split ! $ move ! (2 ∷ 1 ∷ []) $ join ! $ move ! (1 ∷ 0 ∷ []) $ join ! $ frame ! $
-      fsplit ! $ move ! (2 ∷ 1 ∷ []) $ fjoin ! $ move ! (1 ∷ 0 ∷ []) $ fjoin ! $ done !
+      split ! $ move ! (1 ∷ []) $ split ! $ move ! (2 ∷ 1 ∷ []) $ join ! $ move ! (1 ∷ 0 ∷ []) $ join ! $
+      move ! (1 ∷ []) $ fsplit ! $ move ! (3 ∷ 1 ∷ []) $ fjoin ! $ move ! (1 ∷ 0 ∷ []) $ fjoin ! $
+      move ! (1 ∷ 0 ∷ []) $ join ! $ frame ! $ done !
 
   abbrev to-order-in : ℕ → ℕ → GName → List ℕ → OrderIn 𝓤 H A mem run .Ghost
   to-order-in l α δ ns =
       (((α ∷ [], tt), (fullShare, tt), tt, (held l δ ns, (n, tt)), (vptr l 0 ∷ [], (vint w64 n ∷ [], tt))), tt)
 
-  goes-order-in : (l α : ℕ) (δ : GName) (ns : List ℕ) → Lent (rowsIn ns) n → n < 2 ^ 64
+  goes-order-in : (l α : ℕ) (δ : GName) (ns : List ℕ) → Lent n ns → n < 2 ^ 64
       → ent 𝓤 (⋆ 𝓤 H A (‵ (flft (α ∷ []) fullShare) ∷ ‵ (Shr l α δ ns) ∷ []))
       (OrderIn 𝓤 H A mem run .pre (to-order-in l α δ ns))
   goes-order-in l α δ ns lent fits =
@@ -172,10 +175,10 @@ module _ {M : Type 1} (𝓤 : URA M) (H : Heap 𝓤) (A : Atoms 𝓤) (W : Given
         (lends-ref 𝓤 H A W Numbers (named 1) (α ∷ []) zeros l₃ 0) $ await ! tt $ pick ! (λ δ. split ! $
         -- [the numbers, lent; the lender's part; α's token; _6; …; _0; …; the token; what the slice owns]
         move ! (2 ∷ 16 ∷ []) $ join ! $ move ! (0 ∷ 16 ∷ 1 ∷ []) $
-        use3 W (raw (PutRows 𝓤 H A mem run .pre (to-put-rows l₃ α δ))) (goes-put-rows l₃ α δ table) $
+        use3 W (raw (PutRows 𝓤 H A mem run .pre (to-put-rows l₃ α δ))) (goes-put-rows l₃ α δ) $
         calls-left ! fm put-rows.ended (put-rows.clauses 𝓤 H A mem run) known-put-rows (to-put-rows l₃ α δ)
         (‵ (flft κ q) ⊛ (‵ (flft (α ∷ []) fullShare) ⊛ ‵ ftrue)) refl
-        (λ _ ws. take n (rowsIn (ws .1 .0)) ≡ s .now) (λ _ ws. refl)
+        (λ _ ws. RowsPut (s .now) zeros (ws .1 .0)) (λ _ ws. refl)
         (and-then ! (load ! (from ! (stop !)) (look ! 11 refl))
         (and-then ! (load ! (from ! (stop !)) (look ! 4 refl)) (no-more !))) (λ w _ ws e is. drop ! $
         land ! (from ! (stop !)) (init ! 7 refl (nothing-lawful 𝓤 H A W .typed tt (w ∷ []) is .0)) $
@@ -193,9 +196,9 @@ module _ {M : Type 1} (𝓤 : URA M) (H : Heap 𝓤) (A : Atoms 𝓤) (W : Given
         -- [the numbers, lent; the lender's part; β's token; true; the token; _6; …]
         move ! (2 ∷ 0 ∷ []) $
         use2 W (raw (OrderIn 𝓤 H A mem run .pre (to-order-in l₃ β ε (ws .1 .0))))
-        (goes-order-in l₃ β ε (ws .1 .0) (lent-front (s .now) (rowsIn (ws .1 .0)) table e) (p .0 .1 .0)) $
+        (goes-order-in l₃ β ε (ws .1 .0) (lent-rows (s .now) (ws .1 .0) table e) (p .0 .1 .0)) $
         calls-told ! fm order-in.ended (order-in.clauses 𝓤 H A mem run) known-order-in (to-order-in l₃ β ε (ws .1 .0))
-        (‵ (flft (β ∷ []) fullShare) ⊛ ‵ ftrue) refl (λ (x : Choice). Chooses (take n (rowsIn (ws .1 .0))) x)
+        (‵ (flft (β ∷ []) fullShare) ⊛ ‵ ftrue) refl (λ (x : Choice). Chooses (rowsOf n (ws .1 .0)) x)
         (λ r e. refl) (and-then ! (load ! (from ! (stop !)) (look ! 4 refl))
         (and-then ! (load ! (from ! (stop !)) (look ! 11 refl)) (no-more !))) (λ u x e′ ix.
         land ! (from ! (stop !)) (init ! 16 refl (LL.lawful L.the-type L′.the-laws 𝓤 H A W .typed x (u ∷ []) ix .0)) $
@@ -208,7 +211,8 @@ module _ {M : Type 1} (𝓤 : URA M) (H : Heap 𝓤) (A : Atoms 𝓤) (W : Given
         move ! (16 ∷ 17 ∷ []) $ free1 ! $ move ! (14 ∷ 15 ∷ []) $ free1 ! $ move ! (12 ∷ 13 ∷ []) $ free1 ! $
         move ! (0 ∷ 11 ∷ []) $ free1 ! $ move ! (8 ∷ 9 ∷ []) $ free1 ! $ move ! (6 ∷ 7 ∷ []) $ free1 ! $
         move ! (4 ∷ 5 ∷ []) $ free1 ! $ free0 ! $ keep ! (1 ∷ 3 ∷ []) $
-        by ! (exits x u (subst (λ (ys : List Row). Chooses ys x) e e′))))))))))))))))
+        by ! (exits x u
+        (subst (λ (ys : List Row). Chooses ys x) (rows-are (s .now) (ws .1 .0) table e) e′))))))))))))))))
 
 module _ {M : Type 1} (𝓤 : URA M) (H : Heap 𝓤) (A : Atoms 𝓤) (W : Given 𝓤 H A) (mem : Memory → SProp 𝓤)
     (run : Routine → Fun 𝓤) where
@@ -236,6 +240,6 @@ order-of-spec 𝓤 H 𝓜 𝓖 𝓡 =
     (tables 𝓤 H 𝓜 𝓡 code.env .C) (tables 𝓤 H 𝓜 𝓡 code.env .Λ) #order-of code.function (code.unfolded 𝓤 H 𝓜 𝓡)
     (order-of-meets 𝓤 H (𝓖 .A) (givenOf 𝓤 H 𝓜 𝓖) (𝓜 .mem) (𝓡 .run) (tablesOf 𝓤 H 𝓜 (tables 𝓤 H 𝓜 𝓡 code.env))
     (cited 𝓤 H (PutRows 𝓤 H (𝓖 .A) (𝓜 .mem) (𝓡 .run)) 𝓜 𝓡 code.env #put-rows
-    put-rows-def.routine code.calls-orders·numbers·put-rows (put-rows-thm.met 𝓤 H 𝓜 𝓖 𝓡))
+    put-rows-def.routine code.calls-rows·put-rows (put-rows-thm.met 𝓤 H 𝓜 𝓖 𝓡))
     (cited 𝓤 H (OrderIn 𝓤 H (𝓖 .A) (𝓜 .mem) (𝓡 .run)) 𝓜 𝓡 code.env #order-in
     order-in-def.routine code.calls-orders·order-in (order-in-thm.met 𝓤 H 𝓜 𝓖 𝓡)))

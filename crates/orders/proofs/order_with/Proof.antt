@@ -5,17 +5,18 @@ use mathlib.Core.List.{List, []}
 use mathlib.Core.Option.{Option, none, some}
 use Prim.Native.Nat.{ℕ, _-_, _^_, _<_}
 use native.Mathlib.Omega.{arith}
-use lib.ListN.{length, take}
+use lib.ListN.{length}
 use lib.Pow.{pow-pos}
 use borrow.Author.Needs.{needs}
 use Rattle.rows.specs.declared.Row.{Row}
 use Rattle.rows.specs.declared.Order.{Order}
 use Rattle.rows.specs.inside.Arrays.{ranking}
+use Rattle.rows.specs.inside.Numbers.{rowsOf}
+use Rattle.rows.proofs.RowNumbers.{rows-length}
 use Rattle.orders.specs.declared.Choice.{Choice}
 use Rattle.orders.specs.Orders.{theOrder, orderOf}
 use Rattle.orders.specs.inside.Sets.{isSome, orderAt, Fresh, Settled}
 use Rattle.orders.specs.Stability.{stable}
-use Rattle.orders.specs.inside.Numbers.{rowsIn}
 use Rattle.orders.specs.inside.Search.{tasksIn, Lent, Chained, chainTasks, Chooses}
 use Rattle.orders.proofs.LentRows.{small, a-set}
 use Rattle.orders.proofs.Record.{begun}
@@ -33,14 +34,14 @@ abbrev asFound : Bool → Order → Choice
 asFound found order = record { found = found; order = order }
 
 -- the whole set and its record
-module _ (rows : List Row) (n : ℕ) (lent : Lent rows n) (all : ℕ) (e : all ≡ 2 ^ n - 1) where
+module _ (n : ℕ) (ns : List ℕ) (lent : Lent n ns) (all : ℕ) (e : all ≡ 2 ^ n - 1) where
   abbrev table : List Row
-  table = take n rows
+  table = rowsOf n ns
 
   -- what is said of the whole set is said of the table
   whole : orderAt stable table all ≡ orderOf stable table
   whole =
-      ap (orderAt stable table) (e ∙ ap (λ (k : ℕ). 2 ^ k - 1) (sym (lent .counted)))
+      ap (orderAt stable table) (e ∙ ap (λ (k : ℕ). 2 ^ k - 1) (sym (rows-length n ns)))
       ∙ at-whole theOrder stable table
 
   in-table : all < 2 ^ n
@@ -52,13 +53,13 @@ module _ (rows : List Row) (n : ℕ) (lent : Lent rows n) (all : ℕ) (e : all �
 
     -- the tasks along the chain of the whole set, which has an order
     chained :
-        found ≡ true → Chained rows sets n all × (chainTasks rows sets n all ≡ tasksIn (orderAt stable table all))
-    chained h = chain rows n lent sets (s .recorded) all e (s .there) (sym (s .found-is) ∙ h)
+        found ≡ true → Chained ns sets n all × (chainTasks ns sets n all ≡ tasksIn (orderAt stable table all))
+    chained h = chain n ns lent sets (s .recorded) all e (s .there) (sym (s .found-is) ∙ h)
 
     chooses :
         (o : Order) →
         found ≡ true →
-        o ≡ ranking (chainTasks rows sets n all) →
+        o ≡ ranking (chainTasks ns sets n all) →
         Chooses table (record { found = true; order = o })
     chooses o h l = record {
       choice-is = ap₂ asFound (sym h ∙ s .found-is ∙ ap isSome whole)
@@ -78,35 +79,35 @@ power-requires : tie.Need-power-requires
 power-requires c κs = search needs
 
 sub-all : tie.Need-sub-all
-sub-all c = omega (arith, c .power .ensures, pow-pos (c .before .before .args .n))
+sub-all c = omega (arith, c .power .ensures, pow-pos (c .before .before .before .args .n))
 
 -- the set of all bits
-all-is : (c : tie.After-power) → c .power .result - 1 ≡ 2 ^ c .before .before .args .n - 1
+all-is : (c : tie.After-power) → c .power .result - 1 ≡ 2 ^ c .before .before .before .args .n - 1
 all-is c = ap (λ (k : ℕ). k - 1) (c .power .ensures)
 
 settled-requires : tie.Need-settled-requires
 settled-requires c κs =
-    let s = c .before .before .before in
+    let s = c .before .before .before .before in
     let a = s .args in
     let l = s .pre .0 in
     record {
       lent = l;
-      set = in-table (rowsIn (a .numbers .now)) (a .n) l _ (all-is (c .before));
-      recorded = begun stable (take (a .n) (rowsIn (a .numbers .now))) (small l) (a .sets .now)
-          (subst (λ (k : ℕ). Fresh k (a .sets .now)) (sym (l .counted)) (s .pre .1));
+      set = in-table (a .n) (a .rows .now) l _ (all-is (c .before));
+      recorded = begun stable (rowsOf (a .n) (a .rows .now)) (small l) (a .sets .now)
+          (subst (λ (k : ℕ). Fresh k (a .sets .now)) (sym (rows-length (a .n) (a .rows .now))) (s .pre .1));
     }
 
 read-off-requires : tie.Need-read-off-requires
 read-off-requires c κs =
     let d = c .before .before .before .before in
-    let s = d .before .before .before .before in
+    let s = d .before .before .before .before .before in
     let a = s .args in
     let l = s .pre .0 in
     let e = all-is (d .before .before) in
     let w = d .settled in (
-      l .held,
-      in-record (rowsIn (a .numbers .now)) (a .n) l _ e _ (w .result) (w .ensures),
-      chained (rowsIn (a .numbers .now)) (a .n) l _ e _ (w .result) (w .ensures) (c .before .if1 .taken) .0,
+      l .few,
+      in-record (a .n) (a .rows .now) l _ e _ (w .result) (w .ensures),
+      chained (a .n) (a .rows .now) l _ e _ (w .result) (w .ensures) (c .before .if1 .taken) .0,
     )
 
 same-length : tie.Need-same-length
@@ -115,9 +116,9 @@ same-length c = search needs
 returns : tie.Need-returns
 returns c =
     let d = c .before .before .before .before .before in
-    let s = d .before .before .before .before in
+    let s = d .before .before .before .before .before in
     let a = s .args in
-    chooses (rowsIn (a .numbers .now)) (a .n) (s .pre .0) _ (all-is (d .before .before)) _ (d .settled .result)
+    chooses (a .n) (a .rows .now) (s .pre .0) _ (all-is (d .before .before)) _ (d .settled .result)
     (d .settled .ensures) (c .read-off .result) (c .before .before .if1 .taken) (c .read-off .ensures)
 
 nothing-requires : tie.Need-nothing-requires
@@ -129,9 +130,9 @@ same-length-2 c = search needs
 returns-2 : tie.Need-returns-2
 returns-2 c =
     let d = c .before .before .before .before in
-    let s = d .before .before .before .before in
+    let s = d .before .before .before .before .before in
     let a = s .args in
-    chooses-none (rowsIn (a .numbers .now)) (a .n) (s .pre .0) _ (all-is (d .before .before)) _ (d .settled .result)
+    chooses-none (a .n) (a .rows .now) (s .pre .0) _ (all-is (d .before .before)) _ (d .settled .result)
     (d .settled .ensures) (c .nothing .result) (c .before .if1 .left) (c .nothing .ensures)
 
 pub order-with-spec : {M : Type 1} → statement M

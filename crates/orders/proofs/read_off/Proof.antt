@@ -1,6 +1,5 @@
 -- The order read off the record: the tasks along the chain, put into an array that had nothing in it.
 use borrow.Author.Needs.{needs}
-use Rattle.orders.specs.inside.Numbers.{rowsIn}
 use Rattle.orders.specs.inside.Search.{chainTasks}
 use Rattle.orders.proofs.Chains.{chain-length, chain-order}
 use Rattle.orders.proofs.read_off.Statement.{statement}
@@ -14,9 +13,9 @@ rebuild-requires c κs = search needs
 
 returns : tie.Need-returns
 returns c =
-    let s = c .before .before .before .before in
+    let s = c .before .before .before .before .before in
     let a = s .args in
-    let rows = rowsIn (a .numbers .now) in
+    let rows = a .rows .now in
     let o = c .before .rebuild in
     chain-order (chainTasks rows (a .sets .now) (a .n) (a .m)) _ (a .n) (s .pre .0)
     (chain-length rows (a .sets .now) (a .n) (a .m)) (o .ensures)

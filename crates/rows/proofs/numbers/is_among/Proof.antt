@@ -59,10 +59,11 @@ loop-again : tie.Need-loop-again Inv-loop μ-loop
 loop-again c =
     let a = c .before .before .before .before .args in
     let x = c .before .before .before .loop in
-    let ns = a .numbers .now in (
+    let ns = a .numbers .now in
+    let end = a .start + a .count in (
       omega arith,
-      x .inv .1 ∙ here ns (a .start + a .count) (a .value) (x .i) (omega arith) (omega arith)
-          ∙ ap (λ b. b || isIn (a .value) (drop (x .i + 1) (take (a .start + a .count) ns))) (ne-eqb _ _ (c .if1 .left)),
+      x .inv .1 ∙ here ns end (a .value) (x .i) (omega arith) (omega arith)
+          ∙ ap (λ b. b || isIn (a .value) (drop (x .i + 1) (take end ns))) (ne-eqb _ _ (c .if1 .left)),
     )
 
 returns-2 : tie.Need-returns-2 Inv-loop μ-loop

@@ -1,5 +1,5 @@
 -- `rows::numbers::position_of` meets its contract. Invariant: no row passed has the task, so it stands among the rest.
-use mathlib.Core.Path.{_≡_, ap, _∙_}
+use mathlib.Core.Path.{_≡_, ap}
 use Prim.Native.Nat.{_+_, _-_, _≤_}
 use native.Mathlib.Omega.{arith}
 use Rattle.rows.specs.Rows.{tasksOf, positionOf}

@@ -4,23 +4,25 @@
 -- `put_row` is that it meets its contract. Nothing of the slice is owned at exit (`stay-dropped`).
 --     St       the loop's state: i and the numbers, with the invariant: the rows passed that have room are among them
 --     turns    a turn from the state: it puts one record, or it leaves the loop and the rest of the body runs
-use Rattle.rows.proofs.Walk.{_*_, _+_, _-_, _<_, _^_, _≤_, zero-le, ℕ, Fml, GName, Lft, Share, fat, fdies, flft, fobor}
-use Rattle.rows.proofs.Walk.{froom, ftrue, SProp, ent, emp, via, fst∗, Fun, givenOf, tables, tablesOf, yes, elem-back, elem-out}
-use Rattle.rows.proofs.Walk.{looks-slice, place-is, row, shuts-slice, Is, shows, pointee, shares, owns, RefT, plain}
-use Rattle.rows.proofs.Walk.{shrSliceOf, ShrSlice, shr-slice-lawful, shr-slice-tells, slice-vals, sliceTy, sliceVal}
-use Rattle.rows.proofs.Walk.{nothing, owned, onEntry, Meets, tripleOf, Contract, Triple, cited, entered, Stays, Walks}
-use Rattle.rows.proofs.Walk.{ends-at, goes-dropped, says, stay-dropped, walk-meets, walkOf, walked, Atoms, fullShare}
-use Rattle.rows.proofs.Walk.{URA, lit<, ltb→lt, nltb→le, getD, length, Array, ArrayOf, usize, uint-makes, take}
-use Rattle.rows.proofs.Walk.{Nat·lt-wfRel, List, [], _∷_, _≡_, _∙_, refl, sym, InvImage·wf, WellFounded, Ty, erased, imm}
-use Rattle.rows.proofs.Walk.{named, tyArray, tyBool, tyInt, tyPtr, tyRef, w64, Val, vint, vptr, lt-of-le-of-lt}
-use Rattle.rows.proofs.Walk.{add-one-dec, add-one-le, arith, Memory, Routine, Calls, Env, Heap, Loops, Out, Tables, Wp}
-use Rattle.rows.proofs.Walk.{WpFn, afterBlock, afterSeq, atReturn, afterTurn, WpFn-mono, fmOf, !, Given, Item, Sq, _$_}
-use Rattle.rows.proofs.Walk.{_∵_, _⊛_, anyQ, atRet, await, by, done, drop, fjoin, frame, fsplit, join, later, move}
-use Rattle.rows.proofs.Walk.{pick, qed, raw, rewrite, runs, some, split, suffices, use2, use3, ‵, ⋆, look-in, sub}
-use Rattle.rows.proofs.Walk.{whole, addr, again, alloc0, alloc1, and-then, assigns, assigns-last, bin, blocks}
-use Rattle.rows.proofs.Walk.{branches, enter, exec, first, fld, forget, free0, free1, from, hop, init, jumps, land}
-use Rattle.rows.proofs.Walk.{lit, load, look, look-raw, loops, no-more, of-opd, params1, pass0, pass1, returns, skips}
-use Rattle.rows.proofs.Walk.{stop, store, arr-parts, lft-new, lft-end, after, rowBytes, offset-fits}
+use Rattle.rows.proofs.Walk.{_*_, _+_, _-_, _<_, _^_, _≤_, zero-le, ℕ, Fml, GName, Lft, Share, fat, fdies, flft}
+use Rattle.rows.proofs.Walk.{fobor, froom, ftrue, SProp, ent, emp, via, fst∗, Fun, givenOf, tables, tablesOf}
+use Rattle.rows.proofs.Walk.{yes, elem-back, elem-out, looks-slice, place-is, row, shuts-slice, Is, shows}
+use Rattle.rows.proofs.Walk.{pointee, shares, owns, RefT, plain, shrSliceOf, ShrSlice, shr-slice-lawful}
+use Rattle.rows.proofs.Walk.{shr-slice-tells, slice-vals, sliceTy, sliceVal, nothing, owned, onEntry, Meets}
+use Rattle.rows.proofs.Walk.{tripleOf, Contract, Triple, cited, entered, Stays, Walks, ends-at, goes-dropped}
+use Rattle.rows.proofs.Walk.{says, stay-dropped, walk-meets, walkOf, walked, Atoms, fullShare, URA, lit<, ltb→lt}
+use Rattle.rows.proofs.Walk.{nltb→le, getD, length, Array, ArrayOf, usize, uint-makes, Nat·lt-wfRel, List, []}
+use Rattle.rows.proofs.Walk.{_∷_, _≡_, _∙_, refl, sym, InvImage·wf, WellFounded, Ty, erased, imm, named, tyArray}
+use Rattle.rows.proofs.Walk.{tyBool, tyInt, tyPtr, tyRef, w64, Val, vint, vptr, lt-of-le-of-lt, add-one-dec}
+use Rattle.rows.proofs.Walk.{add-one-le, arith, Memory, Routine, Calls, Env, Heap, Loops, Out, Tables, Wp, WpFn}
+use Rattle.rows.proofs.Walk.{afterBlock, afterSeq, atReturn, afterTurn, WpFn-mono, fmOf, !, Given, Item, Sq, _$_}
+use Rattle.rows.proofs.Walk.{_∵_, _⊛_, anyQ, atRet, await, by, done, drop, fjoin, frame, fsplit, join, later}
+use Rattle.rows.proofs.Walk.{move, pick, qed, raw, rewrite, runs, some, split, suffices, use2, use3, ‵, ⋆}
+use Rattle.rows.proofs.Walk.{look-in, sub, whole, addr, again, alloc0, alloc1, and-then, assigns, assigns-last}
+use Rattle.rows.proofs.Walk.{bin, blocks, branches, enter, exec, first, fld, forget, free0, free1, from, hop}
+use Rattle.rows.proofs.Walk.{init, jumps, land, lit, load, look, look-raw, loops, no-more, of-opd, params1}
+use Rattle.rows.proofs.Walk.{pass0, pass1, returns, skips, stop, store, arr-parts, lft-new, lft-end, after}
+use Rattle.rows.proofs.Walk.{rowBytes, offset-fits}
 use Rattle.rows.proofs.Calls.{Asks, calls-left}
 use mir.Syntax.{mut, tyUnit}
 use mir.Val.{vunit}

@@ -1,11 +1,15 @@
--- `rows::numbers::checked_row_at` meets its contract: the six numbers from the index on are those of the row.
+-- The numbers of row i keep its limits exactly where the row that they make does.
 use mathlib.Core.Path.{sym, ap, _∙_}
+use Prim.Native.Nat.{_*_}
 use borrow.Author.Needs.{needs}
 use Rattle.rows.specs.declared.Checked.{Checked}
-use Rattle.rows.specs.inside.Constructor.{checked}
+use Rattle.rows.specs.Rows.{fieldCount, inRange}
 use Rattle.rows.proofs.RowNumbers.{row-from}
-use Rattle.rows.proofs.numbers.checked_row_at.Statement.{statement}
-use Rattle.rows.proofs.numbers.checked_row_at.Tie as tie
+use Rattle.rows.proofs.numbers.in_range_at.Statement.{statement}
+use Rattle.rows.proofs.numbers.in_range_at.Tie as tie
+
+mul-at : tie.Need-mul-at
+mul-at c = search needs
 
 add-new : tie.Need-add-new
 add-new c = search needs
@@ -66,13 +70,15 @@ new-requires c κs = search needs
 
 returns : tie.Need-returns
 returns c =
-    let a = c .before .before .before .before .before .before .before .before .before .args in
-    ap (λ (x : Checked). x .row) (c .before .new .ensures ∙ sym (ap checked (row-from (a .numbers .now) (a .at))))
+    let a = c .before .before .before .before .before .before .before .before .args in
+    ap (λ (x : Checked). x .in_range) (c .new .ensures)
+    ∙ ap inRange (sym (row-from (a .numbers .now) (fieldCount * a .i)))
 
-pub checked-row-at-spec : {M : Type 1} → statement M
-checked-row-at-spec =
+pub in-range-at-spec : {M : Type 1} → statement M
+in-range-at-spec =
     tie.close
     (tie.spec
+    mul-at
     add-new
     mul-new
     shared-slice-read-new

@@ -1,4 +1,4 @@
--- `order_in` meets its contract: the record of sets, for few rows or for many, has room for their sets, and has none of
+-- `choose` meets its contract: the record of sets, for few rows or for many, has room for their sets, and has none of
 -- them yet.
 use mathlib.Core.Path.{sym}
 use Prim.Native.Nat.{ℕ, _^_}
@@ -8,8 +8,8 @@ use borrow.Author.Needs.{needs}
 use Rattle.rows.specs.Rows.{maxTasks}
 use Rattle.orders.specs.inside.Sets.{unknown}
 use Rattle.orders.proofs.Record.{fresh}
-use Rattle.orders.proofs.order_in.Statement.{statement}
-use Rattle.orders.proofs.order_in.Tie as tie
+use Rattle.orders.proofs.choose.Statement.{statement}
+use Rattle.orders.proofs.choose.Tie as tie
 
 -- the rows that the short record has room for
 abbrev fewTasks : ℕ
@@ -20,7 +20,7 @@ slice-aggregate-order-with c = search needs
 
 order-with-requires : tie.Need-order-with-requires
 order-with-requires c κs =
-    let s = c .before .before in
+    let s = c .before .before .before in
     (s .pre, fresh (s .args .n) (2 ^ fewTasks) (pow-mono (c .before .if1 .taken)))
 
 returns : tie.Need-returns
@@ -31,14 +31,14 @@ slice-aggregate-order-with-2 c = sym (length-replicate {A = ℕ} (2 ^ maxTasks) 
 
 order-with-requires-2 : tie.Need-order-with-requires-2
 order-with-requires-2 c κs =
-    let s = c .before .before in
-    (s .pre, fresh (s .args .n) (2 ^ maxTasks) (pow-mono (s .pre .held)))
+    let s = c .before .before .before in
+    (s .pre, fresh (s .args .n) (2 ^ maxTasks) (pow-mono (s .pre .few)))
 
 returns-2 : tie.Need-returns-2
 returns-2 c = search needs
 
-pub order-in-spec : {M : Type 1} → statement M
-order-in-spec =
+pub choose-spec : {M : Type 1} → statement M
+choose-spec =
     tie.close
     (tie.spec
     slice-aggregate-order-with
