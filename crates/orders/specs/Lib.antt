@@ -1,4 +1,3 @@
--- Orders of a table's rows by any test of a row, and the order chosen by stability; inside, what the search promises.
+-- Orders of a table's rows by any test of a row, and the order chosen by stability.
 pub mod Orders
 pub mod Stability
-pub mod inside

@@ -1,0 +1,49 @@
+-- `choose` meets its contract: the record of sets, for few rows or for many, has room for their sets, and has none of
+-- them yet.
+use mathlib.Core.Path.{sym}
+use Prim.Native.Nat.{ℕ, _^_}
+use lib.ListN.{length-replicate}
+use lib.Pow.{pow-mono}
+use borrow.Author.Needs.{needs}
+use Rattle.rows.specs.Rows.{maxTasks}
+use Rattle.search.specs.inside.Sets.{unknown}
+use Rattle.search.proofs.Record.{fresh}
+use Rattle.search.proofs.choose.Statement.{statement}
+use Rattle.search.proofs.choose.Tie as tie
+
+-- the rows that the short record has room for
+abbrev fewTasks : ℕ
+fewTasks = 6
+
+slice-aggregate-order-with : tie.Need-slice-aggregate-order-with
+slice-aggregate-order-with c = search needs
+
+order-with-requires : tie.Need-order-with-requires
+order-with-requires c κs =
+    let s = c .before .before .before in
+    (s .pre, fresh (s .args .n) (2 ^ fewTasks) (pow-mono (c .before .if1 .taken)))
+
+returns : tie.Need-returns
+returns c = search needs
+
+slice-aggregate-order-with-2 : tie.Need-slice-aggregate-order-with-2
+slice-aggregate-order-with-2 c = sym (length-replicate {A = ℕ} (2 ^ maxTasks) unknown)
+
+order-with-requires-2 : tie.Need-order-with-requires-2
+order-with-requires-2 c κs =
+    let s = c .before .before .before in
+    (s .pre, fresh (s .args .n) (2 ^ maxTasks) (pow-mono (s .pre .few)))
+
+returns-2 : tie.Need-returns-2
+returns-2 c = search needs
+
+pub choose-spec : {M : Type 1} → statement M
+choose-spec =
+    tie.close
+    (tie.spec
+    slice-aggregate-order-with
+    order-with-requires
+    returns
+    slice-aggregate-order-with-2
+    order-with-requires-2
+    returns-2)

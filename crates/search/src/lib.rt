@@ -1,0 +1,215 @@
+// The order of a table's tasks by the rule, found from the whole set down with a byte for each set.
+ghost use mathlib.Core.Path.{_≡_};
+ghost use mathlib.Core.List.{[], _++_};
+ghost use Prim.Native.Nat.{_/_, _%_, _^_, _≤_, _<_};
+ghost use lib.ListN.{length, drop};
+ghost use Rattle.rows.specs.Rows.{maxTasks};
+ghost use Rattle.rows.specs.inside.Arrays.{ranking};
+ghost use Rattle.rows.specs.inside.Numbers.{rowsOf};
+ghost use Rattle.search.specs.inside.Sets.{fits, Fresh, Settled};
+ghost use Rattle.orders.specs.Stability.{stable};
+ghost use Rattle.search.specs.inside.Search.{Lent, PositionsIn, Searching, MayGo, LowestFound};
+ghost use Rattle.search.specs.inside.Search.{Chained, chainTasks, TableRows, Chooses};
+use analysis::figures_under;
+use analysis::fill_columns;
+use analysis::no_blocking;
+use rows::MAX_TASKS;
+use rows::NUMBERS;
+use rows::Order;
+use rows::Row;
+use rows::put_rows;
+use rows::row_at;
+
+// How many sets of tasks there are.
+const SETS: usize = 1 << MAX_TASKS;
+
+// Room for the columns of a set's rows.
+const COLUMNS: usize = 3 * MAX_TASKS;
+
+// Few tasks, and how many sets of them there are.
+const FEW_TASKS: usize = 6;
+
+const FEW_SETS: usize = 1 << FEW_TASKS;
+
+// A byte of the record of sets that is no row: the set isn't known yet, or has no order.
+const UNKNOWN: u8 = 254;
+
+const NO_ORDER: u8 = 255;
+
+// 2 to the power i.
+fn power(i: usize) -> usize
+    requires { ⌜ i ≤ maxTasks ⌝ }
+    ensures { λ r. ⌜ r ≡ 2 ^ i ⌝ }
+{
+    1 << i
+}
+
+// Where the rows of set m stand among n rows, put at the front of positions, and how many they are.
+fn positions_in(m: usize, n: usize, positions: &mut [usize]) -> usize
+    requires { ⌜ n ≤ length (now positions) ⌝ }
+    ensures { λ r. ⌜ PositionsIn m n (now (positions .exit)) r ⌝ }
+{
+    let mut count: usize = 0;
+    let mut rest = m;
+    let mut j: usize = 0;
+    // Every position is written, and the next overwrites one outside the set: no branch for a processor to mispredict.
+    while j < n {
+        positions[count] = j;
+        count += rest % 2;
+        rest = rest / 2;
+        j += 1;
+    }
+    count
+}
+
+// Whether row i of set m is stable as its lowest row, under the rest of the set.
+fn stable_under(rows: &[u64], n: usize, m: usize, i: usize) -> bool
+    requires { ⌜ Lent n (now rows) × (i < n) × (m / 2 ^ i % 2 ≡ 1) ⌝ }
+    ensures { λ r. ⌜ r ≡ fits stable (rowsOf n (now (rows .entry))) m i ⌝ }
+{
+    let mut positions = [0usize; MAX_TASKS];
+    let count = positions_in(m - power(i), n, &mut positions);
+    let mut columns = [0u64; COLUMNS];
+    fill_columns(rows, &positions, count, &mut columns);
+    let row = row_at(rows, i);
+    let figures = figures_under(row, no_blocking(), &columns, count, count);
+    figures.stable
+}
+
+// Whether row i may go lowest in set m: it is in the set and stable there, and the rest isn't known to have no order.
+fn may_go(rows: &[u64], n: usize, m: usize, i: usize, sets: &[u8]) -> bool
+    requires { ⌜ Searching n (now rows) m (now sets) × (i < n) ⌝ }
+    ensures { λ r. ⌜ MayGo (rowsOf n (now (rows .entry))) m i r ⌝ }
+{
+    if (m >> i) % 2 == 0 {
+        return false;
+    }
+    if sets[m - power(i)] == NO_ORDER {
+        return false;
+    }
+    stable_under(rows, n, m, i)
+}
+
+// The first row of the table that goes lowest in set m.
+fn lowest(rows: &[u64], n: usize, m: usize, sets: &mut [u8]) -> u8
+    requires { ⌜ Searching n (now rows) m (now sets) × (1 ≤ m) ⌝ }
+    ensures { λ r. ⌜ LowestFound (rowsOf n (now (rows .entry))) m (now (sets .exit)) r ⌝ }
+{
+    let mut i: usize = 0;
+    while i < n {
+        if may_go(rows, n, m, i, sets) {
+            if settled(rows, n, m - power(i), sets) {
+                return i as u8;
+            }
+        }
+        i += 1;
+    }
+    NO_ORDER
+}
+
+// Whether set m has an order; the record then has the set.
+fn settled(rows: &[u64], n: usize, m: usize, sets: &mut [u8]) -> bool
+    requires { ⌜ Searching n (now rows) m (now sets) ⌝ }
+    ensures { λ r. ⌜ Settled stable (rowsOf n (now (rows .entry))) m (now (sets .exit)) r ⌝ }
+{
+    if m == 0 {
+        return true;
+    }
+    let known = sets[m];
+    if known == UNKNOWN {
+        let found = lowest(rows, n, m, sets);
+        sets[m] = found;
+        return found != NO_ORDER;
+    }
+    known != NO_ORDER
+}
+
+// No tasks.
+fn nothing() -> Order
+    ensures { λ r. ⌜ r ≡ ranking [] ⌝ }
+{
+    Order {
+        tasks: [0u16; MAX_TASKS],
+        count: 0,
+    }
+}
+
+// The n tasks of set m's order, read off the record into the front of tasks: those of the set without its lowest row,
+// then that row's.
+fn rebuild(rows: &[u64], n: usize, m: usize, sets: &[u8], tasks: &mut [u16])
+    requires { ⌜ (n ≤ length (now tasks)) × (m < length (now sets)) × Chained (now rows) (now sets) n m ⌝ }
+    ensures { λ _. ⌜ now (tasks .exit)
+        ≡ chainTasks (now (rows .entry)) (now (sets .entry)) n m ++ drop n (now (tasks .entry)) ⌝ }
+{
+    if 0 < n {
+        let i = sets[m] as usize;
+        let above = n - 1;
+        rebuild(rows, above, m - power(i), sets, tasks);
+        let row = row_at(rows, i);
+        tasks[above] = row.task as u16;
+    }
+}
+
+// The order of the n rows of set m, read off the record.
+fn read_off(rows: &[u64], n: usize, m: usize, sets: &[u8]) -> Order
+    requires { ⌜ (n ≤ maxTasks) × (m < length (now sets)) × Chained (now rows) (now sets) n m ⌝ }
+    ensures { λ r. ⌜ r ≡ ranking (chainTasks (now (rows .entry)) (now (sets .entry)) n m) ⌝ }
+{
+    let mut tasks = [0u16; MAX_TASKS];
+    rebuild(rows, n, m, sets, &mut tasks);
+    Order { tasks, count: n }
+}
+
+// The order that is chosen, if there is one.
+pub struct Choice {
+    pub found: bool,
+    pub order: Order,
+}
+
+// The order of n rows by the rule, with a record of sets that has none yet.
+fn order_with(rows: &[u64], n: usize, sets: &mut [u8]) -> Choice
+    requires { ⌜ Lent n (now rows) × Fresh n (now sets) ⌝ }
+    ensures { λ r. ⌜ Chooses (rowsOf n (now (rows .entry))) r ⌝ }
+{
+    let all = power(n) - 1;
+    if settled(rows, n, all, sets) {
+        let order = read_off(rows, n, all, sets);
+        return Choice { found: true, order };
+    }
+    Choice {
+        found: false,
+        order: nothing(),
+    }
+}
+
+// The order of n rows by the rule. Few rows have few sets, and a short record is soon filled.
+pub fn choose(rows: &[u64], n: usize) -> Choice
+    requires { ⌜ Lent n (now rows) ⌝ }
+    ensures { λ r. ⌜ Chooses (rowsOf n (now (rows .entry))) r ⌝ }
+{
+    if n <= FEW_TASKS {
+        let mut few = [UNKNOWN; FEW_SETS];
+        return order_with(rows, n, &mut few);
+    }
+    let mut sets = [UNKNOWN; SETS];
+    order_with(rows, n, &mut sets)
+}
+
+// The same of the first rows of an array.
+fn order_in(numbers: &[u64; NUMBERS], n: usize) -> Choice
+    requires { ⌜ Lent n (now numbers) ⌝ }
+    ensures { λ r. ⌜ Chooses (rowsOf n (now (numbers .entry))) r ⌝ }
+{
+    choose(numbers, n)
+}
+
+// The order of a table's rows by the rule.
+pub fn order_of(rows: &[Row]) -> Choice
+    requires { ⌜ TableRows (now rows) ⌝ }
+    ensures { λ r. ⌜ Chooses (now (rows .entry)) r ⌝ }
+{
+    let n = rows.len();
+    let mut numbers = [0u64; NUMBERS];
+    put_rows(rows, &mut numbers);
+    order_in(&numbers, n)
+}
