@@ -10,7 +10,7 @@ use borrow.Author.Tests.{eq-eqb, ne-eqb, eqb-true, not-true}
 use lib.Dec.{eqb}
 use lib.ListN.{length}
 use Rattle.basics.specs.Basics.{isIn, distinct}
-use Rattle.basics.proofs.Tests.{and-left, and-right}
+use Rattle.basics.proofs.Tests.{and-left, and-right, and-both, or-right}
 use Rattle.rows.specs.Rows.{tasksOf, hasTask, distinctRows, rowFor, rowsFor, allTasks, isPossible}
 use Rattle.rows.specs.declared.Row.{Row}
 use Rattle.orders.specs.Orders.{Taken, here, later, Possible, nothing, first}
@@ -153,3 +153,22 @@ possible-tasks ts table h =
       distinct-tasks = and-right a (distinct ts) q;
       there = all-there ts table (and-right (a && distinct ts) (allTasks ts table) h);
     })
+
+-- ---- each task of a possible order is one of the table's
+taken-has : {r : Row} {rs rest : List Row} → Taken r rs rest → hasTask (r .task) rs ≡ true
+taken-has {r} (here {rs = rs}) = ap (λ (b : Bool). b || hasTask (r .task) rs) (eq-eqb (r .task) (r .task) refl)
+taken-has {r} (later {x = x} {rs = rs} t) =
+    or-right (eqb (r .task) (x .task)) (hasTask (r .task) rs) (taken-has t)
+
+all-have :
+    {os rs : List Row} (table : List Row) →
+    ((r : Row) (rest : List Row) → Taken r rs rest → hasTask (r .task) table ≡ true) →
+    Possible os rs →
+    allTasks (tasksOf os) table ≡ true
+all-have table h nothing = refl
+all-have table h (first {r = r} {os = os} {rest = rest} t p) =
+    and-both (hasTask (r .task) table) (allTasks (tasksOf os) table) (h r rest t)
+    (all-have table (λ x more s. h x (swapped t s .between) (swapped t s .second)) p)
+
+pub possible-all : {os table : List Row} → Possible os table → allTasks (tasksOf os) table ≡ true
+possible-all {table = table} p = all-have table (λ r rest t. taken-has t) p

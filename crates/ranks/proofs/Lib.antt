@@ -1,3 +1,5 @@
--- What the calls plan.
+-- What the calls read, find and plan.
 pub mod Readings
 pub mod Orders
+pub mod Found
+pub mod Given

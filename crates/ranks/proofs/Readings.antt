@@ -1,63 +1,73 @@
--- What a reading by value says of its table: the first rows of its array are the table's rows, which are in range and
--- distinct, so that they can be lent to the search; and a text's refusal is the call's.
-use mathlib.Core.Path.{_≡_, sym, ap, subst, _∙_}
-use mathlib.Core.Bool.{Bool}
+-- What a reading says of its table: its rows stand behind the head among the numbers, in range and distinct, so that they
+-- can be lent to the search and to the plan; and a text's refusal is the call's.
+use mathlib.Core.Path.{_≡_, sym, ap, ap₂, subst, _∙_}
+use mathlib.Core.Bool.{Bool, true}
 use mathlib.Core.List.{List}
-use Prim.Native.Nat.{ℕ, _≤_}
+use Prim.Native.Nat.{ℕ, _+_, _-_, _*_, _≤_}
 use native.Mathlib.Omega.{arith}
-use lib.ListN.{length, take}
-use Rattle.rows.specs.Rows.{maxTasks, noRow}
-use Rattle.rows.proofs.Arrays.{padded-front}
+use lib.ListN.{length, getD, take, drop, length-drop}
+use lib.Seq.{take-all}
+use Rattle.rows.specs.Rows.{maxTasks, fieldCount, inRange, allRows}
+use Rattle.rows.specs.inside.Numbers.{rowsOf}
+use Rattle.rows.specs.declared.Row.{Row}
 use Rattle.tables.specs.declared.Reading.{Reading}
-use Rattle.tables.specs.TableLines.{TableRead, readTable}
-use Rattle.tables.specs.inside.Readings.{reading}
+use Rattle.tables.specs.TableLines.{TableRead, readTable, maxBoard}
+use Rattle.tables.specs.inside.Numbers.{headCount}
+use Rattle.tables.specs.inside.Readings.{ReadAs}
 use Rattle.tables.specs.Claims.{Accepted}
 use Rattle.tables.proofs.Readings.{read}
-use Rattle.orders.specs.inside.Search.{TableRows, Lent}
+use Rattle.search.specs.inside.Search.{TableRows, Lent}
 use Rattle.plans.specs.Outcomes.{Outcome, refuses}
 use Rattle.demands.specs.Calls.{onTable}
 use Rattle.demands.proofs.Texts.{Accepts}
 use Rattle.demands.proofs.Outcomes.{on-turned-down}
 
-module _ (ranked : Bool) (text : List ℕ) (r : Reading) (is : r ≡ reading (readTable ranked text)) where
+-- the numbers behind the head, as they are lent
+abbrev pub behindHead : List ℕ → List ℕ
+behindHead ns = take (length ns - headCount) (drop headCount ns)
+
+module _ {ranked : Bool} {text ns : List ℕ} {r : Reading} (a : ReadAs ranked text ns r) where
   abbrev answer : TableRead
   answer = readTable ranked text
 
-  pub refused-is : r .refused ≡ answer .refused
-  refused-is = ap (λ (x : Reading). x .refused) is
-
   pub accepts : r .refused ≡ 0 → Accepts ranked text
-  accepts e = sym refused-is ∙ e
+  accepts e = sym (a .refused-is) ∙ e
 
   pub refusal-is : (next : Outcome) → (r .refused ≡ 0 → ⊥) → onTable answer next ≡ refuses (r .refused) (r .line)
   refusal-is next h =
-      on-turned-down answer next (λ e. h (refused-is ∙ e))
-      ∙ ap (λ (x : Reading). refuses (x .refused) (x .line)) (sym is)
-
-  pub count-is : r .count ≡ length (answer .rows)
-  count-is = ap (λ (x : Reading). x .count) is
-
-  pub rows-front : take (r .count) (r .rows) ≡ answer .rows
-  rows-front =
-      ap (λ (x : Reading). take (x .count) (x .rows)) is ∙ padded-front noRow (answer .rows)
+      on-turned-down answer next (λ e. h (a .refused-is ∙ e))
+      ∙ sym (ap₂ (λ (n k : ℕ). refuses n k) (a .refused-is) (a .line-is))
 
   module _ (ok : Accepts ranked text) where
     abbrev sound : Accepted ranked answer
     sound = read ranked text .sound ok
 
     pub few : r .count ≤ maxTasks
-    few = omega (arith, count-is, sound .few-rows)
+    few = omega (arith, a .count-is, sound .few-rows)
 
-    pub lent : Lent (r .rows) (r .count)
+    -- there is a head, and the rows behind it are the table's
+    pub head-there : headCount + fieldCount * r .count ≤ length ns
+    head-there = omega (arith, a .long ok)
+
+    behind-head : behindHead ns ≡ drop headCount ns
+    behind-head = take-all (length ns - headCount) (drop headCount ns) (omega (arith, length-drop headCount ns))
+
+    pub rows-are : rowsOf (r .count) (behindHead ns) ≡ answer .rows
+    rows-are = ap (rowsOf (r .count)) behind-head ∙ a .rows-are ok
+
+    pub rows-held : fieldCount * r .count ≤ length (behindHead ns)
+    rows-held = omega (arith, ap length behind-head, length-drop headCount ns, head-there)
+
+    pub rows-ranged : allRows inRange (rowsOf (r .count) (behindHead ns)) ≡ true
+    rows-ranged = ap (allRows inRange) rows-are ∙ sound .rows-in-range
+
+    pub lent : Lent (r .count) (behindHead ns)
     lent = record {
-      held = few;
-      counted = ap length rows-front ∙ sym count-is;
-      table = subst TableRows (sym rows-front)
+      few = few;
+      held = rows-held;
+      table = subst TableRows (sym rows-are)
           (record { few = sound .few-rows; in-range = sound .rows-in-range; distinct = sound .rows-distinct });
     }
 
-    pub board-is : r .board ≡ answer .board
-    board-is = ap (λ (x : Reading). x .board) is
-
-    pub board-fits : r .board ≤ 65535
-    board-fits = omega (arith, board-is, sound .board-high)
+    pub board-fits : getD ns 0 0 ≤ maxBoard
+    board-fits = omega (arith, a .board-is ok, sound .board-high)
