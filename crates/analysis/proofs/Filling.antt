@@ -1,11 +1,11 @@
 -- Columns are filled row by row: a row's times put at index k leave those before them, and are there.
 use mathlib.Core.Path.{_≡_, refl, ap, sym, _∙_, subst}
-use mathlib.Core.List.{List, [], _∷_, map}
+use mathlib.Core.List.{List, [], _∷_, _++_, map}
 use Prim.Native.Nat.{ℕ, zero, suc, _+_, _*_, _≤_, _<_}
 use native.Mathlib.Decide.{ℕ-discrete}
 use native.Mathlib.Omega.{arith}
-use lib.ListN.{length, getD, set, take, length-set, length-take}
-use lib.Seq.{getD-set-same, getD-set-other, getD-take}
+use lib.ListN.{length, getD, set, take, length-set, length-take, length-append, List·getD-append}
+use lib.Seq.{getD-set-same, getD-set-other, getD-take, getD-at}
 use Rattle.rows.specs.Rows.{cost, noRow, rowAt}
 use Rattle.rows.specs.declared.Row.{Row}
 use Rattle.rows.specs.inside.Numbers.{rowIn, rowsIn}
@@ -73,6 +73,48 @@ filled-next rows n k columns f h l = record {
   where
     r : Row
     r = rowAt rows k
+
+-- a row that is put behind them and is not counted changes nothing
+pub filled-over : {rows : List Row} {n k : ℕ} {columns : List ℕ} → Filled rows n k columns → k < n → (r : Row)
+    → Filled rows n k (withTimes columns n k r)
+filled-over {rows} {n} {k} {columns} f h r = record {
+  room = omega (arith, with-long columns n k r h (f .room), f .room);
+  among = f .among;
+  held = f .held;
+  periods = λ j b.
+      kept columns n k r h (f .room) j (λ g. omega arith) (λ g. omega arith) (λ g. omega arith) ∙ f .periods j b;
+  costs = λ j b.
+      kept columns n k r h (f .room) (n + j) (λ g. omega arith) (λ g. omega arith) (λ g. omega arith) ∙ f .costs j b;
+  bests = λ j b.
+      kept columns n k r h (f .room) (n + n + j) (λ g. omega arith) (λ g. omega arith) (λ g. omega arith)
+      ∙ f .bests j b;
+}
+
+-- one that is counted is the last
+pub filled-last : {rows : List Row} {n k : ℕ} {columns : List ℕ} → Filled rows n k columns → length rows ≡ k → k < n
+    → (r : Row) → Filled (rows ++ (r ∷ [])) n (suc k) (withTimes columns n k r)
+filled-last {rows} {n} {k} {columns} f many h r =
+    subst (λ (q : Row). Filled more n (suc k) (withTimes columns n k q)) (getD-at rows r [] noRow k many)
+    (filled-next more n k columns before h (omega (arith, long, many)))
+  where
+    more : List Row
+    more = rows ++ (r ∷ [])
+
+    long : length (rows ++ (r ∷ [])) ≡ suc (length rows)
+    long = omega (arith, length-append rows (r ∷ []))
+
+    same : (j : ℕ) → j < k → rowAt rows j ≡ rowAt (rows ++ (r ∷ [])) j
+    same j l = sym (List·getD-append rows (r ∷ []) noRow j (omega (arith, many)))
+
+    before : Filled (rows ++ (r ∷ [])) n k columns
+    before = record {
+      room = f .room;
+      among = f .among;
+      held = omega (arith, long, many);
+      periods = λ j l. f .periods j l ∙ ap (λ (q : Row). q .period) (same j l);
+      costs = λ j l. f .costs j l ∙ ap cost (same j l);
+      bests = λ j l. f .bests j l ∙ ap (λ (q : Row). q .best) (same j l);
+    }
 
 pub filled-none : (rows : List Row) (n : ℕ) (columns : List ℕ) → 3 * n ≤ length columns → Filled rows n 0 columns
 filled-none rows n columns room = record {

@@ -101,7 +101,7 @@ pub fn no_blocking() -> u64
 }
 
 // The times of row i, the numbers of it that figures take, are put at index k of three columns of n numbers.
-fn put_times(rows: &[u64], i: usize, columns: &mut [u64], n: usize, k: usize)
+pub fn put_times(rows: &[u64], i: usize, columns: &mut [u64], n: usize, k: usize)
     requires { ⌜ (fieldCount * suc i ≤ length (now rows)) × (k < n) × (n ≤ columnsMax)
         × (3 * n ≤ length (now columns)) ⌝ }
     ensures { λ _. ⌜ now (columns .exit) ≡ withTimes (now (columns .entry)) n k (rowIn (now (rows .entry)) i) ⌝ }

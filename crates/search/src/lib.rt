@@ -1,18 +1,18 @@
 // The order of a table's tasks by the rule, found from the whole set down with a byte for each set.
 ghost use mathlib.Core.Path.{_≡_};
 ghost use mathlib.Core.List.{[], _++_};
-ghost use Prim.Native.Nat.{_/_, _%_, _^_, _≤_, _<_};
+ghost use Prim.Native.Nat.{_*_, _/_, _%_, _^_, _≤_, _<_};
 ghost use lib.ListN.{length, drop};
 ghost use Rattle.rows.specs.Rows.{maxTasks};
 ghost use Rattle.rows.specs.inside.Arrays.{ranking};
 ghost use Rattle.rows.specs.inside.Numbers.{rowsOf};
 ghost use Rattle.search.specs.inside.Sets.{fits, Fresh, Settled};
 ghost use Rattle.orders.specs.Stability.{stable};
-ghost use Rattle.search.specs.inside.Search.{Lent, PositionsIn, Searching, MayGo, LowestFound};
+ghost use Rattle.search.specs.inside.Search.{Lent, Gathered, Searching, MayGo, LowestFound};
 ghost use Rattle.search.specs.inside.Search.{Chained, chainTasks, TableRows, Chooses};
 use analysis::figures_under;
-use analysis::fill_columns;
 use analysis::no_blocking;
+use analysis::put_times;
 use rows::MAX_TASKS;
 use rows::NUMBERS;
 use rows::Order;
@@ -44,17 +44,17 @@ fn power(i: usize) -> usize
     1 << i
 }
 
-// Where the rows of set m stand among n rows, put at the front of positions, and how many they are.
-fn positions_in(m: usize, n: usize, positions: &mut [usize]) -> usize
-    requires { ⌜ n ≤ length (now positions) ⌝ }
-    ensures { λ r. ⌜ PositionsIn m n (now (positions .exit)) r ⌝ }
+// The times of set m's rows are put into columns of n numbers, and the rows are counted.
+fn gather(rows: &[u64], n: usize, m: usize, columns: &mut [u64]) -> usize
+    requires { ⌜ Lent n (now rows) × (3 * n ≤ length (now columns)) ⌝ }
+    ensures { λ r. ⌜ Gathered (rowsOf n (now (rows .entry))) m n (now (columns .exit)) r ⌝ }
 {
     let mut count: usize = 0;
     let mut rest = m;
     let mut j: usize = 0;
-    // Every position is written, and the next overwrites one outside the set: no branch for a processor to mispredict.
+    // Every row is put, and the next overwrites one outside the set: no branch for the processor to mispredict.
     while j < n {
-        positions[count] = j;
+        put_times(rows, j, columns, n, count);
         count += rest % 2;
         rest = rest / 2;
         j += 1;
@@ -63,22 +63,19 @@ fn positions_in(m: usize, n: usize, positions: &mut [usize]) -> usize
 }
 
 // Whether row i of set m is stable as its lowest row, under the rest of the set.
-fn stable_under(rows: &[u64], n: usize, m: usize, i: usize) -> bool
-    requires { ⌜ Lent n (now rows) × (i < n) × (m / 2 ^ i % 2 ≡ 1) ⌝ }
+fn stable_under(rows: &[u64], n: usize, m: usize, i: usize, columns: &mut [u64]) -> bool
+    requires { ⌜ Lent n (now rows) × (i < n) × (m / 2 ^ i % 2 ≡ 1) × (3 * n ≤ length (now columns)) ⌝ }
     ensures { λ r. ⌜ r ≡ fits stable (rowsOf n (now (rows .entry))) m i ⌝ }
 {
-    let mut positions = [0usize; MAX_TASKS];
-    let count = positions_in(m - power(i), n, &mut positions);
-    let mut columns = [0u64; COLUMNS];
-    fill_columns(rows, &positions, count, &mut columns);
+    let count = gather(rows, n, m - power(i), columns);
     let row = row_at(rows, i);
-    let figures = figures_under(row, no_blocking(), &columns, count, count);
+    let figures = figures_under(row, no_blocking(), columns, n, count);
     figures.stable
 }
 
 // Whether row i may go lowest in set m: it is in the set and stable there, and the rest isn't known to have no order.
-fn may_go(rows: &[u64], n: usize, m: usize, i: usize, sets: &[u8]) -> bool
-    requires { ⌜ Searching n (now rows) m (now sets) × (i < n) ⌝ }
+fn may_go(rows: &[u64], n: usize, m: usize, i: usize, sets: &[u8], columns: &mut [u64]) -> bool
+    requires { ⌜ Searching n (now rows) m (now sets) × (i < n) × (3 * n ≤ length (now columns)) ⌝ }
     ensures { λ r. ⌜ MayGo (rowsOf n (now (rows .entry))) m i r ⌝ }
 {
     if (m >> i) % 2 == 0 {
@@ -87,7 +84,7 @@ fn may_go(rows: &[u64], n: usize, m: usize, i: usize, sets: &[u8]) -> bool
     if sets[m - power(i)] == NO_ORDER {
         return false;
     }
-    stable_under(rows, n, m, i)
+    stable_under(rows, n, m, i, columns)
 }
 
 // The first row of the table that goes lowest in set m.
@@ -95,9 +92,10 @@ fn lowest(rows: &[u64], n: usize, m: usize, sets: &mut [u8]) -> u8
     requires { ⌜ Searching n (now rows) m (now sets) × (1 ≤ m) ⌝ }
     ensures { λ r. ⌜ LowestFound (rowsOf n (now (rows .entry))) m (now (sets .exit)) r ⌝ }
 {
+    let mut columns = [0u64; COLUMNS];
     let mut i: usize = 0;
     while i < n {
-        if may_go(rows, n, m, i, sets) {
+        if may_go(rows, n, m, i, sets, &mut columns) {
             if settled(rows, n, m - power(i), sets) {
                 return i as u8;
             }
@@ -162,8 +160,8 @@ fn read_off(rows: &[u64], n: usize, m: usize, sets: &[u8]) -> Order
 
 // The order that is chosen, if there is one.
 pub struct Choice {
-    pub found: bool,
     pub order: Order,
+    pub found: bool,
 }
 
 // The order of n rows by the rule, with a record of sets that has none yet.

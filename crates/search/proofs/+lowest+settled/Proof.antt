@@ -39,14 +39,15 @@ abbrev μ-settled : Measures 2 settled-kinds.ps ℕ
 μ-settled κs a = 2 * a .1 .1 .0 + 1
 
 abbrev lowest-Inv-loop : lowest-lts.InvT-loop
-lowest-Inv-loop rows n m sets₀ i₀ sets i =
+lowest-Inv-loop rows n m sets₀ columns₀ i₀ sets columns i =
     (i ≤ n)
     × (orderAt stable (rowsOf n rows) m ≡ scan theOrder stable by-sets (rowsOf n rows) m i)
     × (length sets ≡ length sets₀)
     × Recorded stable (rowsOf n rows) sets
+    × (length columns ≡ length columns₀)
 
 abbrev lowest-μ-loop : lowest-lts.MeasureT-loop
-lowest-μ-loop rows n m sets₀ i₀ sets i = n - i
+lowest-μ-loop rows n m sets₀ columns₀ i₀ sets columns i = n - i
 
 module _ (t : ℕ) where
   abbrev lowest-at : In 2 lowest-kinds.ps
@@ -85,36 +86,45 @@ module _ (t : ℕ) where
             (a-set (p .0 .lent) (a .m) (p .0 .set)),
         refl,
         p .0 .recorded,
+        refl,
       )
+
+  lowest-slice-aggregate-may-go :
+      lowest-lts.Need-slice-aggregate-may-go lowest-calls lowest-at lowest.Post lowest-Inv-loop lowest-μ-loop
+  lowest-slice-aggregate-may-go c = sym (c .before .before .before .loop .inv .4)
 
   lowest-may-go-requires :
       lowest-lts.Need-may-go-requires lowest-calls lowest-at lowest.Post lowest-Inv-loop lowest-μ-loop
   lowest-may-go-requires c κs =
-      let s = c .before .before .before .before .before in
+      let s = c .before .before .before .before .before .before in
       let p = s .pre .1 .0 in
-      (record { lent = p .lent; set = p .set; recorded = c .before .before .loop .inv .3 }, c .before .loop-test .taken)
+      let x = c .before .before .before .loop in (
+        record { lent = p .lent; set = p .set; recorded = x .inv .3 },
+        c .before .before .loop-test .taken,
+        omega (arith, p .lent .few, x .inv .4),
+      )
 
   lowest-power-requires :
       lowest-lts.Need-power-requires lowest-calls lowest-at lowest.Post lowest-Inv-loop lowest-μ-loop
   lowest-power-requires c κs =
-      let s = c .before .before .before .before .before .before .before in
-      omega (arith, c .before .before .before .loop-test .taken, s .pre .1 .0 .lent .few)
+      let s = c .before .before .before .before .before .before .before .before .before in
+      omega (arith, c .before .before .before .before .before .loop-test .taken, s .pre .1 .0 .lent .few)
 
   lowest-sub-settled : lowest-lts.Need-sub-settled lowest-calls lowest-at lowest.Post lowest-Inv-loop lowest-μ-loop
   lowest-sub-settled c =
-      let a = c .before .before .before .before .before .before .before .before .args in
-      let bit = c .before .before .may-go .ensures .in-set (c .before .if1 .taken) in
-      omega (arith, c .power .ensures, bit-le (a .m) (c .before .before .before .before .before .loop .i) bit)
+      let a = c .before .before .before .before .before .before .before .before .before .before .args in
+      let bit = c .before .before .before .may-go .ensures .in-set (c .before .if1 .taken) in
+      omega (arith, c .power .ensures, bit-le (a .m) (c .before .before .before .before .before .before .before .loop .i) bit)
 
   lowest-settled-requires :
       lowest-lts.Need-settled-requires lowest-calls lowest-at lowest.Post lowest-Inv-loop lowest-μ-loop
   lowest-settled-requires c κs =
-      let s = c .before .before .before .before .before .before .before .before .before in
+      let s = c .before .before .before .before .before .before .before .before .before .before .before in
       let a = s .args in
       let p = s .pre .1 .0 in
-      let x = c .before .before .before .before .before .before .loop in
+      let x = c .before .before .before .before .before .before .before .before .loop in
       let e = c .before .power .ensures in
-      let bit = c .before .before .before .may-go .ensures .in-set (c .before .before .if1 .taken) in
+      let bit = c .before .before .before .before .may-go .ensures .in-set (c .before .before .if1 .taken) in
       let b = bit-le (a .m) (x .i) bit in
       let q = pow-pos (x .i) in (
         omega (arith, e, b, q, s .pre .0),
@@ -123,25 +133,25 @@ module _ (t : ℕ) where
 
   lowest-cast-result : lowest-lts.Need-cast-result lowest-calls lowest-at lowest.Post lowest-Inv-loop lowest-μ-loop
   lowest-cast-result c =
-      let turn = c .before .before .before .before .before .before .before .before .before in
+      let turn = c .before .before .before .before .before .before .before .before .before .before .before in
       let lent = turn .before .before .before .before .pre .1 .0 .lent in
       record { fits = omega (arith, lent .few, turn .loop-test .taken) }
 
   lowest-same-length : lowest-lts.Need-same-length lowest-calls lowest-at lowest.Post lowest-Inv-loop lowest-μ-loop
   lowest-same-length c =
       let below = c .before .before .before in
-      below .settled .kept .1 .1 .1 .0 ∙ below .before .before .before .before .before .before .before .loop .inv .2
+      below .settled .kept .1 .1 .1 .0 ∙ below .before .before .before .before .before .before .before .before .before .loop .inv .2
 
   -- the first row that goes
   lowest-returns : lowest-lts.Need-returns lowest-calls lowest-at lowest.Post lowest-Inv-loop lowest-μ-loop
   lowest-returns c =
-      let turn = c .before .before .before .before .before .before .before .before .before in
+      let turn = c .before .before .before .before .before .before .before .before .before .before .before in
       let s = turn .before .before .before .before in
       let a = s .args in
       let x = turn .before .loop in
       let table = rowsOf (a .n) (a .rows .now) in
       let u = c .before .before .before .settled .ensures in
-      let may = c .before .before .before .before .before .before .before .may-go .ensures in
+      let may = c .before .before .before .before .before .before .before .before .may-go .ensures in
       let yes = c .before .before .before .before .before .before .if1 .taken in
       let there = sym (u .found-is) ∙ c .if2 .taken in
       let bit = c .before .before .before .before .before .power .ensures in
@@ -157,22 +167,23 @@ module _ (t : ℕ) where
 
   lowest-add-i : lowest-lts.Need-add-i lowest-calls lowest-at lowest.Post lowest-Inv-loop lowest-μ-loop
   lowest-add-i c =
-      let turn = c .before .before .before in
+      let turn = c .before .before .before .before .before in
       let lent = turn .before .before .before .before .pre .1 .0 .lent in
       record { fits = omega (arith, lent .few, turn .loop-test .taken) }
 
   lowest-loop-less : lowest-lts.Need-loop-less lowest-calls lowest-at lowest.Post lowest-Inv-loop lowest-μ-loop
   lowest-loop-less c =
-      omega (arith, c .before .before .before .loop-test .taken)
+      omega (arith, c .before .before .before .before .before .loop-test .taken)
 
   lowest-loop-again : lowest-lts.Need-loop-again lowest-calls lowest-at lowest.Post lowest-Inv-loop lowest-μ-loop
   lowest-loop-again c =
-      let s = c .before .before .before .before .before .before .before in
+      let s = c .before .before .before .before .before .before .before .before .before in
       let a = s .args in
-      let x = c .before .before .before .before .loop in
+      let x = c .before .before .before .before .before .before .loop in
       let table = rowsOf (a .n) (a .rows .now) in
-      let test = c .before .before .before .loop-test .taken in
-      let may = c .before .may-go .ensures in
+      let test = c .before .before .before .before .before .loop-test .taken in
+      let may = c .before .before .may-go .ensures in
+      let long = c .before .before .may-go .kept .1 .1 .1 .1 .1 .0 ∙ x .inv .4 in
       let row = a-row (s .pre .1 .0 .lent) (x .i) test in
       let next : goes stable table (a .m) (x .i) ≡ false
       → orderAt stable table (a .m) ≡ scan theOrder stable by-sets table (a .m) (suc (x .i)) =
@@ -186,12 +197,14 @@ module _ (t : ℕ) where
         next (goes-is ∙ sym (w .3 .ensures .found-is) ∙ w .6 .left),
         ap length (w .7) ∙ w .3 .kept .1 .1 .1 .0 ∙ x .inv .2,
         subst (Recorded stable table) (sym (w .7)) (w .3 .ensures .recorded),
+        long,
       ))
       (λ w. (
         omega (arith, test),
         next (may .goes-not (w .0 .left)),
         ap length (w .1) ∙ x .inv .2,
         subst (Recorded stable table) (sym (w .1)) (x .inv .3),
+        long,
       ))
       (c .if1 .came))
 
@@ -270,6 +283,7 @@ pub +lowest+settled-spec : {M : Type 1} → statement M
     close μ-lowest μ-settled
     (λ t. lowest-lts.spec (lowest-calls t) (lowest-at t) lowest.Post lowest-Inv-loop lowest-μ-loop
     (lowest-loop-holds t)
+    (lowest-slice-aggregate-may-go t)
     (lowest-may-go-requires t)
     (lowest-power-requires t)
     (lowest-sub-settled t)

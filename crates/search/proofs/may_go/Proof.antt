@@ -1,4 +1,4 @@
--- `orders::may_go` meets its contract: a row that is not in the set, whose rest is known to have no order, or that is
+-- A row that is not in the set, whose rest is known to have no order, or that is
 -- not stable under the rest does not go lowest.
 use mathlib.Core.Path.{_≡_, sym, ap, _∙_}
 use mathlib.Core.Bool.{false}
@@ -32,7 +32,7 @@ shr-if1 c = search needs
 
 returns : tie.Need-returns
 returns c =
-    let a = c .before .before .before .args in
+    let a = c .before .before .before .before .args in
     let table = rowsOf (a .n) (a .rows .now) in
     let out : a .m / 2 ^ a .i % 2 ≡ 1 → ⊥ = λ e. omega (arith, c .if1 .taken) in
     stays-out table (a .m) (a .i) (sym (goes-out stable table (a .m) (a .i) out))
@@ -42,17 +42,17 @@ power-requires c κs = search needs
 
 sub-if2 : tie.Need-sub-if2
 sub-if2 c =
-    let a = c .before .before .before .before .args in
+    let a = c .before .before .before .before .before .args in
     omega (arith, c .power .ensures, bit-le (a .m) (a .i) (is-in (a .m) (a .i) (c .before .if1 .left)))
 
 shared-slice-read-if2 : tie.Need-shared-slice-read-if2
 shared-slice-read-if2 c =
-    let s = c .before .before .before .before .before in
+    let s = c .before .before .before .before .before .before in
     omega (arith, a-set (s .pre .0 .lent) (s .args .m) (s .pre .0 .set), s .pre .0 .recorded .room)
 
 returns-2 : tie.Need-returns-2
 returns-2 c =
-    let s = c .before .before .before .before .before .before in
+    let s = c .before .before .before .before .before .before .before in
     let a = s .args in
     let p = s .pre .0 in
     let table = rowsOf (a .n) (a .rows .now) in
@@ -67,14 +67,17 @@ returns-2 c =
 stable-under-requires : tie.Need-stable-under-requires
 stable-under-requires c κs = search needs
 
+same-length : tie.Need-same-length
+same-length c = search needs
+
 returns-3 : tie.Need-returns-3
 returns-3 c =
-    let s = c .before .before .before .before .before .before .before in
+    let s = c .before .before .before .before .before .before .before .before .before .before .before in
     let a = s .args in
     let table = rowsOf (a .n) (a .rows .now) in
-    let is = c .stable-under .ensures in
+    let is = c .before .before .stable-under .ensures in
     record {
-      in-set = λ h. is-in (a .m) (a .i) (c .before .before .before .before .if1 .left);
+      in-set = λ h. is-in (a .m) (a .i) (c .before .before .before .before .before .before .before .if1 .left);
       passes = λ h. sym is ∙ h;
       goes-not = λ h. sym (goes-unfit stable table (a .m) (a .i) (sym is ∙ h));
     }
@@ -90,4 +93,5 @@ may-go-spec =
     shared-slice-read-if2
     returns-2
     stable-under-requires
+    same-length
     returns-3)

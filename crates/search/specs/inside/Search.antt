@@ -4,11 +4,12 @@ use mathlib.Core.Bool.{Bool, true, false}
 use mathlib.Core.List.{List, [], _∷_, _++_}
 use mathlib.Core.Option.{Option, none, some}
 use Prim.Native.Nat.{ℕ, zero, suc, _-_, _*_, _/_, _%_, _^_, _≤_, _<_}
-use lib.ListN.{length, getD, take}
+use lib.ListN.{length, getD}
 use Rattle.rows.specs.Rows.{maxTasks, fieldCount, inRange, allRows, tasksOf, distinctRows}
 use Rattle.rows.specs.inside.Arrays.{ranking}
-use Rattle.rows.specs.inside.Numbers.{rowsOf, rowIn, rowsAt, Below}
+use Rattle.rows.specs.inside.Numbers.{rowsOf, rowIn}
 use Rattle.rows.specs.declared.Row.{Row}
+use Rattle.analysis.specs.inside.Columns.{Filled}
 use Rattle.orders.specs.Orders.{Chosen}
 use Rattle.search.specs.inside.Sets.{members, isSome, fits, goes, LowestIs, Says, Known, Recorded}
 use Rattle.orders.specs.Stability.{stable, chosenOrder}
@@ -37,11 +38,11 @@ pub record Searching (n : ℕ) (ns : List ℕ) (m : ℕ) (sets : List ℕ) : Typ
   pub set : m < 2 ^ n
   pub recorded : Recorded stable (rowsOf n ns) sets
 
--- the first positions, as many as are counted, are those of set m's rows in any table of n rows
-pub record PositionsIn (m n : ℕ) (positions : List ℕ) (count : ℕ) : Type 0 where
+-- columns of n numbers hold the times of a table's rows in set m, which are counted
+pub record Gathered (table : List Row) (m n : ℕ) (columns : List ℕ) (count : ℕ) : Type 0 where
   pub few : count ≤ n
-  pub below : Below n (take count positions)
-  pub rows-there : (table : List Row) → length table ≡ n → rowsAt table (take count positions) ≡ members m table
+  pub counted : length (members m table) ≡ count
+  pub filled : Filled (members m table) n count columns
 
 -- what was found to be lowest in set m: a byte for the record, which has the rest of the set if the byte is a row
 pub record LowestFound (table : List Row) (m : ℕ) (sets : List ℕ) (v : ℕ) : Type 0 where
