@@ -4,3 +4,4 @@ pub mod Lines
 pub mod Spelling
 pub mod Puts
 pub mod Scans
+pub mod Fronts

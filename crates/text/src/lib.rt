@@ -10,12 +10,13 @@ pub use writers::put_signed;
 pub use writers::put_signed_line;
 ghost use mathlib.Core.Path.{_≡_};
 ghost use mathlib.Core.Bool.{false};
-ghost use Prim.Native.Nat.{_≤_};
-ghost use lib.ListN.{length, drop};
+ghost use mathlib.Core.List.{_++_};
+ghost use lib.ListN.{length, take, drop};
 ghost use Rattle.basics.specs.Basics.{isIn};
 ghost use Rattle.text.specs.Text.{lineFeed};
-ghost use Rattle.text.specs.Lines.{maxDigits, lineOf, begins, digitsFrom, numberOf};
+ghost use Rattle.text.specs.Lines.{lineOf, begins, numberOf};
 ghost use Rattle.text.specs.Lines.{lineAt, endAt};
+ghost use Rattle.text.specs.inside.Fronts.{Fronts};
 use basics::within;
 
 // What the reading of one line answers: its number and the offset after it, the end of the text where nothing is
@@ -73,43 +74,64 @@ fn starts_with(s: &[u8], key: &[u8]) -> bool
     true
 }
 
-// The number that decimal digits write, few enough that it fits.
-fn value_of(s: &[u8]) -> Digits
-    requires { ⌜ length (now s) ≤ maxDigits ⌝ }
-    ensures { λ r. ⌜ r ≡ digitsFrom 0 (now (s .entry)) ⌝ }
+// The digits at the front of a text, up to MAX_DIGITS of them: how many they are, and the number that they write.
+struct Front {
+    value: u64,
+    size: usize,
+}
+
+fn digits_at(s: &[u8]) -> Front
+    ensures { λ r. ⌜ Fronts (now (s .entry)) r ⌝ }
 {
     let mut value: u64 = 0;
     let mut i = 0;
     while i < s.len() {
         let b = s[i];
         if b < b'0' {
-            return Digits::Malformed;
+            return Front { value, size: i };
         }
         if b'9' < b {
-            return Digits::Malformed;
+            return Front { value, size: i };
+        }
+        if MAX_DIGITS <= i {
+            return Front { value, size: i };
         }
         value = 10 * value + (b - b'0') as u64;
         i += 1;
     }
-    Digits::Value(value)
+    Front { value, size: i }
 }
 
-// What stands after a key, as a number.
-fn number_of(s: &[u8]) -> Digits
-    ensures { λ r. ⌜ r ≡ numberOf (now (s .entry)) ⌝ }
+// How many bytes stand before the first line feed, which isn't among the first ones.
+fn line_size(s: &[u8], first: usize) -> usize
+    requires { ⌜ lineOf (now s) ≡ take first (now s) ++ lineOf (drop first (now s)) ⌝ }
+    ensures { λ r. ⌜ r ≡ length (lineOf (now (s .entry))) ⌝ }
 {
-    if s.len() < 1 {
+    if first < s.len() {
+        if s[first] == b'\n' {
+            return first;
+        }
+    }
+    line_length(s)
+}
+
+// A line of some size as a number: it is one if it is nothing but its front's digits.
+fn number_of(s: &[u8], front: Front, size: usize) -> Digits
+    requires { ⌜ Fronts (now s) front × (size ≡ length (lineOf (now s))) ⌝ }
+    ensures { λ r. ⌜ r ≡ numberOf (lineOf (now (s .entry))) ⌝ }
+{
+    if size != front.size {
         return Digits::Malformed;
     }
-    if MAX_DIGITS < s.len() {
+    if size < 1 {
         return Digits::Malformed;
     }
     if s[0] == b'0' {
-        if 1 < s.len() {
+        if 1 < size {
             return Digits::Malformed;
         }
     }
-    value_of(s)
+    Digits::Value(front.value)
 }
 
 // What stands at an offset and after it: nothing, past the end.
@@ -123,16 +145,8 @@ fn rest_of(s: &[u8], offset: usize) -> &[u8]
     &s[offset..]
 }
 
-// A text up to its first line feed.
-fn first_line(s: &[u8]) -> &[u8]
-    ensures { λ r. ⌜ now r ≡ lineOf (now (s .entry)) ⌝ }
-{
-    let size = line_length(s);
-    &s[..size]
-}
-
-// The line that begins at an offset: a key, a number in its range, and a line feed. As the key has no feed, it is
-// compared first, and the feed is sought only behind it.
+// The line that begins at an offset: a key, a number in its range, and a line feed. As neither key nor digits have a
+// feed, they are passed first, and the feed is sought only behind them.
 pub fn line_at(text: &[u8], offset: usize, line: u32, key: &[u8], low: u64, high: u64) -> Line
     requires { ⌜ isIn lineFeed (now key) ≡ false ⌝ }
     ensures { λ r. ⌜ r ≡ lineAt (now (key .entry)) low high (now (text .entry)) offset line ⌝ }
@@ -142,12 +156,12 @@ pub fn line_at(text: &[u8], offset: usize, line: u32, key: &[u8], low: u64, high
         return Line::Refused(MISSING, line);
     }
     let tail = rest_of(rest, key.len());
-    let written = first_line(tail);
-    let size = written.len();
+    let front = digits_at(tail);
+    let size = line_size(tail, front.size);
     if tail.len() <= size {
         return Line::Refused(MISSING, line);
     }
-    let digits = number_of(written);
+    let digits = number_of(tail, front, size);
     let Digits::Value(value) = digits else {
         return Line::Refused(MALFORMED, line);
     };

@@ -1,8 +1,8 @@
 -- `text::line_at` meets its contract: each return is a law of `lineAt`, from the tests that led there.
-use mathlib.Core.Path.{_≡_, sym, _∙_, ap}
+use mathlib.Core.Path.{_≡_, refl, sym, _∙_, ap}
 use mathlib.Core.Bool.{Bool}
 use mathlib.Core.List.{List}
-use Prim.Native.Nat.{ℕ, suc, _+_, _≤_}
+use Prim.Native.Nat.{ℕ, suc, _+_, _≤_, _<_}
 use native.Mathlib.Omega.{arith}
 use lib.ListN.{length, length-drop}
 use borrow.Author.Needs.{needs}
@@ -12,7 +12,8 @@ use Rattle.text.specs.declared.Digits.{Digits}
 use Rattle.text.specs.declared.Digits.the-variants.{Value}
 use Rattle.text.specs.declared.Line.{Line}
 use Rattle.text.specs.declared.Line.the-variants as L
-use Rattle.text.specs.Lines.{ranged, lineAt}
+use Rattle.text.specs.Lines.{lineOf, ranged, lineAt}
+use Rattle.text.proofs.Fronts.{front-line}
 use Rattle.text.proofs.Lines.{other-missing, unended-missing, ended-ranged}
 use Rattle.text.proofs.line_at.Statement.{statement}
 use Rattle.text.proofs.line_at.Tie as tie
@@ -31,20 +32,20 @@ module _ (k : tie.After-starts-with) where
   abbrev rest : List ℕ
   rest = k .before .rest-of .result .now
 
--- ---- from where the line behind the key is found
-module _ (f : tie.After-first-line) where
+-- ---- from where the size of the line behind the key is found
+module _ (f : tie.After-line-size) where
   abbrev sought : tie.After-starts-with
-  sought = f .before .before .before
+  sought = f .before .before .before .before
 
   abbrev tail : List ℕ
-  tail = f .before .rest-of2 .result .now
+  tail = f .before .before .rest-of2 .result .now
 
   abbrev written : List ℕ
-  written = f .first-line .result .now
+  written = lineOf tail
 
 -- ---- from where the number is told: the line is ended
 module _ (n : tie.After-number-of) where
-  abbrev line : tie.After-first-line
+  abbrev line : tie.After-line-size
   line = n .before .before
 
   abbrev call : tie.Start
@@ -59,11 +60,11 @@ module _ (n : tie.After-number-of) where
       let a = call .args in
       let f = line in
       let k = sought f in
-      let ended = n .before .if2 .left in
-      let keyed = sym (k .starts-with .ensures) ∙ not-false _ (f .before .before .if1 .left) in
+      let ended : length (written f) < length (tail f) = omega (arith, n .before .if2 .left, f .line-size .ensures) in
+      let keyed = sym (k .starts-with .ensures) ∙ not-false _ (f .before .before .before .if1 .left) in
       ended-ranged (a .key .now) (call .pre) (a .low) (a .high) (a .text .now) (a .offset) (a .line)
-      (rest k) (k .before .rest-of .ensures) (tail f) (written f) (f .before .rest-of2 .ensures)
-      (f .first-line .ensures) keyed ended d (sym (n .number-of .ensures) ∙ e)
+      (rest k) (k .before .rest-of .ensures) (tail f) (written f) (f .before .before .rest-of2 .ensures)
+      refl keyed ended d (sym (n .number-of .ensures) ∙ e)
 
   -- the line and its feed stand within the text
   within-text : next ≤ length (call .args .text .now)
@@ -73,9 +74,10 @@ module _ (n : tie.After-number-of) where
       omega (
         arith,
         n .before .if2 .left,
+        line .line-size .ensures,
         ap length (k .before .rest-of .ensures),
         length-drop (a .offset) (a .text .now),
-        ap length (line .before .rest-of2 .ensures),
+        ap length (line .before .before .rest-of2 .ensures),
         length-drop (length (a .key .now)) (rest k),
       )
 
@@ -110,8 +112,11 @@ returns c =
 rest-of-requires-2 : tie.Need-rest-of-requires-2
 rest-of-requires-2 c κs = search needs
 
-first-line-requires : tie.Need-first-line-requires
-first-line-requires c κs = search needs
+digits-at-requires : tie.Need-digits-at-requires
+digits-at-requires c κs = search needs
+
+line-size-requires : tie.Need-line-size-requires
+line-size-requires c κs = front-line (c .digits-at .ensures)
 
 returns-2 : tie.Need-returns-2
 returns-2 c =
@@ -119,11 +124,11 @@ returns-2 c =
     let k = sought f in
     let a = start k .args in
     sym (unended-missing (a .key .now) (start k .pre) (a .low) (a .high) (a .text .now) (a .offset) (a .line)
-    (rest k) (k .before .rest-of .ensures) (tail f) (written f) (f .before .rest-of2 .ensures) (f .first-line .ensures)
-    (c .if2 .taken))
+    (rest k) (k .before .rest-of .ensures) (tail f) (written f) (f .before .before .rest-of2 .ensures) refl
+    (omega (arith, c .if2 .taken, f .line-size .ensures)))
 
 number-of-requires : tie.Need-number-of-requires
-number-of-requires c κs = search needs
+number-of-requires c κs = let f = c .before in (f .before .digits-at .ensures, f .line-size .ensures)
 
 enum-known-digits : tie.Need-enum-known-digits
 enum-known-digits c = search needs
@@ -141,16 +146,21 @@ returns-4 : tie.Need-returns-4
 returns-4 c = decided (c .before) _ (not-true _ (c .if3 .taken))
 
 add-next : tie.Need-add-next
-add-next c = omega (arith, within-text (number (c .before)), call (number (c .before)) .good)
+add-next c =
+    let n = number (c .before) in omega (arith, within-text n, line n .line-size .ensures, call n .good)
 
 add-next-2 : tie.Need-add-next-2
-add-next-2 c = omega (arith, within-text (number (c .before)), call (number (c .before)) .good)
+add-next-2 c =
+    let n = number (c .before) in omega (arith, within-text n, line n .line-size .ensures, call n .good)
 
 add-next-3 : tie.Need-add-next-3
-add-next-3 c = omega (arith, within-text (number (c .before)), call (number (c .before)) .good)
+add-next-3 c =
+    let n = number (c .before) in omega (arith, within-text n, line n .line-size .ensures, call n .good)
 
 returns-5 : tie.Need-returns-5
-returns-5 c = ap (L.Number (value (c .before))) (omega arith) ∙ decided (c .before) _ (not-false _ (c .if3 .left))
+returns-5 c =
+    let size = line (number (c .before)) .line-size .ensures in
+    ap (L.Number (value (c .before))) (omega (arith, size)) ∙ decided (c .before) _ (not-false _ (c .if3 .left))
 
 pub line-at-spec : {M : Type 1} → statement M
 line-at-spec =
@@ -160,7 +170,8 @@ line-at-spec =
     starts-with-requires
     returns
     rest-of-requires-2
-    first-line-requires
+    digits-at-requires
+    line-size-requires
     returns-2
     number-of-requires
     enum-known-digits

@@ -1,0 +1,137 @@
+-- The digits at the front of a text: they have no line feed, so the first line begins with them; and it is a number only
+-- where it is nothing else.
+use mathlib.Core.Path.{_≡_, refl, sym, ap, _∙_}
+use mathlib.Core.Bool.{Bool, true, false}
+use mathlib.Core.List.{List, [], _∷_, _++_, append-nil}
+use mathlib.Core.Logic.{inl, inr}
+use Prim.Native.Nat.{ℕ, zero, suc, _+_, _-_, _*_, _≤_, _<_}
+use native.Mathlib.Omega.{arith}
+use borrow.Author.Tests.{ne-eqb, le-leb, lt-leb}
+use lib.Dec.{eqb}
+use lib.ListN.{length, getD, take, drop, length-append, drop-of-length-le}
+use lib.Seq.{take-suc, getD-take, length-take-le}
+use Rattle.basics.specs.Basics.{pick, within}
+use Rattle.basics.proofs.Tests.{test-of, within-true, true-within, le-or-lt}
+use Rattle.text.specs.Text.{lineFeed, digitZero, digitNine}
+use Rattle.text.specs.declared.Digits.{Digits}
+use Rattle.text.specs.declared.Digits.the-variants.{Value, Malformed}
+use Rattle.text.specs.declared.Front.{Front}
+use Rattle.text.specs.Lines.{maxDigits, lineOf, digitsFrom, wellFormed, numberOf}
+use Rattle.text.specs.inside.Fronts.{Fronts}
+use Rattle.text.proofs.Scans.{line-ends, line-goes-on, number-empty, number-long, number-leads, number-starts}
+use Rattle.text.proofs.Scans.{number-single}
+
+no-number : {A : Type 0} {w : ℕ} → Malformed ≡ Value w → A
+no-number e = absurd (let z : _≡_ {A = ℕ} 0 1 = cc in omega arith)
+
+malformed : (s : List ℕ) → digitsFrom 0 s ≡ Malformed → numberOf s ≡ Malformed
+unfolding numberOf
+malformed s e = ap (λ (d : Digits). pick (wellFormed s) d Malformed) e ∙ either (wellFormed s)
+  where
+    either : (b : Bool) → pick b Malformed Malformed ≡ Malformed
+    either true = refl
+    either false = refl
+
+empty : (xs : List ℕ) → length xs ≡ 0 → xs ≡ []
+empty [] h = refl
+empty (x ∷ xs) h = absurd (omega arith)
+
+-- ---- digits and what follows them
+pub digits-append : (v w : ℕ) (xs ys : List ℕ) → digitsFrom v xs ≡ Value w → digitsFrom v (xs ++ ys) ≡ digitsFrom w ys
+digits-append v w [] ys e = let is : v ≡ w = cc in ap (λ (u : ℕ). digitsFrom u ys) is
+digits-append v w (x ∷ xs) ys e = elim (test-of (within digitZero digitNine x)) [
+  | inl t ↦ rw (t, digitsFrom) (digits-append (10 * v + (x - digitZero)) w xs ys (rw (t, digitsFrom) at e))
+  | inr t ↦ no-number (rw (t, digitsFrom) at e)
+]
+
+pub digits-line : (k v w : ℕ) (s : List ℕ) → digitsFrom v (take k s) ≡ Value w
+    → lineOf s ≡ take k s ++ lineOf (drop k s)
+digits-line zero v w s e = refl
+digits-line (suc k) v w [] e = refl
+digits-line (suc k) v w (b ∷ s) e = elim (test-of (within digitZero digitNine b)) [
+  | inl t ↦ (let l = within-true digitZero digitNine b t in
+      let other : b ≡ lineFeed → ⊥ = λ f. omega (arith, f, l .low-le) in
+      rw (ne-eqb b lineFeed other, lineOf)
+      (ap (λ (r : List ℕ). b ∷ r) (digits-line k (10 * v + (b - digitZero)) w s (rw (t, digitsFrom) at e))))
+  | inr t ↦ no-number (rw (t, digitsFrom) at e)
+]
+
+-- no digit
+pub not-low : (b : ℕ) → b < digitZero → within digitZero digitNine b ≡ false
+not-low b h = simp (lt-leb digitZero b h)
+
+pub not-high : (b : ℕ) → digitNine < b → within digitZero digitNine b ≡ false
+not-high b h = simp (le-leb digitZero b (omega arith), lt-leb b digitNine h)
+
+-- one digit more
+pub digits-next : (s : List ℕ) (i w : ℕ) → i < length s → digitsFrom 0 (take i s) ≡ Value w
+    → digitZero ≤ getD s i 0 → getD s i 0 ≤ digitNine
+    → digitsFrom 0 (take (suc i) s) ≡ Value (10 * w + (getD s i 0 - digitZero))
+digits-next s i w h e l g =
+    ap (digitsFrom 0) (take-suc s i 0 h)
+    ∙ digits-append 0 w (take i s) (getD s i 0 ∷ []) e
+    ∙ rw (true-within digitZero digitNine (getD s i 0) l g, digitsFrom)
+
+-- ---- the first line as a number
+module _ {s : List ℕ} {r : Front} (f : Fronts s r) where
+  pub front-line : lineOf s ≡ take (r .size) s ++ lineOf (drop (r .size) s)
+  front-line = digits-line (r .size) 0 (r .value) s (f .digits)
+
+  long : length (take (r .size) s) ≡ r .size
+  long = length-take-le (r .size) s (f .there)
+
+  line-long : length (lineOf s) ≡ r .size + length (lineOf (drop (r .size) s))
+  line-long =
+      ap length front-line
+      ∙ length-append (take (r .size) s) (lineOf (drop (r .size) s))
+      ∙ ap (λ (n : ℕ). n + length (lineOf (drop (r .size) s))) long
+
+  -- a line that goes on behind its digits is no number
+  pub goes-on : (length (lineOf s) ≡ r .size → ⊥) → numberOf (lineOf s) ≡ Malformed
+  goes-on h =
+      let k = r .size in
+      let rest = lineOf (drop k s) in
+      let some : 1 ≤ length rest = omega (arith, line-long, h) in
+      let inside : k < length s = elim (le-or-lt (length s) k) [
+        | inl l ↦ absurd (omega (arith, some, ap (λ (d : List ℕ). length (lineOf d)) (drop-of-length-le s {i = k} l)))
+        | inr l ↦ l
+      ] in
+      let other : getD s k 0 ≡ lineFeed → ⊥ = λ e. omega (arith, some, ap length (line-ends s k inside e)) in
+      elim (le-or-lt maxDigits k) [
+        | inl l ↦ number-long (lineOf s) (omega (arith, line-long, some))
+        | inr l ↦ (
+            let next = line-goes-on s k inside other in
+            malformed (lineOf s)
+            (ap (digitsFrom 0) front-line
+            ∙ digits-append 0 (r .value) (take k s) rest (f .digits)
+            ∙ ap (digitsFrom (r .value)) next
+            ∙ rw (f .stopped inside l, digitsFrom)))
+      ]
+
+  module _ (whole : length (lineOf s) ≡ r .size) where
+    line-is : lineOf s ≡ take (r .size) s
+    line-is =
+        let none : lineOf (drop (r .size) s) ≡ [] = empty (lineOf (drop (r .size) s)) (omega (arith, whole, line-long)) in
+        front-line ∙ ap (λ (l : List ℕ). take (r .size) s ++ l) none ∙ append-nil (take (r .size) s)
+
+    pub no-digits : r .size < 1 → numberOf (lineOf s) ≡ Malformed
+    no-digits h = number-empty (lineOf s) (omega (arith, whole))
+
+    first-is : 1 ≤ r .size → getD (lineOf s) 0 0 ≡ getD s 0 0
+    first-is h = ap (λ (l : List ℕ). getD l 0 0) line-is ∙ getD-take (r .size) s 0 0 (omega arith)
+
+    pub leading-zero : getD s 0 0 ≡ digitZero → 1 < r .size → numberOf (lineOf s) ≡ Malformed
+    leading-zero e h =
+        number-leads (lineOf s) (omega (arith, whole)) (omega (arith, whole, f .few)) (first-is (omega arith) ∙ e)
+        (omega (arith, whole))
+
+    pub single-digit : 1 ≤ r .size → r .size ≤ 1 → numberOf (lineOf s) ≡ Value (r .value)
+    single-digit h l =
+        number-single (lineOf s) (omega (arith, whole)) (omega (arith, whole, f .few)) (omega (arith, whole))
+        ∙ ap (digitsFrom 0) line-is ∙ f .digits
+
+    pub other-digit : 1 ≤ r .size → (getD s 0 0 ≡ digitZero → ⊥) → numberOf (lineOf s) ≡ Value (r .value)
+    other-digit h n =
+        number-starts (lineOf s) (omega (arith, whole)) (omega (arith, whole, f .few))
+        (λ e. n (sym (first-is h) ∙ e))
+        ∙ ap (digitsFrom 0) line-is ∙ f .digits

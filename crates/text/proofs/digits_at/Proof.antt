@@ -1,0 +1,118 @@
+-- Invariant: the bytes passed are digits that make the value, below a power of ten.
+use mathlib.Core.Path.{_≡_, refl}
+use Prim.Native.Nat.{ℕ, _-_, _^_, _≤_, _<_}
+use native.Mathlib.Omega.{arith}
+use native.Mathlib.Nat.{pow-le-pow-right}
+use native.Mathlib.Numerals.{add-one}
+use borrow.Author.Tests.{lt-leb, le-leb}
+use lib.ListN.{length, getD, take}
+use Rattle.text.specs.Text.{digitZero, digitNine}
+use Rattle.text.specs.declared.Digits.the-variants.{Value}
+use Rattle.text.specs.Lines.{maxDigits, digitsFrom}
+use Rattle.text.proofs.Fronts.{digits-next, not-low, not-high}
+use Rattle.text.proofs.digits_at.Statement.{statement}
+use Rattle.text.proofs.digits_at.Tie as tie
+
+abbrev Inv-loop : tie.InvT-loop
+Inv-loop s value₀ i₀ value i =
+    (i ≤ length s) × (i ≤ maxDigits) × (value < 10 ^ i) × (digitsFrom 0 (take i s) ≡ Value value)
+
+abbrev μ-loop : tie.MeasureT-loop
+μ-loop s value₀ i₀ value i = length s - i
+
+-- the value so far has fewer digits than a number may have
+few : (i : ℕ) → i ≤ 11 → 10 ^ i ≤ 10 ^ 11
+few i h = pow-le-pow-right (omega arith) h
+
+loop-holds : tie.Need-loop-holds Inv-loop μ-loop
+loop-holds c = (omega arith, omega arith, omega arith, refl)
+
+shared-slice-read-b : tie.Need-shared-slice-read-b Inv-loop μ-loop
+shared-slice-read-b c = omega arith
+
+returns : tie.Need-returns Inv-loop μ-loop
+returns c =
+    let s = c .before .before .before .before .args .s .now in
+    let x = c .before .before .before .loop in
+    record {
+      there = x .inv .0;
+      few = x .inv .1;
+      digits = x .inv .3;
+      stopped = λ h l. not-low (getD s (x .i) 0) (c .if1 .taken);
+    }
+
+returns-2 : tie.Need-returns-2 Inv-loop μ-loop
+returns-2 c =
+    let s = c .before .before .before .before .before .args .s .now in
+    let x = c .before .before .before .before .loop in
+    record {
+      there = x .inv .0;
+      few = x .inv .1;
+      digits = x .inv .3;
+      stopped = λ h l. not-high (getD s (x .i) 0) (c .if2 .taken);
+    }
+
+returns-3 : tie.Need-returns-3 Inv-loop μ-loop
+returns-3 c =
+    let x = c .before .before .before .before .before .loop in
+    record {
+      there = x .inv .0;
+      few = x .inv .1;
+      digits = x .inv .3;
+      stopped = λ h l. absurd (omega (arith, l, c .if3 .taken));
+    }
+
+mul-value : tie.Need-mul-value Inv-loop μ-loop
+mul-value c = omega (arith, few (c .before .before .before .before .before .loop .i) (omega arith))
+
+cast-value : tie.Need-cast-value Inv-loop μ-loop
+cast-value c = omega arith
+
+add-value : tie.Need-add-value Inv-loop μ-loop
+add-value c = omega (arith, few (c .before .before .before .before .before .loop .i) (omega arith))
+
+add-i : tie.Need-add-i Inv-loop μ-loop
+add-i c = omega arith
+
+loop-less : tie.Need-loop-less Inv-loop μ-loop
+loop-less c = omega arith
+
+loop-again : tie.Need-loop-again Inv-loop μ-loop
+loop-again c =
+    let s = c .before .before .before .before .before .before .args .s .now in
+    let x = c .before .before .before .before .before .loop in
+    rw (add-one (x .i)) (
+      omega arith,
+      omega arith,
+      omega arith,
+      digits-next s (x .i) (x .value) (omega arith) (x .inv .3) (omega arith) (omega arith),
+    )
+
+returns-4 : tie.Need-returns-4 Inv-loop μ-loop
+returns-4 c =
+    let x = c .before .loop in
+    record {
+      there = x .inv .0;
+      few = x .inv .1;
+      digits = x .inv .3;
+      stopped = λ h l. absurd (omega (arith, h, c .loop-test .left));
+    }
+
+pub digits-at-spec : {M : Type 1} → statement M
+digits-at-spec =
+    tie.close
+    (tie.spec
+    Inv-loop
+    μ-loop
+    loop-holds
+    shared-slice-read-b
+    returns
+    returns-2
+    returns-3
+    mul-value
+    cast-value
+    add-value
+    add-i
+    loop-less
+    loop-again
+    returns-4)
