@@ -40,4 +40,4 @@ starred-hold = (
 pub unstarred-hold : AllHold unstarred
 unfolding digits decimal signed keyLine numberOf lineAt formAt readFor readTable
     cost blocking smallest largest overSet rankText headText planText refusalText fitted ifInTime onTable ifOrdered
-unstarred-hold = (refl, (refl, (refl, (refl, (refl, (refl, tt))))))
+unstarred-hold = (refl, (refl, (refl, (refl, (refl, (refl, (refl, tt)))))))

@@ -16,8 +16,9 @@ use Rattle.plans.specs.Plans.{planRoom}
 use Rattle.plans.specs.Outcomes.{writes, refuses}
 use Rattle.demands.specs.Calls.{planned, plannerPrints, reviewerPrints}
 
--- a row under rows above it, whatever is below it, and its E, W, jitter and margin; a late row; a table's rows and the tasks of its order;
--- a text and its whole plan; a text and its refusal; a text and what the planner's or the reviewer's program prints
+-- a row under rows above it, whatever is below it, and its E, W, jitter and margin; a late row; a table's rows and the
+-- tasks of its order; a text and its whole plan; a text and its refusal; a text and what the planner's or the reviewer's
+-- program prints
 pub data Case : Type 0 where
   figures : Row → List Row → ℕ → ℕ → ℕ → ℤ → Case
   late : Row → List Row → Case
@@ -118,6 +119,7 @@ abbrev pub unstarred : List Case
 unstarred =
     reviewer (table "beta=8000" "beta=8000" "beta=57000" ++ lined ("rank=11" ∷ "rank=13" ∷ "rank=12" ∷ []))
     (lined ("plan=0" ∷ "refusal=7" ∷ "line=3" ∷ []))
+    ∷ planner (table "beta=8000" "beta=8000" "beta=57000") (planWith "margin=2000")
     ∷ planner [] (lined ("plan=0" ∷ "refusal=1" ∷ "line=1" ∷ []))
     ∷ planner (lined ("board=07" ∷ [])) (lined ("plan=0" ∷ "refusal=2" ∷ "line=1" ∷ []))
     ∷ planner (lined ("board=7" ∷ "tasks=13" ∷ [])) (lined ("plan=0" ∷ "refusal=3" ∷ "line=2" ∷ []))

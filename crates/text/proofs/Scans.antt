@@ -1,6 +1,6 @@
 -- Lines, keys and digits, one byte after another: what a loop over a text needs at each turn. What is left to be read
 -- decides what the whole answers, so that one equation is the whole invariant.
-use mathlib.Core.Path.{_≡_, refl, ap}
+use mathlib.Core.Path.{_≡_, refl}
 use mathlib.Core.Bool.{false}
 use mathlib.Core.List.{List, [], _∷_}
 use mathlib.Core.Logic.{inl, inr}
@@ -32,14 +32,6 @@ line-fits (b ∷ s) =
       | inr e ↦ rw (e, lineOf) (omega (arith, line-fits s))
     ]
 
-pub line-front : (s : List ℕ) → take (length (lineOf s)) s ≡ lineOf s
-line-front [] = refl
-line-front (b ∷ s) =
-    elim (test-of (eqb b lineFeed)) [
-      | inl e ↦ rw (e, lineOf)
-      | inr e ↦ rw (e, lineOf) (ap (λ l. b ∷ l) (line-front s))
-    ]
-
 -- ---- a key, from an offset on
 module _ (key s : List ℕ) (i : ℕ) (h : i < length key) (g : i < length s) where
   pub key-goes-on : getD key i 0 ≡ getD s i 0
@@ -54,22 +46,6 @@ key-too-long [] s h = absurd (omega arith)
 key-too-long (x ∷ key) [] h = refl
 key-too-long (x ∷ key) (y ∷ s) h =
     elim (test-of (eqb x y)) [ inl e ↦ rw e (key-too-long key s (omega arith)) | inr e ↦ rw e ]
-
--- ---- digits, from an offset on
-module _ (v : ℕ) (s : List ℕ) (i : ℕ) (h : i < length s) where
-  abbrev byte : ℕ
-  byte = getD s i 0
-
-  pub digit-goes-on : digitZero ≤ byte → byte ≤ digitNine
-      → digitsFrom v (drop i s) ≡ digitsFrom (10 * v + (byte - digitZero)) (drop (suc i) s)
-  digit-goes-on l g = rw (drop-cons s i 0 h, true-within digitZero digitNine byte l g, digitsFrom)
-
-  pub digit-low : byte < digitZero → digitsFrom v (drop i s) ≡ Malformed
-  digit-low l = rw (drop-cons s i 0 h, lt-leb digitZero byte l, digitsFrom)
-
-  pub digit-high : digitNine < byte → digitsFrom v (drop i s) ≡ Malformed
-  digit-high l =
-      rw (drop-cons s i 0 h, le-leb digitZero byte (omega arith), lt-leb byte digitNine l, digitsFrom)
 
 -- ---- a number's form
 pub number-empty : (s : List ℕ) → length s < 1 → numberOf s ≡ Malformed
