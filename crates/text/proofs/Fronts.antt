@@ -4,7 +4,8 @@ use mathlib.Core.Path.{_≡_, refl, sym, ap, _∙_}
 use mathlib.Core.Bool.{Bool, true, false}
 use mathlib.Core.List.{List, [], _∷_, _++_, append-nil}
 use mathlib.Core.Logic.{inl, inr}
-use Prim.Native.Nat.{ℕ, zero, suc, _+_, _-_, _*_, _≤_, _<_}
+use Prim.Native.Nat.{ℕ, zero, suc, _+_, _-_, _*_, _^_, _≤_, _<_}
+use native.Mathlib.Nat.{pow-le-pow-right}
 use native.Mathlib.Omega.{arith}
 use borrow.Author.Tests.{ne-eqb, le-leb, lt-leb}
 use lib.Dec.{eqb}
@@ -18,6 +19,7 @@ use Rattle.text.specs.declared.Digits.the-variants.{Value, Malformed}
 use Rattle.text.specs.declared.Front.{Front}
 use Rattle.text.specs.Lines.{maxDigits, lineOf, digitsFrom, wellFormed, numberOf}
 use Rattle.text.specs.inside.Fronts.{Fronts}
+use Rattle.text.specs.inside.Fronts as Front-specs
 use Rattle.text.proofs.Scans.{line-ends, line-goes-on, number-empty, number-long, number-leads, number-starts}
 use Rattle.text.proofs.Scans.{number-single}
 
@@ -72,6 +74,16 @@ digits-next s i w h e l g =
     ∙ digits-append 0 w (take i s) (getD s i 0 ∷ []) e
     ∙ rw (true-within digitZero digitNine (getD s i 0) l g, digitsFrom)
 
+-- a long number has as many digits as any
+long-front : (k v : ℕ) → Front-specs.long ≤ v → v < 10 ^ k → maxDigits ≤ k
+long-front k v h l = elim (le-or-lt maxDigits k) [
+  | inl m ↦ m
+  | inr m ↦ (
+      let below : k ≤ 11 = omega arith in
+      let most : 10 ^ k ≤ 10 ^ 11 = pow-le-pow-right (omega arith) below in
+      absurd (omega (arith, most)))
+]
+
 -- ---- the first line as a number
 module _ {s : List ℕ} {r : Front} (f : Fronts s r) where
   pub front-line : lineOf s ≡ take (r .size) s ++ lineOf (drop (r .size) s)
@@ -97,8 +109,8 @@ module _ {s : List ℕ} {r : Front} (f : Fronts s r) where
         | inr l ↦ l
       ] in
       let other : getD s k 0 ≡ lineFeed → ⊥ = λ e. omega (arith, some, ap length (line-ends s k inside e)) in
-      elim (le-or-lt maxDigits k) [
-        | inl l ↦ number-long (lineOf s) (omega (arith, line-long, some))
+      elim (le-or-lt Front-specs.long (r .value)) [
+        | inl l ↦ number-long (lineOf s) (omega (arith, line-long, some, long-front k (r .value) l (f .small)))
         | inr l ↦ (
             let next = line-goes-on s k inside other in
             malformed (lineOf s)
@@ -109,6 +121,9 @@ module _ {s : List ℕ} {r : Front} (f : Fronts s r) where
       ]
 
   module _ (whole : length (lineOf s) ≡ r .size) where
+    pub too-long : maxDigits < r .size → numberOf (lineOf s) ≡ Malformed
+    too-long h = number-long (lineOf s) (omega (arith, whole))
+
     line-is : lineOf s ≡ take (r .size) s
     line-is =
         let none : lineOf (drop (r .size) s) ≡ [] = empty (lineOf (drop (r .size) s)) (omega (arith, whole, line-long)) in
@@ -120,18 +135,19 @@ module _ {s : List ℕ} {r : Front} (f : Fronts s r) where
     first-is : 1 ≤ r .size → getD (lineOf s) 0 0 ≡ getD s 0 0
     first-is h = ap (λ (l : List ℕ). getD l 0 0) line-is ∙ getD-take (r .size) s 0 0 (omega arith)
 
-    pub leading-zero : getD s 0 0 ≡ digitZero → 1 < r .size → numberOf (lineOf s) ≡ Malformed
-    leading-zero e h =
-        number-leads (lineOf s) (omega (arith, whole)) (omega (arith, whole, f .few)) (first-is (omega arith) ∙ e)
+    pub leading-zero : r .size ≤ maxDigits → getD s 0 0 ≡ digitZero → 1 < r .size → numberOf (lineOf s) ≡ Malformed
+    leading-zero few e h =
+        number-leads (lineOf s) (omega (arith, whole)) (omega (arith, whole)) (first-is (omega arith) ∙ e)
         (omega (arith, whole))
 
     pub single-digit : 1 ≤ r .size → r .size ≤ 1 → numberOf (lineOf s) ≡ Value (r .value)
     single-digit h l =
-        number-single (lineOf s) (omega (arith, whole)) (omega (arith, whole, f .few)) (omega (arith, whole))
+        number-single (lineOf s) (omega (arith, whole)) (omega (arith, whole)) (omega (arith, whole))
         ∙ ap (digitsFrom 0) line-is ∙ f .digits
 
-    pub other-digit : 1 ≤ r .size → (getD s 0 0 ≡ digitZero → ⊥) → numberOf (lineOf s) ≡ Value (r .value)
-    other-digit h n =
-        number-starts (lineOf s) (omega (arith, whole)) (omega (arith, whole, f .few))
+    pub other-digit : 1 ≤ r .size → r .size ≤ maxDigits → (getD s 0 0 ≡ digitZero → ⊥)
+        → numberOf (lineOf s) ≡ Value (r .value)
+    other-digit h few n =
+        number-starts (lineOf s) (omega (arith, whole)) (omega (arith, whole))
         (λ e. n (sym (first-is h) ∙ e))
         ∙ ap (digitsFrom 0) line-is ∙ f .digits

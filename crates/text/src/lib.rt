@@ -74,7 +74,10 @@ fn starts_with(s: &[u8], key: &[u8]) -> bool
     true
 }
 
-// The digits at the front of a text, up to MAX_DIGITS of them: how many they are, and the number that they write.
+// A number that one digit more would make too long. What stops at it, and not at a count, is one short loop.
+const LONG: u64 = 100_000_000_000;
+
+// The digits at the front of a text, up to a long number: how many they are, and the number that they write.
 struct Front {
     value: u64,
     size: usize,
@@ -93,7 +96,7 @@ fn digits_at(s: &[u8]) -> Front
         if b'9' < b {
             return Front { value, size: i };
         }
-        if MAX_DIGITS <= i {
+        if LONG <= value {
             return Front { value, size: i };
         }
         value = 10 * value + (b - b'0') as u64;
@@ -124,6 +127,9 @@ fn number_of(s: &[u8], front: Front, size: usize) -> Digits
         return Digits::Malformed;
     }
     if size < 1 {
+        return Digits::Malformed;
+    }
+    if MAX_DIGITS < size {
         return Digits::Malformed;
     }
     if s[0] == b'0' {

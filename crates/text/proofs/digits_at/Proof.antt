@@ -2,30 +2,23 @@
 use mathlib.Core.Path.{_≡_, refl}
 use Prim.Native.Nat.{ℕ, _-_, _^_, _≤_, _<_}
 use native.Mathlib.Omega.{arith}
-use native.Mathlib.Nat.{pow-le-pow-right}
 use native.Mathlib.Numerals.{add-one}
-use borrow.Author.Tests.{lt-leb, le-leb}
 use lib.ListN.{length, getD, take}
-use Rattle.text.specs.Text.{digitZero, digitNine}
 use Rattle.text.specs.declared.Digits.the-variants.{Value}
-use Rattle.text.specs.Lines.{maxDigits, digitsFrom}
+use Rattle.text.specs.Lines.{digitsFrom}
 use Rattle.text.proofs.Fronts.{digits-next, not-low, not-high}
 use Rattle.text.proofs.digits_at.Statement.{statement}
 use Rattle.text.proofs.digits_at.Tie as tie
 
 abbrev Inv-loop : tie.InvT-loop
 Inv-loop s value₀ i₀ value i =
-    (i ≤ length s) × (i ≤ maxDigits) × (value < 10 ^ i) × (digitsFrom 0 (take i s) ≡ Value value)
+    (i ≤ length s) × (value < 10 ^ i) × (digitsFrom 0 (take i s) ≡ Value value)
 
 abbrev μ-loop : tie.MeasureT-loop
 μ-loop s value₀ i₀ value i = length s - i
 
--- the value so far has fewer digits than a number may have
-few : (i : ℕ) → i ≤ 11 → 10 ^ i ≤ 10 ^ 11
-few i h = pow-le-pow-right (omega arith) h
-
 loop-holds : tie.Need-loop-holds Inv-loop μ-loop
-loop-holds c = (omega arith, omega arith, omega arith, refl)
+loop-holds c = (omega arith, omega arith, refl)
 
 shared-slice-read-b : tie.Need-shared-slice-read-b Inv-loop μ-loop
 shared-slice-read-b c = omega arith
@@ -36,8 +29,8 @@ returns c =
     let x = c .before .before .before .loop in
     record {
       there = x .inv .0;
-      few = x .inv .1;
-      digits = x .inv .3;
+      small = x .inv .1;
+      digits = x .inv .2;
       stopped = λ h l. not-low (getD s (x .i) 0) (c .if1 .taken);
     }
 
@@ -47,8 +40,8 @@ returns-2 c =
     let x = c .before .before .before .before .loop in
     record {
       there = x .inv .0;
-      few = x .inv .1;
-      digits = x .inv .3;
+      small = x .inv .1;
+      digits = x .inv .2;
       stopped = λ h l. not-high (getD s (x .i) 0) (c .if2 .taken);
     }
 
@@ -57,19 +50,19 @@ returns-3 c =
     let x = c .before .before .before .before .before .loop in
     record {
       there = x .inv .0;
-      few = x .inv .1;
-      digits = x .inv .3;
+      small = x .inv .1;
+      digits = x .inv .2;
       stopped = λ h l. absurd (omega (arith, l, c .if3 .taken));
     }
 
 mul-value : tie.Need-mul-value Inv-loop μ-loop
-mul-value c = omega (arith, few (c .before .before .before .before .before .loop .i) (omega arith))
+mul-value c = omega arith
 
 cast-value : tie.Need-cast-value Inv-loop μ-loop
 cast-value c = omega arith
 
 add-value : tie.Need-add-value Inv-loop μ-loop
-add-value c = omega (arith, few (c .before .before .before .before .before .loop .i) (omega arith))
+add-value c = omega arith
 
 add-i : tie.Need-add-i Inv-loop μ-loop
 add-i c = omega arith
@@ -84,8 +77,7 @@ loop-again c =
     rw (add-one (x .i)) (
       omega arith,
       omega arith,
-      omega arith,
-      digits-next s (x .i) (x .value) (omega arith) (x .inv .3) (omega arith) (omega arith),
+      digits-next s (x .i) (x .value) (omega arith) (x .inv .2) (omega arith) (omega arith),
     )
 
 returns-4 : tie.Need-returns-4 Inv-loop μ-loop
@@ -93,8 +85,8 @@ returns-4 c =
     let x = c .before .loop in
     record {
       there = x .inv .0;
-      few = x .inv .1;
-      digits = x .inv .3;
+      small = x .inv .1;
+      digits = x .inv .2;
       stopped = λ h l. absurd (omega (arith, h, c .loop-test .left));
     }
 
