@@ -26,10 +26,12 @@ const SETS: usize = 1 << MAX_TASKS;
 // Room for the columns of a set's rows.
 const COLUMNS: usize = 3 * MAX_TASKS;
 
-// Few tasks, and how many sets of them there are.
+// Few tasks, how many sets of them there are, and room for their columns.
 const FEW_TASKS: usize = 6;
 
 const FEW_SETS: usize = 1 << FEW_TASKS;
+
+const FEW_COLUMNS: usize = 3 * FEW_TASKS;
 
 // A byte of the record of sets that is no row: the set isn't known yet, or has no order.
 const UNKNOWN: u8 = 254;
@@ -88,15 +90,14 @@ fn may_go(rows: &[u64], n: usize, m: usize, i: usize, sets: &[u8], columns: &mut
 }
 
 // The first row of the table that goes lowest in set m.
-fn lowest(rows: &[u64], n: usize, m: usize, sets: &mut [u8]) -> u8
-    requires { ⌜ Searching n (now rows) m (now sets) × (1 ≤ m) ⌝ }
+fn lowest(rows: &[u64], n: usize, m: usize, sets: &mut [u8], columns: &mut [u64]) -> u8
+    requires { ⌜ Searching n (now rows) m (now sets) × (1 ≤ m) × (3 * n ≤ length (now columns)) ⌝ }
     ensures { λ r. ⌜ LowestFound (rowsOf n (now (rows .entry))) m (now (sets .exit)) r ⌝ }
 {
-    let mut columns = [0u64; COLUMNS];
     let mut i: usize = 0;
     while i < n {
-        if may_go(rows, n, m, i, sets, &mut columns) {
-            if settled(rows, n, m - power(i), sets) {
+        if may_go(rows, n, m, i, sets, columns) {
+            if settled(rows, n, m - power(i), sets, columns) {
                 return i as u8;
             }
         }
@@ -106,8 +107,8 @@ fn lowest(rows: &[u64], n: usize, m: usize, sets: &mut [u8]) -> u8
 }
 
 // Whether set m has an order; the record then has the set.
-fn settled(rows: &[u64], n: usize, m: usize, sets: &mut [u8]) -> bool
-    requires { ⌜ Searching n (now rows) m (now sets) ⌝ }
+fn settled(rows: &[u64], n: usize, m: usize, sets: &mut [u8], columns: &mut [u64]) -> bool
+    requires { ⌜ Searching n (now rows) m (now sets) × (3 * n ≤ length (now columns)) ⌝ }
     ensures { λ r. ⌜ Settled stable (rowsOf n (now (rows .entry))) m (now (sets .exit)) r ⌝ }
 {
     if m == 0 {
@@ -115,7 +116,7 @@ fn settled(rows: &[u64], n: usize, m: usize, sets: &mut [u8]) -> bool
     }
     let known = sets[m];
     if known == UNKNOWN {
-        let found = lowest(rows, n, m, sets);
+        let found = lowest(rows, n, m, sets, columns);
         sets[m] = found;
         return found != NO_ORDER;
     }
@@ -164,13 +165,13 @@ pub struct Choice {
     pub found: bool,
 }
 
-// The order of n rows by the rule, with a record of sets that has none yet.
-fn order_with(rows: &[u64], n: usize, sets: &mut [u8]) -> Choice
-    requires { ⌜ Lent n (now rows) × Fresh n (now sets) ⌝ }
+// The order of n rows by the rule, with a record of sets that has none yet and columns for the rows above a row.
+fn order_with(rows: &[u64], n: usize, sets: &mut [u8], columns: &mut [u64]) -> Choice
+    requires { ⌜ Lent n (now rows) × Fresh n (now sets) × (3 * n ≤ length (now columns)) ⌝ }
     ensures { λ r. ⌜ Chooses (rowsOf n (now (rows .entry))) r ⌝ }
 {
     let all = power(n) - 1;
-    if settled(rows, n, all, sets) {
+    if settled(rows, n, all, sets, columns) {
         let order = read_off(rows, n, all, sets);
         return Choice { found: true, order };
     }
@@ -187,10 +188,12 @@ pub fn choose(rows: &[u64], n: usize) -> Choice
 {
     if n <= FEW_TASKS {
         let mut few = [UNKNOWN; FEW_SETS];
-        return order_with(rows, n, &mut few);
+        let mut columns = [0u64; FEW_COLUMNS];
+        return order_with(rows, n, &mut few, &mut columns);
     }
     let mut sets = [UNKNOWN; SETS];
-    order_with(rows, n, &mut sets)
+    let mut columns = [0u64; COLUMNS];
+    order_with(rows, n, &mut sets, &mut columns)
 }
 
 // The same of the first rows of an array.

@@ -32,10 +32,10 @@ use Rattle.search.proofs.+lowest+settled.{statement}
 use Rattle.search.proofs.+lowest+settled.Tie.{close}
 
 -- a call for a smaller set comes before every call for this one
-abbrev μ-lowest : Measures 2 lowest-kinds.ps ℕ
+abbrev μ-lowest : Measures 3 lowest-kinds.ps ℕ
 μ-lowest κs a = 2 * a .1 .1 .0
 
-abbrev μ-settled : Measures 2 settled-kinds.ps ℕ
+abbrev μ-settled : Measures 3 settled-kinds.ps ℕ
 μ-settled κs a = 2 * a .1 .1 .0 + 1
 
 abbrev lowest-Inv-loop : lowest-lts.InvT-loop
@@ -50,17 +50,17 @@ abbrev lowest-μ-loop : lowest-lts.MeasureT-loop
 lowest-μ-loop rows n m sets₀ columns₀ i₀ sets columns i = n - i
 
 module _ (t : ℕ) where
-  abbrev lowest-at : In 2 lowest-kinds.ps
-  lowest-at = and 2 lowest-kinds.ps (is 2 lowest-kinds.ps μ-lowest t) lowest.Pre
+  abbrev lowest-at : In 3 lowest-kinds.ps
+  lowest-at = and 3 lowest-kinds.ps (is 3 lowest-kinds.ps μ-lowest t) lowest.Pre
 
-  abbrev lowest-below : In 2 lowest-kinds.ps
-  lowest-below = and 2 lowest-kinds.ps (falls 2 lowest-kinds.ps _<_ μ-lowest t) lowest.Pre
+  abbrev lowest-below : In 3 lowest-kinds.ps
+  lowest-below = and 3 lowest-kinds.ps (falls 3 lowest-kinds.ps _<_ μ-lowest t) lowest.Pre
 
-  abbrev settled-at : In 2 settled-kinds.ps
-  settled-at = and 2 settled-kinds.ps (is 2 settled-kinds.ps μ-settled t) settled.Pre
+  abbrev settled-at : In 3 settled-kinds.ps
+  settled-at = and 3 settled-kinds.ps (is 3 settled-kinds.ps μ-settled t) settled.Pre
 
-  abbrev settled-below : In 2 settled-kinds.ps
-  settled-below = and 2 settled-kinds.ps (falls 2 settled-kinds.ps _<_ μ-settled t) settled.Pre
+  abbrev settled-below : In 3 settled-kinds.ps
+  settled-below = and 3 settled-kinds.ps (falls 3 settled-kinds.ps _<_ μ-settled t) settled.Pre
 
   abbrev lowest-calls : lowest-lts.Claims
   lowest-calls = (
@@ -78,7 +78,7 @@ module _ (t : ℕ) where
   -- ---- lowest
   lowest-loop-holds : lowest-lts.Need-loop-holds lowest-calls lowest-at lowest.Post lowest-Inv-loop lowest-μ-loop
   lowest-loop-holds c =
-      let s = c .before .before in
+      let s = c .before .before .before in
       let a = s .args in
       let p = s .pre .1 in (
         omega arith,
@@ -89,75 +89,80 @@ module _ (t : ℕ) where
         refl,
       )
 
-  lowest-slice-aggregate-may-go :
-      lowest-lts.Need-slice-aggregate-may-go lowest-calls lowest-at lowest.Post lowest-Inv-loop lowest-μ-loop
-  lowest-slice-aggregate-may-go c = sym (c .before .before .before .loop .inv .4)
-
   lowest-may-go-requires :
       lowest-lts.Need-may-go-requires lowest-calls lowest-at lowest.Post lowest-Inv-loop lowest-μ-loop
   lowest-may-go-requires c κs =
-      let s = c .before .before .before .before .before .before in
+      let s = c .before .before .before .before .before .before .before in
       let p = s .pre .1 .0 in
       let x = c .before .before .before .loop in (
         record { lent = p .lent; set = p .set; recorded = x .inv .3 },
         c .before .before .loop-test .taken,
-        omega (arith, p .lent .few, x .inv .4),
+        omega (arith, s .pre .1 .2, x .inv .4),
       )
 
   lowest-power-requires :
       lowest-lts.Need-power-requires lowest-calls lowest-at lowest.Post lowest-Inv-loop lowest-μ-loop
   lowest-power-requires c κs =
-      let s = c .before .before .before .before .before .before .before .before .before in
-      omega (arith, c .before .before .before .before .before .loop-test .taken, s .pre .1 .0 .lent .few)
+      let s = c .before .before .before .before .before .before .before .before .before .before .before in
+      omega (arith, c .before .before .before .before .before .before .loop-test .taken, s .pre .1 .0 .lent .few)
 
   lowest-sub-settled : lowest-lts.Need-sub-settled lowest-calls lowest-at lowest.Post lowest-Inv-loop lowest-μ-loop
   lowest-sub-settled c =
-      let a = c .before .before .before .before .before .before .before .before .before .before .args in
-      let bit = c .before .before .before .may-go .ensures .in-set (c .before .if1 .taken) in
-      omega (arith, c .power .ensures, bit-le (a .m) (c .before .before .before .before .before .before .before .loop .i) bit)
+      let a = c .before .before .before .before .before .before .before .before .before .before .before .before .args in
+      let bit = c .before .before .before .before .may-go .ensures .in-set (c .before .if1 .taken) in
+      omega (arith, c .power .ensures, bit-le (a .m) (c .before .before .before .before .before .before .before .before .loop .i) bit)
 
   lowest-settled-requires :
       lowest-lts.Need-settled-requires lowest-calls lowest-at lowest.Post lowest-Inv-loop lowest-μ-loop
   lowest-settled-requires c κs =
-      let s = c .before .before .before .before .before .before .before .before .before .before .before in
+      let s = c .before .before .before .before .before .before .before .before .before .before .before .before .before .before in
       let a = s .args in
       let p = s .pre .1 .0 in
-      let x = c .before .before .before .before .before .before .before .before .loop in
-      let e = c .before .power .ensures in
-      let bit = c .before .before .before .before .may-go .ensures .in-set (c .before .before .if1 .taken) in
+      let x = c .before .before .before .before .before .before .before .before .before .before .loop in
+      let e = c .before .before .power .ensures in
+      let may = c .before .before .before .before .before .before .may-go in
+      let bit = may .ensures .in-set (c .before .before .before .if1 .taken) in
       let b = bit-le (a .m) (x .i) bit in
       let q = pow-pos (x .i) in (
         omega (arith, e, b, q, s .pre .0),
-        record { lent = p .lent; set = omega (arith, p .set); recorded = x .inv .3 },
+        (
+          record { lent = p .lent; set = omega (arith, p .set); recorded = x .inv .3 },
+          omega (arith, s .pre .1 .2, may .kept .1 .1 .1 .1 .1 .0, x .inv .4),
+        ),
       )
 
   lowest-cast-result : lowest-lts.Need-cast-result lowest-calls lowest-at lowest.Post lowest-Inv-loop lowest-μ-loop
   lowest-cast-result c =
-      let turn = c .before .before .before .before .before .before .before .before .before .before .before in
-      let lent = turn .before .before .before .before .pre .1 .0 .lent in
+      let turn = c .before .before .before .before .before .before .before .before .before .before .before .before .before .before .before in
+      let lent = turn .before .before .before .before .before .pre .1 .0 .lent in
       record { fits = omega (arith, lent .few, turn .loop-test .taken) }
 
   lowest-same-length : lowest-lts.Need-same-length lowest-calls lowest-at lowest.Post lowest-Inv-loop lowest-μ-loop
   lowest-same-length c =
-      let below = c .before .before .before in
-      below .settled .kept .1 .1 .1 .0 ∙ below .before .before .before .before .before .before .before .before .before .loop .inv .2
+      c .before .before .before .before .before .settled .kept .1 .1 .1 .0 ∙ c .before .before .before .before .before .before .before .before .before .before .before .before .before .before .before .before .loop .inv .2
+
+  lowest-same-length-2 :
+      lowest-lts.Need-same-length-2 lowest-calls lowest-at lowest.Post lowest-Inv-loop lowest-μ-loop
+  lowest-same-length-2 c =
+      c .before .before .before .before .before .settled .kept .1 .1 .1 .1 .0
+      ∙ (c .before .before .before .before .before .before .before .before .before .before .before .before .may-go .kept .1 .1 .1 .1 .1 .0 ∙ c .before .before .before .before .before .before .before .before .before .before .before .before .before .before .before .before .loop .inv .4)
 
   -- the first row that goes
   lowest-returns : lowest-lts.Need-returns lowest-calls lowest-at lowest.Post lowest-Inv-loop lowest-μ-loop
   lowest-returns c =
-      let turn = c .before .before .before .before .before .before .before .before .before .before .before in
-      let s = turn .before .before .before .before in
+      let turn = c .before .before .before .before .before .before .before .before .before .before .before .before .before .before .before in
+      let s = turn .before .before .before .before .before in
       let a = s .args in
       let x = turn .before .loop in
       let table = rowsOf (a .n) (a .rows .now) in
-      let u = c .before .before .before .settled .ensures in
-      let may = c .before .before .before .before .before .before .before .before .may-go .ensures in
-      let yes = c .before .before .before .before .before .before .if1 .taken in
+      let u = c .before .before .before .before .before .settled .ensures in
+      let may = c .before .before .before .before .before .before .before .before .before .before .before .before .may-go .ensures in
+      let yes = c .before .before .before .before .before .before .before .before .before .if1 .taken in
       let there = sym (u .found-is) ∙ c .if2 .taken in
-      let bit = c .before .before .before .before .before .power .ensures in
+      let bit = c .before .before .before .before .before .before .before .before .power .ensures in
       let goes = sym (goes-then stable table (a .m) (x .i) (may .in-set yes) (may .passes yes))
       ∙ ap (λ (k : ℕ). isSome (orderAt stable table (a .m - k))) (sym bit) ∙ there in
-      let sets = c .before .before .before .settled .last .1 .1 .1 .0 in
+      let sets = c .before .before .before .before .before .settled .last .1 .1 .1 .0 in
       record {
         recorded = u .recorded;
         rest = λ low. subst (λ (k : ℕ). Known stable table sets (a .m - k)) bit (u .there);
@@ -167,23 +172,23 @@ module _ (t : ℕ) where
 
   lowest-add-i : lowest-lts.Need-add-i lowest-calls lowest-at lowest.Post lowest-Inv-loop lowest-μ-loop
   lowest-add-i c =
-      let turn = c .before .before .before .before .before in
-      let lent = turn .before .before .before .before .pre .1 .0 .lent in
+      let turn = c .before .before .before .before .before .before in
+      let lent = turn .before .before .before .before .before .pre .1 .0 .lent in
       record { fits = omega (arith, lent .few, turn .loop-test .taken) }
 
   lowest-loop-less : lowest-lts.Need-loop-less lowest-calls lowest-at lowest.Post lowest-Inv-loop lowest-μ-loop
   lowest-loop-less c =
-      omega (arith, c .before .before .before .before .before .loop-test .taken)
+      omega (arith, c .before .before .before .before .before .before .loop-test .taken)
 
   lowest-loop-again : lowest-lts.Need-loop-again lowest-calls lowest-at lowest.Post lowest-Inv-loop lowest-μ-loop
   lowest-loop-again c =
-      let s = c .before .before .before .before .before .before .before .before .before in
+      let s = c .before .before .before .before .before .before .before .before .before .before .before in
       let a = s .args in
-      let x = c .before .before .before .before .before .before .loop in
+      let x = c .before .before .before .before .before .before .before .loop in
       let table = rowsOf (a .n) (a .rows .now) in
-      let test = c .before .before .before .before .before .loop-test .taken in
-      let may = c .before .before .may-go .ensures in
-      let long = c .before .before .may-go .kept .1 .1 .1 .1 .1 .0 ∙ x .inv .4 in
+      let test = c .before .before .before .before .before .before .loop-test .taken in
+      let may = c .before .before .before .may-go .ensures in
+      let long = c .before .before .before .may-go .kept .1 .1 .1 .1 .1 .0 ∙ x .inv .4 in
       let row = a-row (s .pre .1 .0 .lent) (x .i) test in
       let next : goes stable table (a .m) (x .i) ≡ false
       → orderAt stable table (a .m) ≡ scan theOrder stable by-sets table (a .m) (suc (x .i)) =
@@ -194,29 +199,32 @@ module _ (t : ℕ) where
       let goes-is = sym (goes-then stable table (a .m) (x .i) (may .in-set (w .0 .taken)) (may .passes (w .0 .taken)))
       ∙ ap (λ (k : ℕ). isSome (orderAt stable table (a .m - k))) (sym (w .1 .ensures)) in (
         omega (arith, test),
-        next (goes-is ∙ sym (w .3 .ensures .found-is) ∙ w .6 .left),
-        ap length (w .7) ∙ w .3 .kept .1 .1 .1 .0 ∙ x .inv .2,
-        subst (Recorded stable table) (sym (w .7)) (w .3 .ensures .recorded),
-        long,
+        next (goes-is ∙ sym (w .4 .ensures .found-is) ∙ w .9 .left),
+        ap length (w .10) ∙ w .4 .kept .1 .1 .1 .0 ∙ x .inv .2,
+        subst (Recorded stable table) (sym (w .10)) (w .4 .ensures .recorded),
+        ap length (w .11) ∙ w .4 .kept .1 .1 .1 .1 .0 ∙ long,
       ))
       (λ w. (
         omega (arith, test),
         next (may .goes-not (w .0 .left)),
         ap length (w .1) ∙ x .inv .2,
         subst (Recorded stable table) (sym (w .1)) (x .inv .3),
-        long,
+        ap length (w .2) ∙ long,
       ))
       (c .if1 .came))
 
-  lowest-same-length-2 :
-      lowest-lts.Need-same-length-2 lowest-calls lowest-at lowest.Post lowest-Inv-loop lowest-μ-loop
-  lowest-same-length-2 c =
-      c .before .loop .inv .2
+  lowest-same-length-3 :
+      lowest-lts.Need-same-length-3 lowest-calls lowest-at lowest.Post lowest-Inv-loop lowest-μ-loop
+  lowest-same-length-3 c = c .before .loop .inv .2
+
+  lowest-same-length-4 :
+      lowest-lts.Need-same-length-4 lowest-calls lowest-at lowest.Post lowest-Inv-loop lowest-μ-loop
+  lowest-same-length-4 c = c .before .loop .inv .4
 
   -- no row goes
   lowest-returns-2 : lowest-lts.Need-returns-2 lowest-calls lowest-at lowest.Post lowest-Inv-loop lowest-μ-loop
   lowest-returns-2 c =
-      let s = c .before .before .before .before in
+      let s = c .before .before .before .before .before in
       let a = s .args in
       let table = rowsOf (a .n) (a .rows .now) in
       let x = c .before .loop in
@@ -233,48 +241,53 @@ module _ (t : ℕ) where
   -- ---- settled
   settled-returns : settled-lts.Need-returns settled-calls settled-at settled.Post
   settled-returns c =
-      let a = c .before .before .before .args in
-      let p = c .before .before .before .pre .1 in
+      let a = c .before .before .before .before .args in
+      let p = c .before .before .before .before .pre .1 .0 in
       rw (c .if1 .taken)
       (settled-empty stable (rowsOf (a .n) (a .rows .now)) (small (p .lent)) (a .sets .now) (p .recorded))
 
   settled-slice-read-known : settled-lts.Need-slice-read-known settled-calls settled-at settled.Post
   settled-slice-read-known c =
-      let s = c .before .before .before .before in
-      let p = s .pre .1 in
+      let s = c .before .before .before .before .before in
+      let p = s .pre .1 .0 in
       omega (arith, a-set (p .lent) (s .args .m) (p .set), p .recorded .room)
 
   settled-lowest-requires : settled-lts.Need-lowest-requires settled-calls settled-at settled.Post
   settled-lowest-requires c κs =
-      let s = c .before .before .before .before .before .before in
-      (omega (arith, s .pre .0), (s .pre .1, omega (arith, c .before .before .before .if1 .left)))
+      let s = c .before .before .before .before .before .before .before .before in (
+        omega (arith, s .pre .0),
+        (s .pre .1 .0, omega (arith, c .before .before .before .before .if1 .left), s .pre .1 .1),
+      )
 
   settled-slice-write-sets : settled-lts.Need-slice-write-sets settled-calls settled-at settled.Post
   settled-slice-write-sets c =
-      let s = c .before .before .before .before .before .before .before .before .before in
-      let p = s .pre .1 in
-      omega (arith, a-set (p .lent) (s .args .m) (p .set), c .before .before .lowest .ensures .recorded .room)
+      let s = c .before .before .before .before .before .before .before .before .before .before .before .before .before in
+      let p = s .pre .1 .0 in
+      omega (arith, a-set (p .lent) (s .args .m) (p .set), c .before .before .before .before .lowest .ensures .recorded .room)
 
   settled-same-length : settled-lts.Need-same-length settled-calls settled-at settled.Post
   settled-same-length c =
-      let s = c .before .before .before .before .before .before .before .before .before in
-      let w = c .before .before .lowest in
+      let s = c .before .before .before .before .before .before .before .before .before .before .before .before .before in
+      let w = c .before .before .before .before .lowest in
       length-set (w .last .1 .1 .1 .0) (s .args .m) (w .result) ∙ w .kept .1 .1 .1 .0
+
+  settled-same-length-2 : settled-lts.Need-same-length-2 settled-calls settled-at settled.Post
+  settled-same-length-2 c = c .before .before .before .before .lowest .kept .1 .1 .1 .1 .0
 
   settled-returns-2 : settled-lts.Need-returns-2 settled-calls settled-at settled.Post
   settled-returns-2 c =
-      let s = c .before .before .before .before .before .before .before .before .before in
+      let s = c .before .before .before .before .before .before .before .before .before .before .before .before .before in
       let a = s .args in
-      let p = s .pre .1 in
-      let w = c .before .before .lowest in
+      let p = s .pre .1 .0 in
+      let w = c .before .before .before .before .lowest in
       settled-new stable (rowsOf (a .n) (a .rows .now)) (small (p .lent)) (w .last .1 .1 .1 .0)
       (w .ensures .recorded) (a .m) (w .result) (a-set (p .lent) (a .m) (p .set)) (w .ensures .says) (w .ensures .rest)
 
   settled-returns-3 : settled-lts.Need-returns-3 settled-calls settled-at settled.Post
   settled-returns-3 c =
-      let s = c .before .before .before .before .before in
+      let s = c .before .before .before .before .before .before in
       let a = s .args in
-      let p = s .pre .1 in
+      let p = s .pre .1 .0 in
       settled-old stable (rowsOf (a .n) (a .rows .now)) (small (p .lent)) (a .sets .now) (p .recorded) (a .m)
       (a-set (p .lent) (a .m) (p .set)) (c .if2 .left)
 
@@ -283,18 +296,19 @@ pub +lowest+settled-spec : {M : Type 1} → statement M
     close μ-lowest μ-settled
     (λ t. lowest-lts.spec (lowest-calls t) (lowest-at t) lowest.Post lowest-Inv-loop lowest-μ-loop
     (lowest-loop-holds t)
-    (lowest-slice-aggregate-may-go t)
     (lowest-may-go-requires t)
     (lowest-power-requires t)
     (lowest-sub-settled t)
     (lowest-settled-requires t)
     (lowest-cast-result t)
     (lowest-same-length t)
+    (lowest-same-length-2 t)
     (lowest-returns t)
     (lowest-add-i t)
     (lowest-loop-less t)
     (lowest-loop-again t)
-    (lowest-same-length-2 t)
+    (lowest-same-length-3 t)
+    (lowest-same-length-4 t)
     (lowest-returns-2 t))
     λ t. settled-lts.spec (settled-calls t) (settled-at t) settled.Post
     (settled-returns t)
@@ -302,5 +316,6 @@ pub +lowest+settled-spec : {M : Type 1} → statement M
     (settled-lowest-requires t)
     (settled-slice-write-sets t)
     (settled-same-length t)
+    (settled-same-length-2 t)
     (settled-returns-2 t)
     (settled-returns-3 t)

@@ -2,6 +2,7 @@
 -- them yet.
 use mathlib.Core.Path.{sym}
 use Prim.Native.Nat.{ℕ, _^_}
+use native.Mathlib.Omega.{arith}
 use lib.ListN.{length-replicate}
 use lib.Pow.{pow-mono}
 use borrow.Author.Needs.{needs}
@@ -18,21 +19,28 @@ fewTasks = 6
 slice-aggregate-order-with : tie.Need-slice-aggregate-order-with
 slice-aggregate-order-with c = search needs
 
+slice-aggregate-order-with-2 : tie.Need-slice-aggregate-order-with-2
+slice-aggregate-order-with-2 c = search needs
+
 order-with-requires : tie.Need-order-with-requires
 order-with-requires c κs =
-    let s = c .before .before .before in
-    (s .pre, fresh (s .args .n) (2 ^ fewTasks) (pow-mono (c .before .if1 .taken)))
+    let s = c .before .before .before .before in
+    let few = c .before .before .if1 .taken in
+    (s .pre, fresh (s .args .n) (2 ^ fewTasks) (pow-mono few), omega (arith, few))
 
 returns : tie.Need-returns
 returns c = search needs
 
-slice-aggregate-order-with-2 : tie.Need-slice-aggregate-order-with-2
-slice-aggregate-order-with-2 c = sym (length-replicate {A = ℕ} (2 ^ maxTasks) unknown)
+slice-aggregate-order-with-3 : tie.Need-slice-aggregate-order-with-3
+slice-aggregate-order-with-3 c = sym (length-replicate {A = ℕ} (2 ^ maxTasks) unknown)
+
+slice-aggregate-order-with-4 : tie.Need-slice-aggregate-order-with-4
+slice-aggregate-order-with-4 c = search needs
 
 order-with-requires-2 : tie.Need-order-with-requires-2
 order-with-requires-2 c κs =
-    let s = c .before .before .before in
-    (s .pre, fresh (s .args .n) (2 ^ maxTasks) (pow-mono (s .pre .few)))
+    let s = c .before .before .before .before in
+    (s .pre, fresh (s .args .n) (2 ^ maxTasks) (pow-mono (s .pre .few)), omega (arith, s .pre .few))
 
 returns-2 : tie.Need-returns-2
 returns-2 c = search needs
@@ -42,8 +50,10 @@ choose-spec =
     tie.close
     (tie.spec
     slice-aggregate-order-with
+    slice-aggregate-order-with-2
     order-with-requires
     returns
-    slice-aggregate-order-with-2
+    slice-aggregate-order-with-3
+    slice-aggregate-order-with-4
     order-with-requires-2
     returns-2)

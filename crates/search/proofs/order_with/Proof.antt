@@ -79,31 +79,33 @@ power-requires : tie.Need-power-requires
 power-requires c κs = search needs
 
 sub-all : tie.Need-sub-all
-sub-all c = omega (arith, c .power .ensures, pow-pos (c .before .before .before .args .n))
+sub-all c = omega (arith, c .power .ensures, pow-pos (c .before .before .before .before .args .n))
 
 -- the set of all bits
-all-is : (c : tie.After-power) → c .power .result - 1 ≡ 2 ^ c .before .before .before .args .n - 1
+all-is : (c : tie.After-power) → c .power .result - 1 ≡ 2 ^ c .before .before .before .before .args .n - 1
 all-is c = ap (λ (k : ℕ). k - 1) (c .power .ensures)
 
 settled-requires : tie.Need-settled-requires
 settled-requires c κs =
-    let s = c .before .before .before .before in
+    let s = c .before .before .before .before .before .before in
     let a = s .args in
-    let l = s .pre .0 in
-    record {
-      lent = l;
-      set = in-table (a .n) (a .rows .now) l _ (all-is (c .before));
-      recorded = begun stable (rowsOf (a .n) (a .rows .now)) (small l) (a .sets .now)
-          (subst (λ (k : ℕ). Fresh k (a .sets .now)) (sym (rows-length (a .n) (a .rows .now))) (s .pre .1));
-    }
+    let l = s .pre .0 in (
+      record {
+        lent = l;
+        set = in-table (a .n) (a .rows .now) l _ (all-is (c .before .before));
+        recorded = begun stable (rowsOf (a .n) (a .rows .now)) (small l) (a .sets .now)
+            (subst (λ (k : ℕ). Fresh k (a .sets .now)) (sym (rows-length (a .n) (a .rows .now))) (s .pre .1));
+      },
+      s .pre .2,
+    )
 
 read-off-requires : tie.Need-read-off-requires
 read-off-requires c κs =
-    let d = c .before .before .before .before in
-    let s = d .before .before .before .before .before in
+    let d = c .before .before .before .before .before .before in
+    let s = d .before .before .before .before .before .before .before in
     let a = s .args in
     let l = s .pre .0 in
-    let e = all-is (d .before .before) in
+    let e = all-is (d .before .before .before) in
     let w = d .settled in (
       l .few,
       in-record (a .n) (a .rows .now) l _ e _ (w .result) (w .ensures),
@@ -113,26 +115,32 @@ read-off-requires c κs =
 same-length : tie.Need-same-length
 same-length c = search needs
 
+same-length-2 : tie.Need-same-length-2
+same-length-2 c = search needs
+
 returns : tie.Need-returns
 returns c =
-    let d = c .before .before .before .before .before in
-    let s = d .before .before .before .before .before in
+    let d = c .before .before .before .before .before .before .before in
+    let s = d .before .before .before .before .before .before .before in
     let a = s .args in
-    chooses (a .n) (a .rows .now) (s .pre .0) _ (all-is (d .before .before)) _ (d .settled .result)
+    chooses (a .n) (a .rows .now) (s .pre .0) _ (all-is (d .before .before .before)) _ (d .settled .result)
     (d .settled .ensures) (c .read-off .result) (c .before .before .if1 .taken) (c .read-off .ensures)
 
 nothing-requires : tie.Need-nothing-requires
 nothing-requires c κs = search needs
 
-same-length-2 : tie.Need-same-length-2
-same-length-2 c = search needs
+same-length-3 : tie.Need-same-length-3
+same-length-3 c = search needs
+
+same-length-4 : tie.Need-same-length-4
+same-length-4 c = search needs
 
 returns-2 : tie.Need-returns-2
 returns-2 c =
-    let d = c .before .before .before .before in
-    let s = d .before .before .before .before .before in
+    let d = c .before .before .before .before .before .before in
+    let s = d .before .before .before .before .before .before .before in
     let a = s .args in
-    chooses-none (a .n) (a .rows .now) (s .pre .0) _ (all-is (d .before .before)) _ (d .settled .result)
+    chooses-none (a .n) (a .rows .now) (s .pre .0) _ (all-is (d .before .before .before)) _ (d .settled .result)
     (d .settled .ensures) (c .nothing .result) (c .before .if1 .left) (c .nothing .ensures)
 
 pub order-with-spec : {M : Type 1} → statement M
@@ -144,7 +152,9 @@ order-with-spec =
     settled-requires
     read-off-requires
     same-length
+    same-length-2
     returns
     nothing-requires
-    same-length-2
+    same-length-3
+    same-length-4
     returns-2)
