@@ -33,7 +33,10 @@ pub on-accepted : (a : TableRead) (next : Outcome) → a .refused ≡ 0 → onTa
 unfolding onTable
 on-accepted a next e = rw (e, onTable)
 
-pub on-refused : (a : TableRead) (next : Outcome) (n : ℕ) → a .refused ≡ suc n → onTable a next ≡ refuses (suc n) (a .line)
+pub on-refused :
+    (a : TableRead) (next : Outcome) (n : ℕ) →
+    a .refused ≡ suc n →
+    onTable a next ≡ refuses (suc n) (a .line)
 unfolding onTable
 on-refused a next n e =
     let step : ℕ → Outcome = λ m. elim m [ zero ↦ next | suc n ↦ refuses (suc n) (a .line) ] in

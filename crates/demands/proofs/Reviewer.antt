@@ -91,7 +91,11 @@ module _ (text : List ℕ) where
     ]
       where
         -- a late rank is not above the first
-        not-lower : (i j : ℕ) → isLate (rowAt order i) (rowsAbove order i) (rowsBelow order i) ≡ true → FirstLate order j → j ≤ i
+        not-lower :
+            (i j : ℕ) →
+            isLate (rowAt order i) (rowsAbove order i) (rowsBelow order i) ≡ true →
+            FirstLate order j →
+            j ≤ i
         not-lower i j late f = elim (le-or-lt j i) [
           | inl h ↦ h
           | inr h ↦ absurd (true-not-false _ late (f .above-in-time i h))

@@ -31,8 +31,8 @@ abbrev pub entryAt : List Row → ℕ → Entry
 entryAt order i = getD (entries order) i noEntry
 
 pub record Promised (order : List Row) : Type 0 where
-  -- demand 2: rank i's entry has the figures of its row between the rows above it and those below it, and they are those
-  -- of the formulas
+  -- demand 2: rank i's entry has the figures of its row between the rows above it and those below it, and they are
+  -- those of the formulas
   pub as-many : length (entries order) ≡ length order
   pub entry-is :
       (i : ℕ) → i < length order → entryAt order i ≡ entry (rowAt order i) (rowsAbove order i) (rowsBelow order i)

@@ -1,5 +1,5 @@
--- Rows among numbers are figured where they stand: too many rows are in no limits, and what is answered of the rows among
--- the numbers is answered of the rows put there.
+-- Rows among numbers are figured where they stand: too many rows are in no limits, and what is answered of the rows
+-- among the numbers is answered of the rows put there.
 use mathlib.Core.Path.{_≡_, refl, ap, ap₂, sym, _∙_}
 use mathlib.Core.Bool.{Bool, true, false, _&&_, not}
 use mathlib.Core.Logic.{inl, inr}

@@ -1,5 +1,5 @@
--- An order's plan in a text that has room for it: it is as long as it is said to be, and where no rank is late, its bytes
--- are the plan's; so what comes of the text is what comes of the order.
+-- An order's plan in a text that has room for it: it is as long as it is said to be, and where no rank is late, its
+-- bytes are the plan's; so what comes of the text is what comes of the order.
 use mathlib.Core.Path.{_≡_, refl, sym, ap, subst, _∙_}
 use mathlib.Core.Bool.{true}
 use mathlib.Core.List.{List, []}

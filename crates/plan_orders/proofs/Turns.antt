@@ -1,5 +1,6 @@
--- An order's ranks one after another: the text of those so far, and where the first late rank is. A turn puts the rank of
--- the next row, or finds that it is the first late one. The columns hold the whole order, and a turn takes the rows above.
+-- An order's ranks one after another: the text of those so far, and where the first late rank is. A turn puts the rank
+-- of the next row, or finds that it is the first late one. The columns hold the whole order, and a turn takes the rows
+-- above.
 use mathlib.Core.Path.{_≡_, refl, sym, ap, subst, _∙_}
 use mathlib.Core.Bool.{Bool, true, false}
 use mathlib.Core.List.{List, [], _∷_, _++_}

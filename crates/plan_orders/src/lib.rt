@@ -125,8 +125,8 @@ fn plan_from(out: &mut [u8], text: &[u8], put: RanksPut) -> Answer
     }
 }
 
-// The plan of an order, or its refusal. It is written whole into a text of the caller's own, so that a refusal leaves out
-// as it was.
+// The plan of an order, or its refusal. It is written whole into a text of the caller's own, so that a refusal leaves
+// out as it was.
 pub fn plan_in(
     out: &mut [u8],
     text: &mut [u8],
@@ -145,7 +145,7 @@ pub fn plan_in(
     plan_from(out, text, put)
 }
 
-// The same with room for a table's rows. Few ranks are soon written, and a short text is soon blank.
+// The same with room of its own for the most rows that a table has.
 pub fn plan_order(out: &mut [u8], board: u16, rows: &[u64], positions: &[usize], n: usize) -> Answer
     requires { ⌜ (n ≤ maxTasks) × Ordered (now rows) (now positions) n ⌝ }
     ensures { λ r. ⌜ Written (ifInTime (length (now (out .entry))) board

@@ -1,5 +1,5 @@
--- The entry at a rank is that of its row between the rows before it and those after it; the first late rank is late and those above it are
--- not; and the entry of a row that is not late keeps its limits.
+-- The entry at a rank is that of its row between the rows before it and those after it; the first late rank is late and
+-- those above it are not; and the entry of a row that is not late keeps its limits.
 use mathlib.Core.Path.{_≡_, refl, sym, ap, subst, _∙_}
 use mathlib.Core.Bool.{Bool, true, false}
 use mathlib.Core.List.{List, [], _∷_, _++_, append-nil}

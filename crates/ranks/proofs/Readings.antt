@@ -1,5 +1,5 @@
--- What a reading says of its table: its rows stand behind the head among the numbers, in range and distinct, so that they
--- can be lent to the search and to the plan; and a text's refusal is the call's.
+-- What a reading says of its table: its rows stand behind the head among the numbers, in range and distinct, so that
+-- they can be lent to the search and to the plan; and a text's refusal is the call's.
 use mathlib.Core.Path.{_≡_, sym, ap, ap₂, subst, _∙_}
 use mathlib.Core.Bool.{Bool, true}
 use mathlib.Core.List.{List}

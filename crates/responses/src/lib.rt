@@ -1,4 +1,5 @@
-// A row's figures: what they are and the laws of them stand in specs and proofs, the code that finds them in `analysis`.
+// A row's figures: what they are and the laws of them stand in specs and proofs, the code that finds them in
+// `analysis`.
 
 // Figured: the rows are in the limits of a table. Of a late row nothing else is said.
 pub struct Figures {

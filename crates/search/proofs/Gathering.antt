@@ -50,7 +50,8 @@ gathering-none table m n columns room = record {
   filled = filled-none [] n columns room;
 }
 
-module _ {table : List Row} {m n : ℕ} {columns : List ℕ} {count rest j : ℕ} (g : Gathering table m n columns count rest j)
+module _ {table : List Row} {m n : ℕ} {columns : List ℕ} {count rest j : ℕ}
+    (g : Gathering table m n columns count rest j)
     (many : length table ≡ n) where
   -- row j is put behind the others: it counts if its bit b is set
   module _ (more : j < n) where

@@ -133,8 +133,8 @@ fn nothing() -> Order
     }
 }
 
-// The n tasks of set m's order, read off the record into the front of tasks: that of its lowest row last, before it that
-// of the rest's lowest row, and so on.
+// The n tasks of set m's order, read off the record into the front of tasks: that of its lowest row last, before it
+// that of the rest's lowest row, and so on.
 fn rebuild(rows: &[u64], n: usize, m: usize, sets: &[u8], tasks: &mut [u16])
     requires { ⌜ (n ≤ length (now tasks)) × (m < length (now sets)) × Chained (now rows) (now sets) n m ⌝ }
     ensures { λ _. ⌜ now (tasks .exit)
@@ -198,7 +198,7 @@ pub fn choose(rows: &[u64], n: usize) -> Choice
     order_with(rows, n, &mut sets, &mut columns)
 }
 
-// The same of the first rows of an array.
+// The same of the first rows of an array, which is lent as a slice.
 fn order_in(numbers: &[u64; NUMBERS], n: usize) -> Choice
     requires { ⌜ Lent n (now numbers) ⌝ }
     ensures { λ r. ⌜ Chooses (rowsOf n (now (numbers .entry))) r ⌝ }

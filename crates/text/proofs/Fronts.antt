@@ -1,5 +1,5 @@
--- The digits at the front of a text: they have no line feed, so the first line begins with them; and it is a number only
--- where it is nothing else.
+-- The digits at the front of a text: they have no line feed, so the first line begins with them; and it is a number
+-- only where it is nothing else.
 use mathlib.Core.Path.{_≡_, refl, sym, ap, _∙_}
 use mathlib.Core.Bool.{Bool, true, false}
 use mathlib.Core.List.{List, [], _∷_, _++_, append-nil}
@@ -126,7 +126,8 @@ module _ {s : List ℕ} {r : Front} (f : Fronts s r) where
 
     line-is : lineOf s ≡ take (r .size) s
     line-is =
-        let none : lineOf (drop (r .size) s) ≡ [] = empty (lineOf (drop (r .size) s)) (omega (arith, whole, line-long)) in
+        let none : lineOf (drop (r .size) s) ≡ [] =
+        empty (lineOf (drop (r .size) s)) (omega (arith, whole, line-long)) in
         front-line ∙ ap (λ (l : List ℕ). take (r .size) s ++ l) none ∙ append-nil (take (r .size) s)
 
     pub no-digits : r .size < 1 → numberOf (lineOf s) ≡ Malformed

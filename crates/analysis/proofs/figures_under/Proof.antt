@@ -12,7 +12,8 @@ use Rattle.responses.specs.Interference.{leastFixed}
 use Rattle.responses.specs.Figures.{figuresAt}
 use Rattle.responses.proofs.Responses.{late-answer, timely-answer}
 use Rattle.analysis.specs.inside.Columns.{loads}
-use Rattle.analysis.proofs.Columns.{from, worst-columns, best-columns, latest-found, earliest-found, Found, found}
+use Rattle.analysis.proofs.Columns.{from, worst-columns, best-columns}
+use Rattle.analysis.proofs.Columns.{latest-found, earliest-found, Found, found}
 use Rattle.analysis.proofs.figures_under.Statement.{statement}
 use Rattle.analysis.proofs.figures_under.Tie as tie
 

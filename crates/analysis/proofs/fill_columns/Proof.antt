@@ -27,10 +27,14 @@ loop-holds c =
     )
 
 mul-put-times : tie.Need-mul-put-times Inv-loop μ-loop
-mul-put-times c = let s = c .before .before .before .before .before in record { fits = omega (arith, s .pre .few, c .loop-test .taken) }
+mul-put-times c =
+    let s = c .before .before .before .before .before in
+    record { fits = omega (arith, s .pre .few, c .loop-test .taken) }
 
 shared-slice-read-put-times : tie.Need-shared-slice-read-put-times Inv-loop μ-loop
-shared-slice-read-put-times c = let s = c .before .before .before .before .before .before in omega (arith, s .pre .positions-held, c .before .loop-test .taken)
+shared-slice-read-put-times c =
+    let s = c .before .before .before .before .before .before in
+    omega (arith, s .pre .positions-held, c .before .loop-test .taken)
 
 put-times-requires : tie.Need-put-times-requires Inv-loop μ-loop
 put-times-requires c κs =
@@ -40,7 +44,9 @@ put-times-requires c κs =
     (s .pre .rows-held (x .k) t, t, s .pre .few, x .inv .1 .room)
 
 add-k : tie.Need-add-k Inv-loop μ-loop
-add-k c = let s = c .before .before .before .before .before .before .before .before .before .before in record { fits = omega (arith, s .pre .few, c .before .before .before .before .before .loop-test .taken) }
+add-k c =
+    let s = c .before .before .before .before .before .before .before .before .before .before in
+    record { fits = omega (arith, s .pre .few, c .before .before .before .before .before .loop-test .taken) }
 
 loop-less : tie.Need-loop-less Inv-loop μ-loop
 loop-less c = omega (arith, c .before .before .before .before .before .loop-test .taken)

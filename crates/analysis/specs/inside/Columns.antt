@@ -1,5 +1,5 @@
--- A promise between functions: the times of some rows as columns of numbers, and the figures of a row under the first of
--- them.
+-- A promise between functions: the times of some rows as columns of numbers, and the figures of a row under the first
+-- of them.
 use mathlib.Core.Path.{_≡_}
 use mathlib.Core.Bool.{true}
 use mathlib.Core.List.{List, [], _∷_}

@@ -70,7 +70,8 @@ returns-3 c =
     let long = front-long s late in
     let room = length (now (s .args .out)) in
     let copied = from-start (c .before .before .put-bytes .ensures) in
-    rw (ap (λ (k : ℕ). byLate k (fitted room plan)) late ∙ fits room plan (omega (arith, long, c .before .before .before .before .before .if2 .left)))
+    let short = c .before .before .before .before .before .if2 .left in
+    rw (ap (λ (k : ℕ). byLate k (fitted room plan)) late ∙ fits room plan (omega (arith, long, short)))
     record { returns = ap (λ n. record { number = 0; place = 0; long = n }) (sym long); holds = copied .holds }
 
 pub plan-from-spec : {M : Type 1} → statement M

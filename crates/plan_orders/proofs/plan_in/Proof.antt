@@ -23,7 +23,8 @@ put-plan-requires c κs = search needs
 
 plan-from-requires : tie.Need-plan-from-requires
 plan-from-requires c κs =
-    let s = c .before .before .before .before .before .before .before .before .before .before .before .before .before .before in
+    let mid = c .before .before .before .before .before .before .before in
+    let s = mid .before .before .before .before .before .before .before in
     let p = c .before .before .before .before .before .before .put-plan in
     plan-long (s .args .board) (s .args .n) (order s) (omega arith) (s .pre .0 .few) (counted s) (s .pre .0 .in-range)
     (s .pre .1 .0) (p .kept .0) (p .ensures)
@@ -39,7 +40,8 @@ same-length-3 c = search needs
 
 returns : tie.Need-returns
 returns c =
-    let s = c .before .before .before .before .before .before .before .before .before .before .before .before .before .before .before .before .before in
+    let mid = c .before .before .before .before .before .before .before .before in
+    let s = mid .before .before .before .before .before .before .before .before .before in
     let p = c .before .before .before .before .before .before .before .before .before .put-plan in
     let is = given-is (s .args .board) (s .args .n) (order s) (omega arith) (s .pre .0 .few) (counted s)
     (s .pre .0 .in-range) (s .pre .1 .0) (p .kept .0) (p .ensures) (length (now (s .args .out))) in

@@ -24,7 +24,8 @@ put-head-requires c κs =
 
 put-ranks-requires : tie.Need-put-ranks-requires
 put-ranks-requires c κs =
-    let s = c .before .before .before .before .before .before .before .before .before .before .before .before .before .before in
+    let mid = c .before .before .before .before .before .before .before in
+    let s = mid .before .before .before .before .before .before .before in
     let h = c .before .before .before .before .put-head in
     let head = head-length (s .args .board) (s .args .n) (omega arith) (omega (arith, s .pre .0 .few)) in (
       s .pre .0,
@@ -42,11 +43,13 @@ same-length-2 c = search needs
 
 returns : tie.Need-returns
 returns c =
-    let s = c .before .before .before .before .before .before .before .before .before .before .before .before .before .before .before .before .before in
+    let mid = c .before .before .before .before .before .before .before .before in
+    let s = mid .before .before .before .before .before .before .before .before .before in
     let a = s .args in
+    let head = c .before .before .before .before .before .before .before .put-head in
     plan-there (a .board) (a .n) (order s) (omega arith) (s .pre .0 .few)
-    (rows-long (a .rows .now) (a .positions .now) (a .n) (s .pre .0 .positions-held)) (s .pre .0 .in-range) (s .pre .1 .0)
-    (c .before .before .before .before .before .before .before .put-head .ensures) (c .before .before .put-ranks .ensures)
+    (rows-long (a .rows .now) (a .positions .now) (a .n) (s .pre .0 .positions-held))
+    (s .pre .0 .in-range) (s .pre .1 .0) (head .ensures) (c .before .before .put-ranks .ensures)
 
 pub put-plan-spec : {M : Type 1} → statement M
 put-plan-spec =

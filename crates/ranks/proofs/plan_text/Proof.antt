@@ -48,17 +48,22 @@ returns c =
     (refused (refusal-is (t .read-table .ensures) _ (c .before .if1 .taken)) (c .refused .ensures))
 
 slice-read-board : tie.Need-slice-read-board
-slice-read-board c = let e = c .before in omega (arith, head-there (e .before .before .before .read-table .ensures) (ok e))
+slice-read-board c =
+    let e = c .before in
+    omega (arith, head-there (e .before .before .before .read-table .ensures) (ok e))
 
 cast-board : tie.Need-cast-board
 cast-board c =
-    let e = c .before in record { fits = omega (arith, board-fits (e .before .before .before .read-table .ensures) (ok e)) }
+    let e = c .before in
+    record { fits = omega (arith, board-fits (e .before .before .before .read-table .ensures) (ok e)) }
 
 sub-rows : tie.Need-sub-rows
 sub-rows c = let e = c .before in omega (arith, head-there (e .before .before .before .read-table .ensures) (ok e))
 
 part-rows-start : tie.Need-part-rows-start
-part-rows-start c = let e = c .before .before in omega (arith, head-there (e .before .before .before .read-table .ensures) (ok e))
+part-rows-start c =
+    let e = c .before .before in
+    omega (arith, head-there (e .before .before .before .read-table .ensures) (ok e))
 
 part-rows-end : tie.Need-part-rows-end
 part-rows-end c = search needs

@@ -1,5 +1,5 @@
--- The text's refusal is the call's; the rows of an accepted text's rank lines are planned, or the first late one of them
--- is refused. The demands hold of every text.
+-- The text's refusal is the call's; the rows of an accepted text's rank lines are planned, or the first late one of
+-- them is refused. The demands hold of every text.
 use mathlib.Core.Path.{_≡_, subst}
 use mathlib.Core.Bool.{true}
 use mathlib.Core.List.{List}
@@ -47,19 +47,24 @@ returns c =
     (refused (refusal-is (t .read-table .ensures) _ (c .before .if1 .taken)) (c .refused .ensures))
 
 slice-read-board : tie.Need-slice-read-board
-slice-read-board c = let e = c .before in omega (arith, head-there (e .before .before .before .read-table .ensures) (ok e))
+slice-read-board c =
+    let e = c .before in
+    omega (arith, head-there (e .before .before .before .read-table .ensures) (ok e))
 
 cast-board : tie.Need-cast-board
 cast-board c =
-    let e = c .before in record { fits = omega (arith, board-fits (e .before .before .before .read-table .ensures) (ok e)) }
+    let e = c .before in
+    record { fits = omega (arith, board-fits (e .before .before .before .read-table .ensures) (ok e)) }
 
 mul-order-at : tie.Need-mul-order-at
 mul-order-at c =
-    let e = c .before .before in record { fits = omega (arith, few (e .before .before .before .read-table .ensures) (ok e)) }
+    let e = c .before .before in
+    record { fits = omega (arith, few (e .before .before .before .read-table .ensures) (ok e)) }
 
 add-order-at : tie.Need-add-order-at
 add-order-at c =
-    let e = c .before .before in record { fits = omega (arith, few (e .before .before .before .read-table .ensures) (ok e)) }
+    let e = c .before .before in
+    record { fits = omega (arith, few (e .before .before .before .read-table .ensures) (ok e)) }
 
 order-at-requires : tie.Need-order-at-requires
 order-at-requires c κs =
@@ -68,10 +73,14 @@ order-at-requires c κs =
     ((few a (ok e), ranks-held a (ok e)), ranks-small a (ok e))
 
 sub-rows : tie.Need-sub-rows
-sub-rows c = let e = c .before .before .before in omega (arith, head-there (e .before .before .before .read-table .ensures) (ok e))
+sub-rows c =
+    let e = c .before .before .before in
+    omega (arith, head-there (e .before .before .before .read-table .ensures) (ok e))
 
 part-rows-start : tie.Need-part-rows-start
-part-rows-start c = let e = c .before .before .before .before in omega (arith, head-there (e .before .before .before .read-table .ensures) (ok e))
+part-rows-start c =
+    let e = c .before .before .before .before in
+    omega (arith, head-there (e .before .before .before .read-table .ensures) (ok e))
 
 part-rows-end : tie.Need-part-rows-end
 part-rows-end c = search needs

@@ -110,12 +110,14 @@ module _ (t : ℕ) where
   lowest-sub-settled c =
       let a = c .before .before .before .before .before .before .before .before .before .before .before .before .args in
       let bit = c .before .before .before .before .may-go .ensures .in-set (c .before .if1 .taken) in
-      omega (arith, c .power .ensures, bit-le (a .m) (c .before .before .before .before .before .before .before .before .loop .i) bit)
+      let i = c .before .before .before .before .before .before .before .before .loop .i in
+      omega (arith, c .power .ensures, bit-le (a .m) i bit)
 
   lowest-settled-requires :
       lowest-lts.Need-settled-requires lowest-calls lowest-at lowest.Post lowest-Inv-loop lowest-μ-loop
   lowest-settled-requires c κs =
-      let s = c .before .before .before .before .before .before .before .before .before .before .before .before .before .before in
+      let mid = c .before .before .before .before .before .before .before in
+      let s = mid .before .before .before .before .before .before .before in
       let a = s .args in
       let p = s .pre .1 .0 in
       let x = c .before .before .before .before .before .before .before .before .before .before .loop in
@@ -133,30 +135,35 @@ module _ (t : ℕ) where
 
   lowest-cast-result : lowest-lts.Need-cast-result lowest-calls lowest-at lowest.Post lowest-Inv-loop lowest-μ-loop
   lowest-cast-result c =
-      let turn = c .before .before .before .before .before .before .before .before .before .before .before .before .before .before .before in
+      let mid = c .before .before .before .before .before .before .before in
+      let turn = mid .before .before .before .before .before .before .before .before in
       let lent = turn .before .before .before .before .before .pre .1 .0 .lent in
       record { fits = omega (arith, lent .few, turn .loop-test .taken) }
 
   lowest-same-length : lowest-lts.Need-same-length lowest-calls lowest-at lowest.Post lowest-Inv-loop lowest-μ-loop
   lowest-same-length c =
-      c .before .before .before .before .before .settled .kept .1 .1 .1 .0 ∙ c .before .before .before .before .before .before .before .before .before .before .before .before .before .before .before .before .loop .inv .2
+      let s = c .before .before .before .before .before in
+      s .settled .kept .1 .1 .1 .0 ∙ s .before .before .before .before .before .before .before .before .before .before .before .loop .inv .2
 
   lowest-same-length-2 :
       lowest-lts.Need-same-length-2 lowest-calls lowest-at lowest.Post lowest-Inv-loop lowest-μ-loop
   lowest-same-length-2 c =
-      c .before .before .before .before .before .settled .kept .1 .1 .1 .1 .0
-      ∙ (c .before .before .before .before .before .before .before .before .before .before .before .before .may-go .kept .1 .1 .1 .1 .1 .0 ∙ c .before .before .before .before .before .before .before .before .before .before .before .before .before .before .before .before .loop .inv .4)
+      let s = c .before .before .before .before .before in
+      let may = s .before .before .before .before .before .before .before in
+      s .settled .kept .1 .1 .1 .1 .0 ∙ (may .may-go .kept .1 .1 .1 .1 .1 .0 ∙ may .before .before .before .before .loop .inv .4)
 
   -- the first row that goes
   lowest-returns : lowest-lts.Need-returns lowest-calls lowest-at lowest.Post lowest-Inv-loop lowest-μ-loop
   lowest-returns c =
-      let turn = c .before .before .before .before .before .before .before .before .before .before .before .before .before .before .before in
+      let mid = c .before .before .before .before .before .before .before in
+      let turn = mid .before .before .before .before .before .before .before .before in
       let s = turn .before .before .before .before .before in
       let a = s .args in
       let x = turn .before .loop in
       let table = rowsOf (a .n) (a .rows .now) in
       let u = c .before .before .before .before .before .settled .ensures in
-      let may = c .before .before .before .before .before .before .before .before .before .before .before .before .may-go .ensures in
+      let mid = c .before .before .before .before .before .before in
+      let may = mid .before .before .before .before .before .before .may-go .ensures in
       let yes = c .before .before .before .before .before .before .before .before .before .if1 .taken in
       let there = sym (u .found-is) ∙ c .if2 .taken in
       let bit = c .before .before .before .before .before .before .before .before .power .ensures in
@@ -261,13 +268,16 @@ module _ (t : ℕ) where
 
   settled-slice-write-sets : settled-lts.Need-slice-write-sets settled-calls settled-at settled.Post
   settled-slice-write-sets c =
-      let s = c .before .before .before .before .before .before .before .before .before .before .before .before .before in
+      let mid = c .before .before .before .before .before .before in
+      let s = mid .before .before .before .before .before .before .before in
       let p = s .pre .1 .0 in
-      omega (arith, a-set (p .lent) (s .args .m) (p .set), c .before .before .before .before .lowest .ensures .recorded .room)
+      let w = c .before .before .before .before .lowest in
+      omega (arith, a-set (p .lent) (s .args .m) (p .set), w .ensures .recorded .room)
 
   settled-same-length : settled-lts.Need-same-length settled-calls settled-at settled.Post
   settled-same-length c =
-      let s = c .before .before .before .before .before .before .before .before .before .before .before .before .before in
+      let mid = c .before .before .before .before .before .before in
+      let s = mid .before .before .before .before .before .before .before in
       let w = c .before .before .before .before .lowest in
       length-set (w .last .1 .1 .1 .0) (s .args .m) (w .result) ∙ w .kept .1 .1 .1 .0
 
@@ -276,7 +286,8 @@ module _ (t : ℕ) where
 
   settled-returns-2 : settled-lts.Need-returns-2 settled-calls settled-at settled.Post
   settled-returns-2 c =
-      let s = c .before .before .before .before .before .before .before .before .before .before .before .before .before in
+      let mid = c .before .before .before .before .before .before in
+      let s = mid .before .before .before .before .before .before .before in
       let a = s .args in
       let p = s .pre .1 .0 in
       let w = c .before .before .before .before .lowest in

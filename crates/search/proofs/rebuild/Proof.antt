@@ -90,8 +90,8 @@ loop-again c =
     let x = test .before .loop in
     let a = test .before .before .before .before .before .args in
     let r = c .before .before .row-at in
-    let next = rebuilding-next (a .rows .now) (a .sets .now) (a .n) (a .m) (a .tasks .now) (x .tasks) (x .left) (x .rest)
-    (r .result) (test .loop-test .taken) (x .inv .0) (r .ensures) in
+    let next = rebuilding-next (a .rows .now) (a .sets .now) (a .n) (a .m) (a .tasks .now) (x .tasks) (x .left)
+    (x .rest) (r .result) (test .loop-test .taken) (x .inv .0) (r .ensures) in
     rw (c .power .ensures) (next, length-set (x .tasks) (x .left - 1) (r .result .task) ∙ x .inv .1)
 
 same-length : tie.Need-same-length Inv-loop μ-loop

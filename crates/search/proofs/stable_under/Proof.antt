@@ -88,7 +88,8 @@ returns c =
     let figures = c .figures-under .ensures above below (g .filled) (blocks .blocked-is below) in
     ap (λ (f : Figures). f .stable) figures
     ∙ stable-is (read .row-at .result) (take count above) below
-    ∙ ap (λ (rs : List Row). isStable (read .row-at .result) rs below) (take-all count above (omega (arith, g .counted)))
+    ∙ ap (λ (rs : List Row). isStable (read .row-at .result) rs below)
+    (take-all count above (omega (arith, g .counted)))
     ∙ ap (λ (x : Row). isStable x above below)
     (read .row-at .ensures ∙ sym (rows-at (s .args .n) (s .args .i) (s .args .rows .now) (s .pre .1)))
 
