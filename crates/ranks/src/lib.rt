@@ -23,6 +23,7 @@ use rows::Order;
 use rows::order_at;
 use rows::positions_for;
 use search::choose;
+use tables::BOARD;
 use tables::FEW_LINES;
 use tables::HEAD;
 use tables::LINES;
@@ -52,7 +53,7 @@ fn plan_text(text: &[u8], out: &mut [u8], numbers: &mut [u64]) -> Answer
         return Answer::refused(refused, reading.line);
     }
     let n = reading.count;
-    let board = numbers[0] as u16;
+    let board = numbers[BOARD] as u16;
     let rows = &numbers[HEAD..];
     let choice = choose(rows, n);
     if !choice.found {
@@ -85,7 +86,7 @@ fn review_text(text: &[u8], out: &mut [u8], numbers: &mut [u64]) -> Answer
         return Answer::refused(refused, reading.line);
     }
     let n = reading.count;
-    let board = numbers[0] as u16;
+    let board = numbers[BOARD] as u16;
     let order = order_at(numbers, HEAD + FIELDS * n, n);
     let rows = &numbers[HEAD..];
     plan_tasks(out, board, rows, n, order)

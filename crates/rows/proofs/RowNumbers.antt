@@ -145,12 +145,14 @@ past-all n ws = ap (λ m. rowsOf m ws) (sym (sub-zero n))
 
 -- whether a row from row i on has a task, where the rows begin at an index
 pub scan-task : (t n i start : ℕ) (ns : List ℕ) → i < n → let ws = drop start ns in
-    hasTask t (rowsPast n i ws) ≡ (eqb t (getD ns (start + fieldCount * i) 0) || hasTask t (rowsPast n (i + 1) ws))
+    hasTask t (rowsPast n i ws)
+    ≡ (eqb t (getD ns (start + fieldCount * i + taskAt) 0) || hasTask t (rowsPast n (i + 1) ws))
 scan-task t n i start ns h =
     let ws = drop start ns in
-    let there : fieldCount * i + 0 ≡ fieldCount * i = omega arith in
-    let task-is : rowIn ws i .task ≡ getD ns (start + fieldCount * i) 0 =
-    getD-drop (fieldCount * i) ws 0 0 ∙ ap (λ m. getD ws m 0) there ∙ getD-drop start ns (fieldCount * i) 0 in
+    let there : start + (fieldCount * i + taskAt) ≡ start + fieldCount * i + taskAt = omega arith in
+    let task-is : rowIn ws i .task ≡ getD ns (start + fieldCount * i + taskAt) 0 =
+    getD-drop (fieldCount * i) ws taskAt 0 ∙ getD-drop start ns (fieldCount * i + taskAt) 0
+    ∙ ap (λ m. getD ns m 0) there in
     ap (hasTask t) (past-next n i ws h) ∙ ap (λ v. eqb t v || hasTask t (rowsPast n (i + 1) ws)) task-is
 
 -- where a task stands from row i on: at the row, or later

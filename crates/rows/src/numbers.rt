@@ -135,7 +135,7 @@ pub fn has_task(numbers: &[u64], start: usize, count: usize, task: u64) -> bool
 {
     let mut i = 0;
     while i < count {
-        if task == numbers[start + FIELDS * i] {
+        if task == numbers[start + FIELDS * i + TASK] {
             return true;
         }
         i += 1;

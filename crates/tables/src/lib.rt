@@ -13,8 +13,10 @@ mod lines;
 mod progress;
 mod reader;
 
-// How many lines a table's head has.
+// How many lines a table's head has, and where its board stands.
 pub const HEAD: usize = 2;
+
+pub const BOARD: usize = 0;
 
 // A number for each line of the longest table with its rank lines.
 pub const LINES: usize = HEAD + FIELDS * MAX_TASKS + MAX_TASKS;

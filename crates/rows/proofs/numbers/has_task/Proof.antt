@@ -32,6 +32,9 @@ mul-if1 c = omega arith
 add-if1 : tie.Need-add-if1 Inv-loop μ-loop
 add-if1 c = omega arith
 
+add-if1-2 : tie.Need-add-if1-2 Inv-loop μ-loop
+add-if1-2 c = omega arith
+
 mul-if1-2 : tie.Need-mul-if1-2 Inv-loop μ-loop
 mul-if1-2 c = omega arith
 
@@ -78,6 +81,7 @@ has-task-spec =
     loop-holds
     mul-if1
     add-if1
+    add-if1-2
     mul-if1-2
     shared-slice-read-if1
     returns
