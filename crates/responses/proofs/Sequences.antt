@@ -147,8 +147,3 @@ latest-mono t xs ys below h le k =
     let least = least-least base (t .period) (map worstLoad xs) in
     let v = least (f .point) (f .some) (f .is-fixed) (omega (arith, f .below, w .1)) in
     (v .0, omega (arith, v .1, f .below))
-
--- one row less above
-pub latest-without : (t r : Row) (above below : List Row) → 1 ≤ cost t → 1 ≤ latest t (r ∷ above) below
-    → (1 ≤ latest t above below) × (latest t above below ≤ latest t (r ∷ above) below)
-latest-without t r above below h k = latest-mono t above (r ∷ above) below h (λ x. omega arith) k
