@@ -18,9 +18,6 @@ use Rattle.demands.specs.Calls.{onTable}
 pub same-refusal : {n m p q : ℕ} → refuses n p ≡ refuses m q → (n ≡ m) × (p ≡ q)
 same-refusal e = (cc, cc)
 
-pub same-text : {t u : List ℕ} → writes t ≡ writes u → t ≡ u
-same-text e = cc
-
 pub not-both : {t : List ℕ} {n p : ℕ} → writes t ≡ refuses n p → ⊥
 not-both e = let z : _≡_ {A = ℕ} 0 1 = cc in omega arith
 

@@ -21,7 +21,7 @@ use Rattle.responses.specs.Figures.{blocking, maxOthers, inLimits, figuresUnder
 use Rattle.responses.specs.Claims.{FiguresSay}
 use Rattle.responses.specs.declared.Figures.{Figures}
 use Rattle.responses.proofs.Responses.{limits-times, figured}
-use Rattle.responses.proofs.Sequences.{figures-permuted}
+use Rattle.responses.proofs.Sequences.{figures-permuted, figures-below}
 
 -- ---- few enough
 none-left : (a b c : Bool) → (a && (b && (c && false))) ≡ false
@@ -97,6 +97,7 @@ say t above below us us′ ls ls′ x upper put lower put′ e = record {
   answer = is;
   by-formulas = λ h. let k = limits-times t above below h in figured t above below (k .0) (k .1);
   any-sequence = λ above′ below′ p q. is ∙ figures-permuted t p q;
+  not-by-below = λ below′ h. is ∙ figures-below t above below below′ h;
 }
   where
     n : ℕ

@@ -1,5 +1,6 @@
 -- The figures depend on the rows above only through their interference, and on those below only through the blocking
--- time: so on which rows they are, and not on their sequence. W does not fall as interference grows.
+-- time: so on which rows they are, and not on their sequence; and on none below, since today's blocking time counts
+-- none. W does not fall as interference grows.
 use mathlib.Core.Path.{_≡_, refl, ap, ap₂, sym, _∙_, fun-ext}
 use mathlib.Core.Bool.{Bool, true, false, _&&_, not, Bool-set}
 use lib.IntN.{pos}
@@ -20,8 +21,8 @@ use Rattle.responses.specs.Extremes.{smallest, largest}
 use Rattle.responses.specs.Interference.{ceiling, Load, interference}
 use Rattle.responses.specs.Figures.{worstLoad, bestLoad, worstIn, bestIn, blocking, latest, earliest}
 use Rattle.responses.specs.Figures.{marginAt, lateFigures, noFigures}
-use Rattle.responses.specs.Figures.{figuresAt, figuresUnder, maxOthers, figuresOf}
-use Rattle.responses.specs.Claims.{SameFigures, BySet}
+use Rattle.responses.specs.Figures.{figuresAt, figuresUnder, maxOthers, inLimits, figuresOf}
+use Rattle.responses.specs.Claims.{SameFigures, BySet, NotByBelow}
 use Rattle.responses.proofs.FixedPoints.{fixed-below, demand-mono, least-fixed, least-least}
 
 -- rows above, xs or ys, and rows below, bs or cs, that count the same
@@ -113,6 +114,26 @@ figures-permuted t p q =
     let limits = ap₂ (λ (a b : Bool). inRange t && (a && b)) (all-permuted inRange p) rest in
     ap₂ (λ (b : Bool) (x : Figures). pick b x noFigures) limits (figures-same t (same-permuted p q))
 
+-- ---- other rows below: the blocking time counts none of them
+blocking-below : (bs cs : List Row) → blocking bs ≡ blocking cs
+unfolding blocking
+blocking-below bs cs = refl
+
+same-below : (above bs cs : List Row) → Same above above bs cs
+same-below above bs cs = record {
+  worst-same = λ x. refl;
+  best-same = λ x. refl;
+  blocking-same = blocking-below bs cs;
+}
+
+pub not-by-below : NotByBelow
+not-by-below t above below below′ = same-figures t (same-below above below below′)
+
+pub figures-below : (t : Row) (above bs cs : List Row) → inLimits t above bs ≡ inLimits t above cs
+    → figuresOf t above bs ≡ figuresOf t above cs
+figures-below t above bs cs limits =
+    ap₂ (λ (b : Bool) (x : Figures). pick b x noFigures) limits (figures-same t (same-below above bs cs))
+
 -- ---- more interference: a task that is not late under ys is not late under xs, and W is no larger
 pub latest-mono : (t : Row) (xs ys below : List Row) → 1 ≤ cost t → ((x : ℕ) → worstIn x xs ≤ worstIn x ys)
     → 1 ≤ latest t ys below → (1 ≤ latest t xs below) × (latest t xs below ≤ latest t ys below)
@@ -126,8 +147,3 @@ latest-mono t xs ys below h le k =
     let least = least-least base (t .period) (map worstLoad xs) in
     let v = least (f .point) (f .some) (f .is-fixed) (omega (arith, f .below, w .1)) in
     (v .0, omega (arith, v .1, f .below))
-
--- one row less above
-pub latest-without : (t r : Row) (above below : List Row) → 1 ≤ cost t → 1 ≤ latest t (r ∷ above) below
-    → (1 ≤ latest t above below) × (latest t above below ≤ latest t (r ∷ above) below)
-latest-without t r above below h k = latest-mono t above (r ∷ above) below h (λ x. omega arith) k

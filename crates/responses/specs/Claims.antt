@@ -1,5 +1,5 @@
 -- What is claimed of the figures: they are those of the published formulas (demand 2),
--- and the rows above and below count as sets.
+-- the rows above and below count as sets, and today those below not at all.
 use mathlib.Core.Path.{_≡_}
 use mathlib.Core.Bool.{true, false}
 use mathlib.Core.List.{List, Perm}
@@ -69,6 +69,10 @@ BySet =
     (t : Row) (above above′ below below′ : List Row) → Perm above above′ → Perm below below′
     → SameFigures t above above′ below below′
 
+-- today no row below counts
+abbrev pub NotByBelow : Type 0
+NotByBelow = (t : Row) (above below below′ : List Row) → SameFigures t above above below below′
+
 -- ---- what a call that answers a row's figures promises
 pub record FiguresSay (t : Row) (above below : List Row) (x : Figures) : Type 0 where
   pub answer : x ≡ figuresOf t above below
@@ -77,3 +81,6 @@ pub record FiguresSay (t : Row) (above below : List Row) (x : Figures) : Type 0 
   -- not by the sequence of the rows
   pub any-sequence :
       (above′ below′ : List Row) → Perm above above′ → Perm below below′ → x ≡ figuresOf t above′ below′
+  -- not by the rows below, where these are as much in the limits
+  pub not-by-below :
+      (below′ : List Row) → inLimits t above below ≡ inLimits t above below′ → x ≡ figuresOf t above below′

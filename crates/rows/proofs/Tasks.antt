@@ -58,10 +58,6 @@ row-at : (t : ℕ) (rs : List Row) → rowAt rs (positionOf t (tasksOf rs)) ≡ 
 row-at t [] = refl
 row-at t (r ∷ rs) = first-or (eqb t (r .task)) r rs _ _ (row-at t rs)
 
-pub for-length : (ts : List ℕ) (rs : List Row) → length (rowsFor ts rs) ≡ length ts
-for-length [] rs = refl
-for-length (t ∷ ts) rs = ap suc (for-length ts rs)
-
 -- ---- where some tasks stand among some rows
 pub positions-last : (ts : List ℕ) (t : ℕ) (rs : List Row)
     → positionsFor (ts ++ (t ∷ [])) rs ≡ positionsFor ts rs ++ (positionOf t (tasksOf rs) ∷ [])
