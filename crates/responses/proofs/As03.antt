@@ -191,7 +191,8 @@ Say ok late w e j m s x =
 
 abbrev pub FiguresSay : Row → List Row → List Row → Figures → Type 0
 FiguresSay t rs below x =
-    Say (F.inLimits t rs below) (isLate t rs) (latest t rs) (earliest t rs) (jitter t rs) (margin t rs) (isStable t rs) x
+    Say (F.inLimits t rs below) (isLate t rs) (latest t rs) (earliest t rs) (jitter t rs) (margin t rs) (isStable t rs)
+    x
 
 -- by cases: rows out of the limits, a row that is late, and one that is not
 said : (ok l l′ : Bool) (w w′ e e′ : ℕ) (m m′ : ℤ) (s : Bool)

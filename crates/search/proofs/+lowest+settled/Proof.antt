@@ -143,14 +143,16 @@ module _ (t : ℕ) where
   lowest-same-length : lowest-lts.Need-same-length lowest-calls lowest-at lowest.Post lowest-Inv-loop lowest-μ-loop
   lowest-same-length c =
       let s = c .before .before .before .before .before in
-      s .settled .kept .1 .1 .1 .0 ∙ s .before .before .before .before .before .before .before .before .before .before .before .loop .inv .2
+      let x = s .before .before .before .before .before .before .before .before .before .before .before .loop in
+      s .settled .kept .1 .1 .1 .0 ∙ x .inv .2
 
   lowest-same-length-2 :
       lowest-lts.Need-same-length-2 lowest-calls lowest-at lowest.Post lowest-Inv-loop lowest-μ-loop
   lowest-same-length-2 c =
       let s = c .before .before .before .before .before in
       let may = s .before .before .before .before .before .before .before in
-      s .settled .kept .1 .1 .1 .1 .0 ∙ (may .may-go .kept .1 .1 .1 .1 .1 .0 ∙ may .before .before .before .before .loop .inv .4)
+      let x = may .before .before .before .before .loop in
+      s .settled .kept .1 .1 .1 .1 .0 ∙ (may .may-go .kept .1 .1 .1 .1 .1 .0 ∙ x .inv .4)
 
   -- the first row that goes
   lowest-returns : lowest-lts.Need-returns lowest-calls lowest-at lowest.Post lowest-Inv-loop lowest-μ-loop
