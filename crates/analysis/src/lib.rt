@@ -32,12 +32,12 @@ fn late_figures() -> Figures
     }
 }
 
-// x / p rounded up.
+// x / p rounded up. Both have room in 32 bits, where division is faster than in 64.
 fn ceil(x: u64, p: u64) -> u64
     requires { ⌜ (x ≤ maxTicks) × (1 ≤ p) × (p ≤ maxTicks) ⌝ }
     ensures { λ r. ⌜ r ≡ ceiling x p ⌝ }
 {
-    (x + (p - 1)) / p
+    ((x + (p - 1)) as u32 / p as u32) as u64
 }
 
 // The ticks that the first n tasks of the columns take from a window, less some jobs of each.

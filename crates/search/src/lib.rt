@@ -26,12 +26,18 @@ const SETS: usize = 1 << MAX_TASKS;
 // Room for the columns of a set's rows.
 const COLUMNS: usize = 3 * MAX_TASKS;
 
-// Few tasks, how many sets of them there are, and room for their columns.
+// Few tasks, how many sets of them there are, and room for their columns; and the same of some more.
 const FEW_TASKS: usize = 6;
 
 const FEW_SETS: usize = 1 << FEW_TASKS;
 
 const FEW_COLUMNS: usize = 3 * FEW_TASKS;
+
+const SOME_TASKS: usize = 9;
+
+const SOME_SETS: usize = 1 << SOME_TASKS;
+
+const SOME_COLUMNS: usize = 3 * SOME_TASKS;
 
 // A byte of the record of sets that is no row: the set isn't known yet, or has no order.
 const UNKNOWN: u8 = 254;
@@ -183,7 +189,7 @@ fn order_with(rows: &[u64], n: usize, sets: &mut [u8], columns: &mut [u64]) -> C
     }
 }
 
-// The order of n rows by the rule. Few rows have few sets, and a short record is soon filled.
+// The order of n rows by the rule. Fewer rows have fewer sets, and a shorter record is sooner filled.
 pub fn choose(rows: &[u64], n: usize) -> Choice
     requires { ⌜ Lent n (now rows) ⌝ }
     ensures { λ r. ⌜ Chooses (rowsOf n (now (rows .entry))) r ⌝ }
@@ -192,6 +198,11 @@ pub fn choose(rows: &[u64], n: usize) -> Choice
         let mut few = [UNKNOWN; FEW_SETS];
         let mut columns = [0u64; FEW_COLUMNS];
         return order_with(rows, n, &mut few, &mut columns);
+    }
+    if n <= SOME_TASKS {
+        let mut some = [UNKNOWN; SOME_SETS];
+        let mut columns = [0u64; SOME_COLUMNS];
+        return order_with(rows, n, &mut some, &mut columns);
     }
     let mut sets = [UNKNOWN; SETS];
     let mut columns = [0u64; COLUMNS];

@@ -1,5 +1,5 @@
--- `choose` meets its contract: the record of sets, for few rows or for many, has room for their sets, and has none of
--- them yet.
+-- `choose` meets its contract: the record of sets, by the number of rows, has room for their sets, and has none of them
+-- yet.
 use mathlib.Core.Path.{sym}
 use Prim.Native.Nat.{ℕ, _^_}
 use native.Mathlib.Omega.{arith}
@@ -12,9 +12,12 @@ use Rattle.search.proofs.Record.{fresh}
 use Rattle.search.proofs.choose.Statement.{statement}
 use Rattle.search.proofs.choose.Tie as tie
 
--- the rows that the short record has room for
+-- the rows that the shorter records have room for
 abbrev fewTasks : ℕ
 fewTasks = 6
+
+abbrev someTasks : ℕ
+someTasks = 9
 
 slice-aggregate-order-with : tie.Need-slice-aggregate-order-with
 slice-aggregate-order-with c = search needs
@@ -32,18 +35,33 @@ returns : tie.Need-returns
 returns c = search needs
 
 slice-aggregate-order-with-3 : tie.Need-slice-aggregate-order-with-3
-slice-aggregate-order-with-3 c = sym (length-replicate {A = ℕ} (2 ^ maxTasks) unknown)
+slice-aggregate-order-with-3 c = sym (length-replicate {A = ℕ} (2 ^ someTasks) unknown)
 
 slice-aggregate-order-with-4 : tie.Need-slice-aggregate-order-with-4
 slice-aggregate-order-with-4 c = search needs
 
 order-with-requires-2 : tie.Need-order-with-requires-2
 order-with-requires-2 c κs =
-    let s = c .before .before .before .before in
-    (s .pre, fresh (s .args .n) (2 ^ maxTasks) (pow-mono (s .pre .few)), omega (arith, s .pre .few))
+    let s = c .before .before .before .before .before in
+    let few = c .before .before .if2 .taken in
+    (s .pre, fresh (s .args .n) (2 ^ someTasks) (pow-mono few), omega (arith, few))
 
 returns-2 : tie.Need-returns-2
 returns-2 c = search needs
+
+slice-aggregate-order-with-5 : tie.Need-slice-aggregate-order-with-5
+slice-aggregate-order-with-5 c = sym (length-replicate {A = ℕ} (2 ^ maxTasks) unknown)
+
+slice-aggregate-order-with-6 : tie.Need-slice-aggregate-order-with-6
+slice-aggregate-order-with-6 c = search needs
+
+order-with-requires-3 : tie.Need-order-with-requires-3
+order-with-requires-3 c κs =
+    let s = c .before .before .before .before .before in
+    (s .pre, fresh (s .args .n) (2 ^ maxTasks) (pow-mono (s .pre .few)), omega (arith, s .pre .few))
+
+returns-3 : tie.Need-returns-3
+returns-3 c = search needs
 
 pub choose-spec : {M : Type 1} → statement M
 choose-spec =
@@ -56,4 +74,8 @@ choose-spec =
     slice-aggregate-order-with-3
     slice-aggregate-order-with-4
     order-with-requires-2
-    returns-2)
+    returns-2
+    slice-aggregate-order-with-5
+    slice-aggregate-order-with-6
+    order-with-requires-3
+    returns-3)
