@@ -4,7 +4,7 @@ use mathlib.Core.Path.{_≡_, refl, sym, ap, _∙_}
 use mathlib.Core.Bool.{Bool, true, false}
 use mathlib.Core.List.{List, [], _∷_, _++_, append-nil}
 use mathlib.Core.Logic.{inl, inr}
-use Prim.Native.Nat.{ℕ, zero, suc, _+_, _-_, _*_, _^_, _≤_, _<_}
+use Prim.Native.Nat.{ℕ, zero, suc, _+_, _-_, _*_, _%_, _^_, _≤_, _<_}
 use native.Mathlib.Nat.{pow-le-pow-right}
 use native.Mathlib.Omega.{arith}
 use borrow.Author.Tests.{ne-eqb, le-leb, lt-leb}
@@ -59,20 +59,27 @@ digits-line (suc k) v w (b ∷ s) e = elim (test-of (within digitZero digitNine 
 ]
 
 -- no digit
-pub not-low : (b : ℕ) → b < digitZero → within digitZero digitNine b ≡ false
+not-low : (b : ℕ) → b < digitZero → within digitZero digitNine b ≡ false
 not-low b h = simp (lt-leb digitZero b h)
 
-pub not-high : (b : ℕ) → digitNine < b → within digitZero digitNine b ≡ false
+not-high : (b : ℕ) → digitNine < b → within digitZero digitNine b ≡ false
 not-high b h = simp (le-leb digitZero b (omega arith), lt-leb b digitNine h)
 
+-- so a byte less the digit zero, modulo 256, is above 9
+pub no-digit : (b d : ℕ) → (d + digitZero) % 256 ≡ b → 9 < d → d < 256 → within digitZero digitNine b ≡ false
+no-digit b d e h l = elim (le-or-lt (256 - digitZero) d) [
+  | inl low ↦ not-low b (omega arith)
+  | inr high ↦ not-high b (omega arith)
+]
+
 -- one digit more
-pub digits-next : (s : List ℕ) (i w : ℕ) → i < length s → digitsFrom 0 (take i s) ≡ Value w
-    → digitZero ≤ getD s i 0 → getD s i 0 ≤ digitNine
-    → digitsFrom 0 (take (suc i) s) ≡ Value (10 * w + (getD s i 0 - digitZero))
-digits-next s i w h e l g =
+pub digits-next : (s : List ℕ) (i w d : ℕ) → i < length s → digitsFrom 0 (take i s) ≡ Value w
+    → getD s i 0 ≡ digitZero + d → d ≤ 9 → digitsFrom 0 (take (suc i) s) ≡ Value (10 * w + d)
+digits-next s i w d h e is l =
     ap (digitsFrom 0) (take-suc s i 0 h)
     ∙ digits-append 0 w (take i s) (getD s i 0 ∷ []) e
-    ∙ rw (true-within digitZero digitNine (getD s i 0) l g, digitsFrom)
+    ∙ rw (is, true-within digitZero digitNine (digitZero + d) (omega arith) (omega arith), digitsFrom)
+    (ap Value (omega arith))
 
 -- a long number has as many digits as any
 long-front : (k v : ℕ) → Front-specs.long ≤ v → v < 10 ^ k → maxDigits ≤ k

@@ -18,6 +18,7 @@ ghost use Rattle.text.specs.Lines.{lineOf, begins, numberOf};
 ghost use Rattle.text.specs.Lines.{lineAt, endAt};
 ghost use Rattle.text.specs.inside.Fronts.{Fronts};
 use basics::within;
+use std::num::wrapping_sub_u8;
 
 // What the reading of one line answers: its number and the offset after it, the end of the text where nothing is
 // expected, or a refusal with its number and its line.
@@ -89,17 +90,15 @@ fn digits_at(s: &[u8]) -> Front
     let mut value: u64 = 0;
     let mut i = 0;
     while i < s.len() {
-        let b = s[i];
-        if b < b'0' {
-            return Front { value, size: i };
-        }
-        if b'9' < b {
+        // Modulo 256, so that a byte below the digits is past 9 too.
+        let digit = wrapping_sub_u8(s[i], b'0');
+        if 9 < digit {
             return Front { value, size: i };
         }
         if LONG <= value {
             return Front { value, size: i };
         }
-        value = 10 * value + (b - b'0') as u64;
+        value = 10 * value + digit as u64;
         i += 1;
     }
     Front { value, size: i }

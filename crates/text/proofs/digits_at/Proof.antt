@@ -4,9 +4,10 @@ use Prim.Native.Nat.{ℕ, _-_, _^_, _≤_, _<_}
 use native.Mathlib.Omega.{arith}
 use native.Mathlib.Numerals.{add-one}
 use lib.ListN.{length, getD, take}
+use borrow.Author.Needs.{needs}
 use Rattle.text.specs.declared.Digits.the-variants.{Value}
 use Rattle.text.specs.Lines.{digitsFrom}
-use Rattle.text.proofs.Fronts.{digits-next, not-low, not-high}
+use Rattle.text.proofs.Fronts.{digits-next, no-digit}
 use Rattle.text.proofs.digits_at.Statement.{statement}
 use Rattle.text.proofs.digits_at.Tie as tie
 
@@ -20,39 +21,32 @@ abbrev μ-loop : tie.MeasureT-loop
 loop-holds : tie.Need-loop-holds Inv-loop μ-loop
 loop-holds c = (omega arith, omega arith, refl)
 
-shared-slice-read-b : tie.Need-shared-slice-read-b Inv-loop μ-loop
-shared-slice-read-b c = omega arith
+shared-slice-read-wrapping-sub-u8 : tie.Need-shared-slice-read-wrapping-sub-u8 Inv-loop μ-loop
+shared-slice-read-wrapping-sub-u8 c = omega arith
+
+wrapping-sub-u8-requires : tie.Need-wrapping-sub-u8-requires Inv-loop μ-loop
+wrapping-sub-u8-requires c κs = search needs
 
 returns : tie.Need-returns Inv-loop μ-loop
 returns c =
-    let s = c .before .before .before .before .args .s .now in
-    let x = c .before .before .before .loop in
+    let s = c .before .before .before .before .before .before .args .s .now in
+    let x = c .before .before .before .before .loop in
+    let d = c .before .wrapping-sub-u8 in
     record {
       there = x .inv .0;
       small = x .inv .1;
       digits = x .inv .2;
-      stopped = λ h l. not-low (getD s (x .i) 0) (c .if1 .taken);
+      stopped = λ h l. no-digit (getD s (x .i) 0) (d .result) (d .ensures) (omega arith) (omega arith);
     }
 
 returns-2 : tie.Need-returns-2 Inv-loop μ-loop
 returns-2 c =
-    let s = c .before .before .before .before .before .args .s .now in
-    let x = c .before .before .before .before .loop in
-    record {
-      there = x .inv .0;
-      small = x .inv .1;
-      digits = x .inv .2;
-      stopped = λ h l. not-high (getD s (x .i) 0) (c .if2 .taken);
-    }
-
-returns-3 : tie.Need-returns-3 Inv-loop μ-loop
-returns-3 c =
     let x = c .before .before .before .before .before .loop in
     record {
       there = x .inv .0;
       small = x .inv .1;
       digits = x .inv .2;
-      stopped = λ h l. absurd (omega (arith, l, c .if3 .taken));
+      stopped = λ h l. absurd (omega (arith, l, c .if2 .taken));
     }
 
 mul-value : tie.Need-mul-value Inv-loop μ-loop
@@ -72,16 +66,17 @@ loop-less c = omega arith
 
 loop-again : tie.Need-loop-again Inv-loop μ-loop
 loop-again c =
-    let s = c .before .before .before .before .before .before .args .s .now in
+    let s = c .before .before .before .before .before .before .before .args .s .now in
     let x = c .before .before .before .before .before .loop in
+    let d = c .before .before .wrapping-sub-u8 in
     rw (add-one (x .i)) (
       omega arith,
       omega arith,
-      digits-next s (x .i) (x .value) (omega arith) (x .inv .2) (omega arith) (omega arith),
+      digits-next s (x .i) (x .value) (d .result) (omega arith) (x .inv .2) (omega (arith, d .ensures)) (omega arith),
     )
 
-returns-4 : tie.Need-returns-4 Inv-loop μ-loop
-returns-4 c =
+returns-3 : tie.Need-returns-3 Inv-loop μ-loop
+returns-3 c =
     let x = c .before .loop in
     record {
       there = x .inv .0;
@@ -97,14 +92,14 @@ digits-at-spec =
     Inv-loop
     μ-loop
     loop-holds
-    shared-slice-read-b
+    shared-slice-read-wrapping-sub-u8
+    wrapping-sub-u8-requires
     returns
     returns-2
-    returns-3
     mul-value
     cast-value
     add-value
     add-i
     loop-less
     loop-again
-    returns-4)
+    returns-3)
