@@ -60,11 +60,14 @@ module _ (P : ℕ → Type 0) (one : (v : ℕ) → v < 10 → P v) (more : (v : 
   by-digits v = below (suc v) v (omega arith)
 
 -- ---- how long it is
+pub decimal-longer : (v : ℕ) → 10 ≤ v → length (decimal v) ≡ suc (length (decimal (v / 10)))
+decimal-longer v h = rw (decimal-more v h) (simp length-append (omega arith))
+
 pub decimal-some : (v : ℕ) → 1 ≤ length (decimal v)
 decimal-some v =
     elim (test-of (ltb v 10)) [
       | inl e ↦ rw (decimal-one v (ltb-true v 10 e)) (omega arith)
-      | inr e ↦ rw (decimal-more v (ltb-false v 10 e)) (simp length-append (omega arith))
+      | inr e ↦ omega (arith, decimal-longer v (ltb-false v 10 e))
     ]
 
 pub decimal-short : (v k : ℕ) → v < 10 ^ suc k → length (decimal v) ≤ suc k
@@ -77,8 +80,7 @@ decimal-short = by-digits (λ v. (k : ℕ) → v < 10 ^ suc k → length (decima
         → (k : ℕ) → v < 10 ^ suc k → length (decimal v) ≤ suc k
     longer v h ih zero b = absurd (omega arith)
     longer v h ih (suc k) b =
-        rw (decimal-more v h)
-        (simp length-append (omega (arith, ih k (omega (arith, pow-succ' 10 (suc k))))))
+        omega (arith, decimal-longer v h, ih k (omega (arith, pow-succ' 10 (suc k))))
 
 -- ---- it reads back
 read-on : (v : ℕ) (s : List ℕ) (n d : ℕ) → d < 10 → digitsFrom v s ≡ Value n
@@ -173,8 +175,7 @@ decimal-below = by-digits (λ v. (k : ℕ) → length (decimal v) ≤ k → v < 
         → (k : ℕ) → length (decimal v) ≤ k → v < 10 ^ k
     more v h ih zero b = absurd (omega (arith, decimal-some v))
     more v h ih (suc k) b =
-        let long : length (decimal v) ≡ length (decimal (v / 10)) + 1 =
-        ap length (decimal-more v h) ∙ length-append (decimal (v / 10)) (last v) in
+        let long = decimal-longer v h in
         omega (arith, ih k (omega arith), pow-succ' 10 k)
 
 -- digits with no leading zero, or 0 itself

@@ -2,11 +2,12 @@
 -- A text put at an offset splits the buffer in three, and the next text starts where the first ends.
 use mathlib.Core.Path.{_≡_, refl, sym, ap, ap₂, _∙_}
 use mathlib.Core.List.{List, [], _∷_, _++_, append-assoc, append-nil}
-use Prim.Native.Nat.{ℕ, _+_, _≤_}
+use Prim.Native.Nat.{ℕ, suc, _+_, _≤_, _<_}
 use native.Mathlib.Nat.{zero-add, add-zero}
 use native.Mathlib.Omega.{arith}
-use lib.ListN.{length, take, drop, length-append, length-take, length-drop, take-append-drop}
-use lib.Seq.{take-at, take-append-seam, drop-append-add, drop-drop}
+use lib.ListN.{length, set, take, drop, length-append, length-take, length-drop, take-append-drop}
+use lib.Seq.{take-at, drop-at, take-append-seam, drop-append-add, drop-drop, append-snoc}
+use lib.Seq.{length-take-le, set-split, take-set-le}
 use Rattle.io.specs.Counts.{Counts}
 use Rattle.text.specs.Text.{joined}
 use Rattle.text.specs.Buffers.{Wrote}
@@ -41,8 +42,19 @@ put-next {t} {u} {o} {at = at} room p q = record {
   holds = q .holds ∙ ap₂ (λ k l. put k u l) (p .ends) (p .holds) ∙ put-put at t u o (room-first at t u o room);
 }
 
-nothing-is : (at : ℕ) (o : List ℕ) → put at [] o ≡ o
+pub nothing-is : (at : ℕ) (o : List ℕ) → put at [] o ≡ o
 nothing-is at o = rw (append-nil (take at o), add-zero at) (take-append-drop at o)
+
+-- a text put before a byte that is set is both
+pub put-set : (at : ℕ) (t o : List ℕ) (i x : ℕ) → i ≡ at + length t → i < length o
+    → put at t (set o i x) ≡ put at (t ++ (x ∷ [])) o
+put-set at t o i x is room =
+    let front = take-set-le at o i x (omega arith) in
+    let rest = ap (drop i) (set-split o i x room) ∙ drop-at (take i o) _ i (length-take-le i o (omega arith)) in
+    let long : suc i ≡ at + length (t ++ (x ∷ [])) = omega (arith, length-append t (x ∷ [])) in
+    ap₂ (λ l r. l ++ t ++ r) front (ap (λ k. drop k (set o i x)) (sym is) ∙ rest)
+    ∙ sym (append-snoc (take at o ++ t) x (drop (suc i) o))
+    ∙ ap₂ (λ l k. l ++ drop k o) (append-assoc (take at o) t (x ∷ [])) long
 
 -- the buffer keeps its length
 keeps : {t o o′ : List ℕ} {at n : ℕ} → at + length t ≤ length o → Put t at o o′ n → length o′ ≡ length o

@@ -1,51 +1,34 @@
--- What the writers spell is what the definitions say: `io`'s fewest digits of a number are its decimal, and a number
--- below 0 is a sign and its size. How long a line is.
-use mathlib.Core.Path.{_≡_, refl, sym, ap, ap₂, _∙_}
+-- What the writers spell is what the definitions say: digits put from the last to the first are a number's decimal, and
+-- a number below 0 is a sign and its size. How long a line is.
+use mathlib.Core.Path.{_≡_, refl, sym, ap, _∙_}
 use mathlib.Core.Bool.{true, false}
 use mathlib.Core.List.{List, [], _∷_, _++_}
-use Prim.Native.Nat.{ℕ, zero, suc, _+_, _-_, _/_, _%_, _^_, _≤_, _<_}
-use native.Mathlib.Nat.{pow-succ', one-le-pow}
+use Prim.Native.Nat.{ℕ, suc, _+_, _/_, _%_, _≤_, _<_}
 use native.Mathlib.Omega.{arith}
 use lib.IntN.{ℤ, pos, negsuc, natAbs}
-use lib.ListN.{length, length-append}
+use lib.ListN.{length, set, length-append}
 use lib.Signed.{ltZ}
-use borrow.Author.Tests.{lt-ltb, ltb-true}
-use Rattle.io.specs.Digits as Io
-use Rattle.text.specs.Text.{bytes, decimal, signed, keyLine}
-use Rattle.text.proofs.Decimals.{decimal-one, decimal-more, by-digits}
+use borrow.Author.Tests.{ltb-true}
+use Rattle.text.specs.Text.{digitZero, bytes, decimal, signed, keyLine}
+use Rattle.text.specs.inside.Puts.{put}
+use Rattle.text.proofs.Decimals.{decimal-one, decimal-more, decimal-longer}
+use Rattle.text.proofs.Puts.{nothing-is, put-set}
 
--- ---- digits
-pub spelt : (v k : ℕ) → Io.Fewest 10 1 v k → Io.digits 10 k v ≡ decimal v
-spelt = by-digits (λ v. (k : ℕ) → Io.Fewest 10 1 v k → Io.digits 10 k v ≡ decimal v) one more
-  where
-    one-less : (k : ℕ) → 10 ^ (suc k - 1) ≡ 10 ^ k
-    one-less k = ap (λ j. 10 ^ j) (omega arith)
+-- ---- digits: a byte is set where a number's last digit belongs
+module _ (at v : ℕ) (o : List ℕ) {i x : ℕ} (is : suc i ≡ at + length (decimal v)) (room : i < length o) where
+  -- once the digits before it are put, all are
+  pub put-last : 10 ≤ v → x ≡ digitZero + v % 10 → put at (decimal (v / 10)) (set o i x) ≡ put at (decimal v) o
+  put-last h e =
+      put-set at (decimal (v / 10)) o i x (omega (arith, decimal-longer v h)) room
+      ∙ ap (λ t. put at t o) (ap (λ d. decimal (v / 10) ++ (d ∷ [])) e ∙ sym (decimal-more v h))
 
-    tail : {v k : ℕ} → Io.Fewest 10 1 v (suc (suc k)) → 10 ^ suc k ≤ v
-    tail {v} {k} f = omega (arith, f .2 (omega arith), one-less (suc k))
-
-    glyph-is : (v : ℕ) → Io.glyph (v % 10) ≡ 48 + v % 10
-    glyph-is v = rw (lt-ltb (v % 10) 10 (omega arith))
-
-    one : (v : ℕ) → v < 10 → (k : ℕ) → Io.Fewest 10 1 v k → Io.digits 10 k v ≡ decimal v
-    one v h zero f = absurd (omega (arith, f .0))
-    one v h (suc zero) f = ap (λ d. d ∷ []) (glyph-is v) ∙ sym (decimal-one v h)
-    one v h (suc (suc k)) f = absurd (omega (arith, tail f, pow-succ' 10 k, one-le-pow k 10 (omega arith)))
-
-    more :
-        (v : ℕ) → 10 ≤ v → ((k : ℕ) → Io.Fewest 10 1 (v / 10) k → Io.digits 10 k (v / 10) ≡ decimal (v / 10))
-        → (k : ℕ) → Io.Fewest 10 1 v k → Io.digits 10 k v ≡ decimal v
-    more v h ih zero f = absurd (omega (arith, f .0))
-    more v h ih (suc zero) f = absurd (omega (arith, f .1))
-    more v h ih (suc (suc k)) f =
-        ap₂ (λ xs d. xs ++ (d ∷ [])) (ih (suc k) fewer) (glyph-is v) ∙ sym (decimal-more v h)
-      where
-        fewer : Io.Fewest 10 1 (v / 10) (suc k)
-        fewer = (
-          omega arith,
-          omega (arith, f .1, pow-succ' 10 (suc k)),
-          λ l. omega (arith, tail f, pow-succ' 10 k, one-less k),
-        )
+  -- and a lone digit is all
+  pub put-only : v < 10 → x ≡ digitZero + v → set o i x ≡ put at (decimal v) o
+  put-only h e =
+      let one : (x ∷ []) ≡ decimal v = ap (λ d. d ∷ []) (omega arith) ∙ sym (decimal-one v h) in
+      sym (nothing-is at (set o i x))
+      ∙ put-set at [] o i x (omega (arith, ap length one)) room
+      ∙ ap (λ t. put at t o) one
 
 -- ---- signed numbers
 pub below-0 : (z : ℤ) → ltZ z (pos 0) ≡ true → (n : ℕ) × (z ≡ negsuc n)

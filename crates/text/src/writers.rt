@@ -1,9 +1,9 @@
 // Text out: each writer puts its text at an offset of a lent buffer and says where the text ends.
 ghost use mathlib.Core.Path.{_≡_};
-ghost use Prim.Native.Nat.{_+_, _≤_};
+ghost use Prim.Native.Nat.{_+_, _≤_, _<_};
 ghost use lib.IntN.{natAbs};
 ghost use lib.ListN.{length};
-ghost use Rattle.text.specs.Text.{decimal, signed, keyLine};
+ghost use Rattle.text.specs.Text.{digitZero, decimal, signed, keyLine};
 ghost use Rattle.text.specs.inside.Puts.{Put};
 
 pub fn put_bytes(out: &mut [u8], at: usize, text: &[u8]) -> usize
@@ -18,13 +18,42 @@ pub fn put_bytes(out: &mut [u8], at: usize, text: &[u8]) -> usize
     at + i
 }
 
+// How many digits a number has.
+fn places(n: u64) -> usize
+    ensures { λ r. ⌜ r ≡ length (decimal n) ⌝ }
+{
+    let mut k = 1;
+    let mut rest = n;
+    while 9 < rest {
+        rest = rest / 10;
+        k += 1;
+    }
+    k
+}
+
+// The byte of a digit.
+fn digit(d: u64) -> u8
+    requires { ⌜ d < 10 ⌝ }
+    ensures { λ r. ⌜ r ≡ digitZero + d ⌝ }
+{
+    b'0' + d as u8
+}
+
+// The digits are put from the last to the first.
 pub fn put_number(out: &mut [u8], at: usize, n: u64) -> usize
     requires { ⌜ at + length (decimal n) ≤ length (now out) ⌝ }
     ensures { λ r. ⌜ Put (decimal n) at (now (out .entry)) (now (out .exit)) r ⌝ }
 {
-    let mut digits = [0u8; 20];
-    let k = io::decimal(n, &mut digits);
-    put_bytes(out, at, &digits[..k])
+    let end = at + places(n);
+    let mut i = end - 1;
+    let mut rest = n;
+    while 9 < rest {
+        out[i] = digit(rest % 10);
+        rest = rest / 10;
+        i -= 1;
+    }
+    out[i] = digit(rest);
+    end
 }
 
 // The size of a number, the lowest i64 too.
