@@ -32,11 +32,15 @@ fn late_figures() -> Figures
     }
 }
 
-// x / p rounded up. Both have room in 32 bits, where division is faster than in 64.
+// x / p rounded up. A window is often within the period, and a test is faster than a division; both have room in 32
+// bits, where division is faster than in 64.
 fn ceil(x: u64, p: u64) -> u64
-    requires { ⌜ (x ≤ maxTicks) × (1 ≤ p) × (p ≤ maxTicks) ⌝ }
+    requires { ⌜ (1 ≤ x) × (x ≤ maxTicks) × (1 ≤ p) × (p ≤ maxTicks) ⌝ }
     ensures { λ r. ⌜ r ≡ ceiling x p ⌝ }
 {
+    if x <= p {
+        return 1;
+    }
     ((x + (p - 1)) as u32 / p as u32) as u64
 }
 

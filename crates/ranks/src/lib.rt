@@ -63,10 +63,14 @@ fn plan_text(text: &[u8], out: &mut [u8], numbers: &mut [u64]) -> Answer
     plan_tasks(out, board, rows, n, order)
 }
 
-// The planner: the plan of a table's text, in the order that the rule chooses.
+// The planner: the plan of a table's text, in the order that the rule chooses. A short text has few numbers.
 pub fn write_plan(text: &[u8], out: &mut [u8]) -> Answer
     ensures { λ r. ⌜ PlanSays (now (text .entry)) (now (out .entry)) (now (out .exit)) r ⌝ }
 {
+    if is_short(text) {
+        let mut few = [0u64; FEW_LINES];
+        return plan_text(text, out, &mut few);
+    }
     let mut numbers = [0u64; LINES];
     plan_text(text, out, &mut numbers)
 }
@@ -88,7 +92,7 @@ fn review_text(text: &[u8], out: &mut [u8], numbers: &mut [u64]) -> Answer
     plan_tasks(out, board, rows, n, order)
 }
 
-// The reviewer: the figures of the order that a text's rank lines give. A short text has few numbers.
+// The reviewer: the figures of the order that a text's rank lines give.
 pub fn review_order(text: &[u8], out: &mut [u8]) -> Answer
     ensures { λ r. ⌜ ReviewSays (now (text .entry)) (now (out .entry)) (now (out .exit)) r ⌝ }
 {

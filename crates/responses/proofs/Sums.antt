@@ -37,6 +37,10 @@ pub ceiling-some : (x p : ℕ) → 1 ≤ x → 1 ≤ p → 1 ≤ ceiling x p
 ceiling-some x zero h k = k
 ceiling-some x (suc p) h k = le-div-iff-mul-le {k = suc p} {x = 1} {y = x + p} (omega arith) .1 (omega arith)
 
+-- a window within a period meets one job
+pub ceiling-one : (x p : ℕ) → 1 ≤ x → x ≤ p → ceiling x p ≡ 1
+ceiling-one x p h k = omega (arith, ceiling-some x p h (omega arith), ceiling-under 1 x p (omega arith) (omega arith))
+
 -- as the code computes it
 pub ceiling-is : (x p : ℕ) → 1 ≤ p → ceiling x p ≡ (x + (p - 1)) / p
 ceiling-is x zero h = absurd (omega arith)
