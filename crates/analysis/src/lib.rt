@@ -116,7 +116,7 @@ pub fn put_times(rows: &[u64], i: usize, columns: &mut [u64], n: usize, k: usize
     columns[n + n + k] = rows[at + BEST];
 }
 
-// The columns of the rows at n positions.
+// The columns of the rows at n positions. What stands past them is left open.
 pub fn fill_columns(rows: &[u64], positions: &[usize], n: usize, columns: &mut [u64])
     requires { ⌜ Fillable (now rows) (now positions) n (now columns) ⌝ }
     ensures { λ _. ⌜ Filled (rowsIn (now (rows .entry)) (take n (now (positions .entry)))) n n (now (columns .exit)) ⌝ }

@@ -11,6 +11,7 @@ use Rattle.rows.specs.declared.Row.{Row}
 use Rattle.rows.proofs.Limits.{all-times, at-passes, front-passes}
 use Rattle.responses.specs.Claims.{Figured}
 use Rattle.responses.proofs.Responses.{figured}
+use Rattle.responses.proofs.Sequences.{not-by-below}
 use Rattle.boards.specs.Claims.{LastsInRange, Kept, latestAt, earliestAt, NoneLate}
 use Rattle.boards.proofs.Bounds as Boards
 use Rattle.boards.proofs.Runs.{board-runs}
@@ -52,6 +53,7 @@ module _ (order : List Row) (ok : allRows inRange order ≡ true) (in-time : Non
     as-many = entries-length [] order;
     entry-is = entry-is;
     by-formulas = by-formulas;
+    not-by-below = λ i below′ h. not-by-below (rowAt order i) (rowsAbove order i) (rowsBelow order i) below′;
     by-rules = λ offset need lasts. board-runs order offset need times-ok lasts;
     kept = kept;
   }

@@ -126,7 +126,7 @@ fn plan_from(out: &mut [u8], text: &[u8], put: RanksPut) -> Answer
 }
 
 // The plan of an order, or its refusal. It is written whole into a text of the caller's own, so that a refusal leaves
-// out as it was.
+// out as it was; what that text and the columns hold afterwards is left open.
 pub fn plan_in(
     out: &mut [u8],
     text: &mut [u8],

@@ -6,15 +6,14 @@ use mathlib.Core.List.{List, [], _∷_, _++_}
 use Prim.Native.Nat.{ℕ, zero, suc, _-_, _*_, _/_, _%_, _^_, _≤_, _<_}
 use native.Mathlib.Decide.{ℕ-discrete}
 use native.Mathlib.Omega.{arith}
-use lib.ListN.{length, getD, set, drop, replicate, length-append, length-set}
-use lib.Seq.{append-snoc}
+use lib.ListN.{length, getD, set, drop, replicate, length-append}
 use lib.Pow.{pow-pos}
 use Rattle.rows.specs.declared.Row.{Row}
 use Rattle.rows.specs.Rows.{maxTasks, fieldCount, inRange, rowAt}
 use Rattle.rows.specs.inside.Arrays.{ranking}
 use Rattle.rows.specs.inside.Numbers.{rowsOf, rowIn}
 use Rattle.rows.proofs.Tasks.{tasks-last}
-use Rattle.rows.proofs.Arrays.{blank-left}
+use Rattle.rows.proofs.Arrays.{blank-left, front-next}
 use Rattle.rows.proofs.RowNumbers.{rows-length, rows-at}
 use Rattle.orders.specs.Orders.{theOrder}
 use Rattle.search.specs.inside.Sets.{members, isSome, orderAt, Known, Recorded}
@@ -25,12 +24,6 @@ use Rattle.search.proofs.Sets.{less-row, taken-at, no-members, all-memb
 use Rattle.search.proofs.LentRows.{small, a-set, row-held, ranged}
 use Rattle.search.proofs.Scan.{at-empty}
 use Rattle.search.proofs.Record.{says-lowest}
-
--- what follows the element written
-set-drop : (l : List ℕ) (k x : ℕ) → k < length l → drop k (set l k x) ≡ x ∷ drop (suc k) l
-set-drop [] k x h = absurd (omega arith)
-set-drop (y ∷ l) zero x h = refl
-set-drop (y ∷ l) (suc k) x h = set-drop l k x (omega (arith, h))
 
 -- ---- along the chain of a set that is not empty
 module _ (ns sets : List ℕ) where
@@ -55,43 +48,23 @@ module _ (ns sets : List ℕ) where
       let above = chainTasks ns sets k (m - 2 ^ i) in
       omega (arith, length-append above (rowIn ns i .task ∷ []), chain-length k (m - 2 ^ i))
 
-  -- ---- while the order of set m is rebuilt, from its lowest row up: what is left of it would fill the front
-  module _ (n m : ℕ) (tasks₀ : List ℕ) where
-    pub record Rebuilding (tasks : List ℕ) (left rest : ℕ) : Type 0 where
-      pub few : left ≤ length tasks
-      pub in-record : rest < length sets
-      pub chained : Chained ns sets left rest
-      pub tasks-are : chainTasks ns sets left rest ++ drop left tasks ≡ chainTasks ns sets n m ++ drop n tasks₀
-
-    -- the lowest row's task goes below those of the rest
-    pub rebuilding-next :
-        (tasks : List ℕ) (left rest : ℕ) (r : Row) →
-        0 < left →
-        Rebuilding tasks left rest →
-        let i = getD sets rest 0 in
-        r ≡ rowIn ns i →
-        Rebuilding (set tasks (left - 1) (r .task)) (left - 1) (rest - 2 ^ i)
-    rebuilding-next tasks zero rest r l x is = absurd (omega arith)
-    rebuilding-next tasks (suc k) rest r l x is =
-        let e : suc k - 1 ≡ k = omega arith in
-        let i = getD sets rest 0 in
-        let above = chainTasks ns sets k (rest - 2 ^ i) in
-        rw (is, e) record {
-          few = omega (arith, x .few, length-set tasks k (rowIn ns i .task));
-          in-record = omega (arith, x .in-record);
-          chained = x .chained .4;
-          tasks-are = ap (λ (l : List ℕ). above ++ l) (set-drop tasks k (rowIn ns i .task) (x .few))
-              ∙ sym (append-snoc above (rowIn ns i .task) (drop (suc k) tasks))
-              ∙ x .tasks-are;
-        }
-
-    pub rebuilt :
-        (tasks : List ℕ) (left rest : ℕ) →
-        left ≤ 0 →
-        Rebuilding tasks left rest →
-        tasks ≡ chainTasks ns sets n m ++ drop n tasks₀
-    rebuilt tasks zero rest l x = x .tasks-are
-    rebuilt tasks (suc k) rest l x = absurd (omega arith)
+  -- the lowest row's task goes below those of the rest, next in the array
+  pub chain-lowest :
+      (m k : ℕ) (tasks filled : List ℕ) (r : Row) →
+      0 < k →
+      k ≤ length tasks →
+      let i = getD sets m 0 in
+      r ≡ rowIn ns i →
+      filled ≡ chainTasks ns sets (k - 1) (m - 2 ^ i) ++ drop (k - 1) tasks →
+      set filled (k - 1) (r .task) ≡ chainTasks ns sets k m ++ drop k tasks
+  chain-lowest m zero tasks filled r l few is h = absurd (omega arith)
+  chain-lowest m (suc k) tasks filled r l few is h =
+      let e : suc k - 1 ≡ k = omega arith in
+      let i = getD sets m 0 in
+      let above = chainTasks ns sets k (m - 2 ^ i) in
+      rw (is, e)
+      (ap (λ (l : List ℕ). set l k (rowIn ns i .task)) (rw e at h)
+      ∙ front-next 0 above tasks k (rowIn ns i .task) (chain-length k (m - 2 ^ i)) few)
 
 -- in an array that had nothing in it, they are an order
 pub chain-order : (tasks filled : List ℕ) (n : ℕ) → n ≤ maxTasks → length tasks ≡ n

@@ -139,21 +139,19 @@ fn nothing() -> Order
     }
 }
 
-// The n tasks of set m's order, read off the record into the front of tasks: that of its lowest row last, before it
-// that of the rest's lowest row, and so on.
+// The n tasks of set m's order, read off the record into the front of tasks: those of the set without its lowest row,
+// then that row's.
 fn rebuild(rows: &[u64], n: usize, m: usize, sets: &[u8], tasks: &mut [u16])
     requires { ⌜ (n ≤ length (now tasks)) × (m < length (now sets)) × Chained (now rows) (now sets) n m ⌝ }
     ensures { λ _. ⌜ now (tasks .exit)
         ≡ chainTasks (now (rows .entry)) (now (sets .entry)) n m ++ drop n (now (tasks .entry)) ⌝ }
 {
-    let mut left = n;
-    let mut rest = m;
-    while 0 < left {
-        left -= 1;
-        let i = sets[rest] as usize;
+    if 0 < n {
+        let i = sets[m] as usize;
+        let above = n - 1;
+        rebuild(rows, above, m - power(i), sets, tasks);
         let row = row_at(rows, i);
-        tasks[left] = row.task as u16;
-        rest -= power(i);
+        tasks[above] = row.task as u16;
     }
 }
 
