@@ -32,8 +32,8 @@ fn late_figures() -> Figures
     }
 }
 
-// x / p rounded up. A window is often within the period, and a test is faster than a division; both have room in 32
-// bits, where division is faster than in 64.
+// x / p rounded up. A window is often within the period, and a test is faster than a division; x + p is far below 2^32,
+// and division is faster there than in 64 bits.
 fn ceil(x: u64, p: u64) -> u64
     requires { ⌜ (1 ≤ x) × (x ≤ maxTicks) × (1 ≤ p) × (p ≤ maxTicks) ⌝ }
     ensures { λ r. ⌜ r ≡ ceiling x p ⌝ }

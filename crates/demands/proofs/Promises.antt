@@ -1,8 +1,8 @@
 -- An order of rows in range in which no task is late: its plan's entries are the figures of its rows between the rows
 -- above and below them, by the formulas, and every board keeps them.
-use mathlib.Core.Path.{_≡_, ap}
+use mathlib.Core.Path.{_≡_, ap, _∙_}
 use mathlib.Core.Bool.{true}
-use mathlib.Core.List.{List, []}
+use mathlib.Core.List.{List, [], Perm, Perm·refl}
 use Prim.Native.Nat.{ℕ, _<_}
 use native.Mathlib.Omega.{arith}
 use lib.ListN.{length}
@@ -11,12 +11,12 @@ use Rattle.rows.specs.declared.Row.{Row}
 use Rattle.rows.proofs.Limits.{all-times, at-passes, front-passes}
 use Rattle.responses.specs.Claims.{Figured}
 use Rattle.responses.proofs.Responses.{figured}
-use Rattle.responses.proofs.Sequences.{not-by-below}
+use Rattle.responses.proofs.Sequences.{by-set, not-by-below}
 use Rattle.boards.specs.Claims.{LastsInRange, Kept, latestAt, earliestAt, NoneLate}
 use Rattle.boards.proofs.Bounds as Boards
 use Rattle.boards.proofs.Runs.{board-runs}
 use Rattle.plans.specs.Entries.{entry, noEntry}
-use Rattle.plans.proofs.Entries.{entries-length, entry-at}
+use Rattle.plans.proofs.Entries.{entries-length, entry-at, entry-same}
 use Rattle.demands.specs.Demands.{entryAt, Promised}
 
 module _ (order : List Row) (ok : allRows inRange order ≡ true) (in-time : NoneLate order) where
@@ -48,12 +48,22 @@ module _ (order : List Row) (ok : allRows inRange order ≡ true) (in-time : Non
             omega (arith, k .not-early i r f h started done, b);
       }
 
+  by-above : (i : ℕ) (above′ below′ : List Row) → i < length order → Perm (rowsAbove order i) above′
+      → entryAt order i ≡ entry (rowAt order i) above′ below′
+  by-above i above′ below′ h p =
+      let t = rowAt order i in
+      let above = rowsAbove order i in
+      let below = rowsBelow order i in
+      entry-is i h
+      ∙ entry-same t above above′ below below (by-set t above above′ below below p (Perm·refl below))
+      ∙ entry-same t above′ above′ below below′ (not-by-below t above′ below below′)
+
   pub promised : Promised order
   promised = record {
     as-many = entries-length [] order;
     entry-is = entry-is;
     by-formulas = by-formulas;
-    not-by-below = λ i below′ h. not-by-below (rowAt order i) (rowsAbove order i) (rowsBelow order i) below′;
+    by-above = by-above;
     by-rules = λ offset need lasts. board-runs order offset need times-ok lasts;
     kept = kept;
   }

@@ -2,7 +2,7 @@
 -- any outcome and in document 01's words, apart from how the outcome is found; only one outcome meets them.
 use mathlib.Core.Path.{_≡_}
 use mathlib.Core.Bool.{Bool, true, false}
-use mathlib.Core.List.{List, [], _∷_}
+use mathlib.Core.List.{List, [], _∷_, Perm}
 use mathlib.Core.Logic.{_↔_}
 use Prim.Native.Nat.{ℕ, suc, _≤_, _<_}
 use lib.IntN.{pos}
@@ -13,7 +13,7 @@ use Rattle.rows.specs.Rows.{tasksOf, rowsFor, rowAt, rowsAbove, rowsBelow}
 use Rattle.rows.specs.declared.Row.{Row}
 use Rattle.tables.specs.Claims.{Tells, Fails, Read}
 use Rattle.responses.specs.Figures.{isLate}
-use Rattle.responses.specs.Claims.{Figured, SameFigures}
+use Rattle.responses.specs.Claims.{Figured}
 use Rattle.orders.specs.Orders.{Possible, positionIn, positionsUp, notAfter, Chosen}
 use Rattle.orders.specs.Stability.{stable, orderStable}
 use Rattle.boards.specs.Claims.{LastsInRange, Kept, NoneLate}
@@ -37,10 +37,10 @@ pub record Promised (order : List Row) : Type 0 where
   pub entry-is :
       (i : ℕ) → i < length order → entryAt order i ≡ entry (rowAt order i) (rowsAbove order i) (rowsBelow order i)
   pub by-formulas : (i : ℕ) → i < length order → Figured (rowAt order i) (rowsAbove order i) (rowsBelow order i)
-  -- and they are the same whatever rows are below it
-  pub not-by-below :
-      (i : ℕ) (below′ : List Row) → i < length order
-      → SameFigures (rowAt order i) (rowsAbove order i) (rowsAbove order i) (rowsBelow order i) below′
+  -- not by the sequence of the rows above, and not by the rows below
+  pub by-above :
+      (i : ℕ) (above′ below′ : List Row) → i < length order → Perm (rowsAbove order i) above′
+      → entryAt order i ≡ entry (rowAt order i) above′ below′
   -- demand 3: on every board, for all first releases and job lengths, the run is by the rules, and it keeps the `worst`
   -- and `best` lines
   pub by-rules : (offset : ℕ → ℕ) (need : ℕ → ℕ → ℕ) → LastsInRange order need → BoardRuns order offset need

@@ -1,6 +1,6 @@
 -- The entry at a rank is that of its row between the rows before it and those after it; the first late rank is late and
 -- those above it are not; and the entry of a row that is not late keeps its limits.
-use mathlib.Core.Path.{_≡_, refl, sym, ap, subst, _∙_}
+use mathlib.Core.Path.{_≡_, refl, sym, ap, ap₂, subst, _∙_}
 use mathlib.Core.Bool.{Bool, true, false}
 use mathlib.Core.List.{List, [], _∷_, _++_, append-nil}
 use mathlib.Core.Logic.{inl, inr}
@@ -8,7 +8,7 @@ use Prim.Native.Nat.{ℕ, zero, suc, _+_, _≤_, _<_}
 use native.Mathlib.Nat.{mul-le-mul}
 use native.Mathlib.Omega.{arith}
 use lib.Dec.{ltb}
-use lib.IntN.{natAbs, subℕ}
+use lib.IntN.{ℤ, natAbs, subℕ}
 use lib.ListN.{length, getD, take, drop}
 use lib.Seq.{append-snoc}
 use borrow.Author.Tests.{ltb-true}
@@ -16,8 +16,8 @@ use Rattle.basics.proofs.Tests.{test-of}
 use Rattle.rows.specs.Rows.{maxTask, maxTicks, maxAlpha, maxBeta, inRange, allRows, noRow, rowsAbove, rowsBelow}
 use Rattle.rows.specs.declared.Row.{Row}
 use Rattle.rows.proofs.Limits.{limits, in-range-times, all-times}
-use Rattle.responses.specs.Figures.{latest, isLate, jitter}
-use Rattle.responses.specs.Claims.{spent}
+use Rattle.responses.specs.Figures.{earliest, latest, isLate, jitter, margin}
+use Rattle.responses.specs.Claims.{spent, SameFigures}
 use Rattle.responses.proofs.Responses.{figured}
 use Rattle.plans.specs.declared.Entry.{Entry}
 use Rattle.plans.specs.Entries.{entry, entriesFrom, entries, lateFrom, firstLate}
@@ -38,6 +38,17 @@ entry-from above (r ∷ rs) (suc i) d h =
 pub entry-at : (order : List Row) (i : ℕ) (d : Entry) → i < length order
     → getD (entries order) i d ≡ entry (getD order i noRow) (rowsAbove order i) (rowsBelow order i)
 entry-at order i d h = entry-from [] order i d h
+
+-- the same figures are the same entry
+pub entry-same : (t : Row) (above above′ below below′ : List Row) → SameFigures t above above′ below below′
+    → entry t above below ≡ entry t above′ below′
+entry-same t above above′ below below′ same =
+    ap₂ (λ (e w : ℕ). made e w (jitter t above below) (margin t above below)) (same .earliest-same) (same .latest-same)
+    ∙ ap₂ (λ (j : ℕ) (m : ℤ). made (earliest t above′ below′) (latest t above′ below′) j m)
+    (same .jitter-same) (same .margin-same)
+  where
+    made : ℕ → ℕ → ℕ → ℤ → Entry
+    made e w j m = record { task = t .task; best = e; worst = w; jitter = j; margin = m }
 
 -- ---- late ranks
 -- rank i of an order under more rows

@@ -63,7 +63,8 @@ fn plan_text(text: &[u8], out: &mut [u8], numbers: &mut [u64]) -> Answer
     plan_tasks(out, board, rows, n, order)
 }
 
-// The planner: the plan of a table's text, in the order that the rule chooses. A short text has few numbers.
+// The planner: the plan of a table's text, in the order that the rule chooses. A short text has few numbers, and room
+// for the most isn't filled for it.
 pub fn write_plan(text: &[u8], out: &mut [u8]) -> Answer
     ensures { λ r. ⌜ PlanSays (now (text .entry)) (now (out .entry)) (now (out .exit)) r ⌝ }
 {
@@ -92,7 +93,7 @@ fn review_text(text: &[u8], out: &mut [u8], numbers: &mut [u64]) -> Answer
     plan_tasks(out, board, rows, n, order)
 }
 
-// The reviewer: the figures of the order that a text's rank lines give.
+// The reviewer: the figures of the order that a text's rank lines give, with room as the planner has it.
 pub fn review_order(text: &[u8], out: &mut [u8]) -> Answer
     ensures { λ r. ⌜ ReviewSays (now (text .entry)) (now (out .entry)) (now (out .exit)) r ⌝ }
 {
