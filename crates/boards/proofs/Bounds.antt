@@ -10,11 +10,11 @@ use native.Mathlib.Omega.{arith}
 use native.Mathlib.Nat.{le-refl, le-trans, le-of-eq, lt-of-not-le, lt-trans}
 use lib.ListN.{length}
 use Rattle.basics.proofs.Tests.{le-or-lt}
-use Rattle.rows.specs.Rows.{timesInRange, allRows, rowAt, rowsAbove, rowsBelow, cost}
+use Rattle.rows.specs.Rows.{timesInRange, allRows, rowAt, cost}
 use Rattle.rows.specs.declared.Row.{Row}
 use Rattle.rows.proofs.Limits.{Times, times, at-passes, front-passes}
 use Rattle.responses.specs.Interference.{ceiling}
-use Rattle.responses.specs.Figures.{worstIn, bestIn, blocking}
+use Rattle.responses.specs.Figures.{rowsAbove, rowsBelow, worstIn, bestIn, blocking}
 use Rattle.responses.specs.Claims.{Figured}
 use Rattle.responses.proofs.Responses.{figured}
 use Rattle.boards.specs.Claims.{LastsInRange, Finishes, Kept, latestAt, earliestAt, NoneLate}

@@ -4,10 +4,10 @@ use mathlib.Core.List.{List, [], _∷_}
 use Prim.Native.Nat.{ℕ, zero, suc, _+_, _-_, _*_, _≤_}
 use native.Mathlib.Nat.{not-suc-le-zero, le-of-suc-le-suc, sub-zero}
 use lib.ListN.{length}
-use Rattle.rows.specs.Rows.{rowAt, rowsAbove, cost}
+use Rattle.rows.specs.Rows.{rowAt, cost}
 use Rattle.rows.specs.declared.Row.{Row}
 use Rattle.responses.specs.Interference.{ceiling}
-use Rattle.responses.specs.Figures.{worstIn, bestIn}
+use Rattle.responses.specs.Figures.{rowsAbove, worstIn, bestIn}
 use Rattle.boards.proofs.Sums.{sumTo}
 
 -- ---- a sum over rows, by rank

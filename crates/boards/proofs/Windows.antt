@@ -6,11 +6,11 @@ use Prim.Native.Nat.{ℕ, suc, _+_, _*_, _≤_, _<_}
 use native.Mathlib.Omega.{arith}
 use native.Mathlib.Nat.{le-trans, lt-of-lt-of-le, mul-le-mul-right}
 use lib.ListN.{length}
-use Rattle.rows.specs.Rows.{rowAt, rowsAbove, cost}
+use Rattle.rows.specs.Rows.{rowAt, cost}
 use Rattle.rows.specs.declared.Row.{Row}
 use Rattle.rows.proofs.Limits.{Times}
 use Rattle.responses.specs.Interference.{ceiling}
-use Rattle.responses.specs.Figures.{worstIn}
+use Rattle.responses.specs.Figures.{rowsAbove, worstIn}
 use Rattle.responses.proofs.Sums.{ceiling-under}
 use Rattle.boards.specs.Claims.{LastsInRange}
 use Rattle.boards.proofs.Sums.{Above, sum-le, sum-add, sum-last}

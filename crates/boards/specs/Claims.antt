@@ -5,9 +5,9 @@ use mathlib.Core.Bool.{true, false}
 use mathlib.Core.List.{List}
 use Prim.Native.Nat.{ℕ, _+_, _*_, _≤_, _<_}
 use lib.ListN.{length}
-use Rattle.rows.specs.Rows.{rowAt, rowsAbove, rowsBelow, cost}
+use Rattle.rows.specs.Rows.{rowAt, cost}
 use Rattle.rows.specs.declared.Row.{Row}
-use Rattle.responses.specs.Figures.{latest, earliest, isLate}
+use Rattle.responses.specs.Figures.{rowsAbove, rowsBelow, latest, earliest, isLate}
 use Rattle.boards.specs.Boards.{afterTicks, isDone}
 
 -- each job needs from its row's best to its cost

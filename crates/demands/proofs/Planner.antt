@@ -13,13 +13,13 @@ use lib.Signed.{leZ}
 use borrow.Author.Tests.{not-true}
 use Rattle.basics.specs.Basics.{isIn}
 use Rattle.basics.proofs.Tests.{and-left, and-right, true-not-false, le-or-lt}
-use Rattle.rows.specs.Rows.{inRange, allRows, rowAt, rowsAbove, rowsBelow}
+use Rattle.rows.specs.Rows.{inRange, allRows, rowAt}
 use Rattle.rows.specs.declared.Row.{Row}
 use Rattle.tables.specs.TableLines.{TableRead, readTable}
 use Rattle.tables.specs.Claims.{Accepted, Tells}
 use Rattle.tables.proofs.Refusals.{unranked-small}
 use Rattle.tables.proofs.Readings.{read}
-use Rattle.responses.specs.Figures.{isLate, margin, isStable}
+use Rattle.responses.specs.Figures.{rowsAbove, rowsBelow, isLate, margin, isStable}
 use Rattle.orders.specs.Orders.{Chosen}
 use Rattle.orders.specs.Stability.{stable, chosenOrder}
 use Rattle.orders.proofs.Choosing.{some-or-none}

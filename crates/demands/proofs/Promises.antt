@@ -6,9 +6,10 @@ use mathlib.Core.List.{List, [], Perm, Perm·refl}
 use Prim.Native.Nat.{ℕ, _<_}
 use native.Mathlib.Omega.{arith}
 use lib.ListN.{length}
-use Rattle.rows.specs.Rows.{inRange, timesInRange, allRows, rowAt, rowsAbove, rowsBelow}
+use Rattle.rows.specs.Rows.{inRange, timesInRange, allRows, rowAt}
 use Rattle.rows.specs.declared.Row.{Row}
 use Rattle.rows.proofs.Limits.{all-times, at-passes, front-passes}
+use Rattle.responses.specs.Figures.{rowsAbove, rowsBelow}
 use Rattle.responses.specs.Claims.{Figured}
 use Rattle.responses.proofs.Responses.{figured}
 use Rattle.responses.proofs.Sequences.{by-set, not-by-below}

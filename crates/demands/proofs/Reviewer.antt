@@ -9,12 +9,12 @@ use native.Mathlib.Omega.{arith}
 use lib.ListN.{length}
 use Rattle.basics.specs.Basics.{isIn}
 use Rattle.basics.proofs.Tests.{true-not-false, le-or-lt}
-use Rattle.rows.specs.Rows.{inRange, allRows, tasksOf, rowsFor, rowAt, rowsAbove, rowsBelow}
+use Rattle.rows.specs.Rows.{inRange, allRows, tasksOf, rowsFor, rowAt}
 use Rattle.rows.specs.declared.Row.{Row}
 use Rattle.tables.specs.TableLines.{TableRead, readTable}
 use Rattle.tables.specs.Claims.{Accepted}
 use Rattle.tables.proofs.Readings.{read}
-use Rattle.responses.specs.Figures.{isLate}
+use Rattle.responses.specs.Figures.{rowsAbove, rowsBelow, isLate}
 use Rattle.orders.specs.Orders.{Possible}
 use Rattle.orders.proofs.Possible.{possible-length, possible-passes}
 use Rattle.orders.proofs.Tasks.{possible-tasks, rows-for}

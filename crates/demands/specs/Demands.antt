@@ -9,10 +9,10 @@ use lib.IntN.{pos}
 use lib.ListN.{length, getD}
 use lib.Signed.{leZ}
 use Rattle.basics.specs.Basics.{isIn}
-use Rattle.rows.specs.Rows.{tasksOf, rowsFor, rowAt, rowsAbove, rowsBelow}
+use Rattle.rows.specs.Rows.{tasksOf, rowsFor, rowAt}
 use Rattle.rows.specs.declared.Row.{Row}
 use Rattle.tables.specs.Claims.{Tells, Fails, Read}
-use Rattle.responses.specs.Figures.{isLate}
+use Rattle.responses.specs.Figures.{rowsAbove, rowsBelow, isLate}
 use Rattle.responses.specs.Claims.{Figured}
 use Rattle.orders.specs.Orders.{Possible, positionIn, positionsUp, notAfter, Chosen}
 use Rattle.orders.specs.Stability.{stable, orderStable}

@@ -13,10 +13,10 @@ use lib.ListN.{length, getD, take, drop}
 use lib.Seq.{append-snoc}
 use borrow.Author.Tests.{ltb-true}
 use Rattle.basics.proofs.Tests.{test-of}
-use Rattle.rows.specs.Rows.{maxTask, maxTicks, maxAlpha, maxBeta, inRange, allRows, noRow, rowsAbove, rowsBelow}
+use Rattle.rows.specs.Rows.{maxTask, maxTicks, maxAlpha, maxBeta, inRange, allRows, noRow}
 use Rattle.rows.specs.declared.Row.{Row}
 use Rattle.rows.proofs.Limits.{limits, in-range-times, all-times}
-use Rattle.responses.specs.Figures.{earliest, latest, isLate, jitter, margin}
+use Rattle.responses.specs.Figures.{rowsAbove, rowsBelow, earliest, latest, isLate, jitter, margin}
 use Rattle.responses.specs.Claims.{spent, SameFigures}
 use Rattle.responses.proofs.Responses.{figured}
 use Rattle.plans.specs.declared.Entry.{Entry}

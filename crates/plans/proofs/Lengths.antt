@@ -12,10 +12,10 @@ use Rattle.basics.proofs.Tests.{and-both}
 use Rattle.text.specs.Text.{signed, joined}
 use Rattle.text.proofs.Decimals.{decimal-short}
 use Rattle.text.proofs.Spelling.{line-length}
-use Rattle.rows.specs.Rows.{maxBeta, inRange, allRows, noRow, rowsAbove, rowsBelow}
+use Rattle.rows.specs.Rows.{maxBeta, inRange, allRows, noRow}
 use Rattle.rows.specs.declared.Row.{Row}
 use Rattle.rows.proofs.Limits.{head-passes, tail-passes, append-passes}
-use Rattle.responses.specs.Figures.{isLate}
+use Rattle.responses.specs.Figures.{rowsAbove, rowsBelow, isLate}
 use Rattle.plans.specs.declared.Entry.{Entry}
 use Rattle.plans.specs.Entries.{entry, entriesFrom, entries}
 use Rattle.plans.specs.Plans.{rankText, rankTexts, headText, planText, refusalText, rankRoom, roomFor, mostRanks}

@@ -6,24 +6,31 @@ use mathlib.Core.Bool.{Bool, true, false, _&&_, not, Bool-set}
 use lib.IntN.{pos}
 use lib.Signed.{leZ}
 use mathlib.Core.Logic.{∥∥₁-elim}
-use mathlib.Core.List.{List, _∷_, map, Perm}
+use mathlib.Core.List.{List, [], _∷_, _++_, map, Perm}
 use mathlib.Core.List.{List·Permᴰ, List·Permᴰ·nil, List·Permᴰ·cons, List·Permᴰ·swap, List·Permᴰ·trans}
-use Prim.Native.Nat.{ℕ, suc, _+_, _-_, _*_, _≤_}
+use Prim.Native.Nat.{ℕ, zero, suc, _+_, _-_, _*_, _≤_, _<_}
 use native.Mathlib.Nat.{ℕ-set}
 use native.Mathlib.Omega.{arith}
 use lib.Dec.{eqb, leb}
 use lib.ListN.{length}
 use Rattle.basics.specs.Basics.{pick}
-use Rattle.rows.specs.Rows.{cost, inRange, allRows}
+use Rattle.rows.specs.Rows.{cost, inRange, allRows, rowAt}
 use Rattle.rows.specs.declared.Row.{Row}
 use Rattle.responses.specs.declared.Figures.{Figures}
 use Rattle.responses.specs.Extremes.{smallest, largest}
 use Rattle.responses.specs.Interference.{ceiling, Load, interference}
 use Rattle.responses.specs.Figures.{worstLoad, bestLoad, worstIn, bestIn, blocking, latest, earliest}
-use Rattle.responses.specs.Figures.{marginAt, lateFigures, noFigures}
+use Rattle.responses.specs.Figures.{rowsAbove, rowsBelow, marginAt, lateFigures, noFigures}
 use Rattle.responses.specs.Figures.{figuresAt, figuresUnder, maxOthers, inLimits, figuresOf}
 use Rattle.responses.specs.Claims.{SameFigures, BySet, NotByBelow}
 use Rattle.responses.proofs.FixedPoints.{fixed-below, demand-mono, least-fixed, least-least}
+
+-- the rows above a row, the row and the rows below it are the order
+pub order-joins : (order : List Row) (i : ℕ) → i < length order
+    → rowsAbove order i ++ (rowAt order i ∷ rowsBelow order i) ≡ order
+order-joins [] i h = absurd (omega arith)
+order-joins (r ∷ rs) zero h = refl
+order-joins (r ∷ rs) (suc i) h = ap (λ (l : List Row). r ∷ l) (order-joins rs i (omega (arith, h)))
 
 -- rows above, xs or ys, and rows below, bs or cs, that count the same
 pub record Same (xs ys bs cs : List Row) : Type 0 where

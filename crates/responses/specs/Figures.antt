@@ -1,16 +1,23 @@
 -- The figures of a task between the rows above it and the rows below it.
 use mathlib.Core.Bool.{Bool, true, false, _&&_, not}
 use mathlib.Core.List.{List, map}
-use Prim.Native.Nat.{ℕ, _+_, _-_, _*_}
+use Prim.Native.Nat.{ℕ, suc, _+_, _-_, _*_}
 use lib.Dec.{eqb, leb}
 use lib.IntN.{ℤ, pos, subℕ}
-use lib.ListN.{length}
+use lib.ListN.{length, take, drop}
 use lib.Signed.{leZ}
 use Rattle.basics.specs.Basics.{pick}
 use Rattle.rows.specs.Rows.{maxTasks, cost, inRange, allRows}
 use Rattle.rows.specs.declared.Row.{Row}
 use Rattle.responses.specs.declared.Figures.{Figures}
 use Rattle.responses.specs.Interference.{Load, load, interference, leastFixed, largestFixed}
+
+-- the rows above row i of an order and those below it, all highest first
+abbrev pub rowsAbove : List Row → ℕ → List Row
+rowsAbove order i = take i order
+
+abbrev pub rowsBelow : List Row → ℕ → List Row
+rowsBelow order i = drop (suc i) order
 
 -- what a row above takes at most and at least
 abbrev pub worstLoad : Row → Load

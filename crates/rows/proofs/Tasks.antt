@@ -12,7 +12,7 @@ use borrow.Author.Tests.{eqb-true}
 use Rattle.basics.proofs.Tests.{never, and-left, and-right, and-both, or-cases}
 use Rattle.rows.specs.declared.Row.{Row}
 use Rattle.rows.specs.Rows.{maxTask, noRow, inRange, allRows, tasksOf, hasTask, positionOf, rowFor, rowsFor}
-use Rattle.rows.specs.Rows.{rowAt, rowsAbove, rowsBelow, allTasks}
+use Rattle.rows.specs.Rows.{rowAt, allTasks}
 use Rattle.rows.specs.inside.Numbers.{rowsAt, positionsFor, Below, TaskNumbers}
 use Rattle.rows.proofs.Limits.{limits, head-passes, tail-passes, at-passes}
 
@@ -106,10 +106,3 @@ at-all-pass f rs [] h ok = refl
 at-all-pass f rs (p ∷ ps) h ok =
     and-both (f (rowAt rs p)) (allRows f (rowsAt rs ps)) (at-passes f rs p ok (h 0 (omega arith)))
     (at-all-pass f rs ps (λ k l. h (suc k) (omega arith)) ok)
-
--- the rows above a row, the row and the rows below it are the order
-pub order-joins : (order : List Row) (i : ℕ) → i < length order
-    → rowsAbove order i ++ (rowAt order i ∷ rowsBelow order i) ≡ order
-order-joins [] i h = absurd (omega arith)
-order-joins (r ∷ rs) zero h = refl
-order-joins (r ∷ rs) (suc i) h = ap (λ (l : List Row). r ∷ l) (order-joins rs i (omega (arith, h)))

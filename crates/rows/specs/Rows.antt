@@ -3,7 +3,7 @@ use mathlib.Core.Bool.{Bool, true, false, _&&_}
 use mathlib.Core.List.{List, [], _∷_}
 use Prim.Native.Nat.{ℕ, suc}
 use lib.Dec.{eqb, leb}
-use lib.ListN.{length, getD, take, drop}
+use lib.ListN.{length, getD}
 use Rattle.basics.specs.Basics.{within, isIn, distinct}
 use Rattle.rows.specs.declared.Row.{Row}
 
@@ -81,13 +81,6 @@ rowOf vs =
 -- row i of a table
 abbrev pub rowAt : List Row → ℕ → Row
 rowAt table i = getD table i noRow
-
--- the rows above row i of an order and those below it, all highest first
-abbrev pub rowsAbove : List Row → ℕ → List Row
-rowsAbove order i = take i order
-
-abbrev pub rowsBelow : List Row → ℕ → List Row
-rowsBelow order i = drop (suc i) order
 
 -- the most ticks that a job of a row takes (its worst-case execution time)
 unfoldable pub cost : Row → ℕ

@@ -10,10 +10,10 @@ use lib.IntN.{ℤ}
 use mir.Syntax.{w64}
 use mir.Val.{toZ, ofZ}
 use mir.Facts.{toZ-ofZ}
-use Rattle.rows.specs.Rows.{inRange, rowAt, rowsAbove, rowsBelow}
+use Rattle.rows.specs.Rows.{inRange, rowAt}
 use Rattle.rows.specs.declared.Row.{Row}
 use Rattle.rows.specs.inside.Numbers.{rowsIn}
-use Rattle.responses.specs.Figures.{figuresUnder}
+use Rattle.responses.specs.Figures.{rowsAbove, rowsBelow, figuresUnder}
 use Rattle.analysis.proofs.Filling.{rows-long, row-is}
 use Rattle.plans.specs.declared.Entry.{Entry}
 use Rattle.plan_orders.proofs.Turns.{Turning, starts, here-in-range, under-columns, figures-found, found-late}
