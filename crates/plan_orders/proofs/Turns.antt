@@ -16,7 +16,8 @@ use Rattle.rows.specs.Rows.{inRange, allRows, noRow, rowAt}
 use Rattle.rows.specs.declared.Row.{Row}
 use Rattle.rows.proofs.Limits.{at-passes, front-passes, all-times}
 use Rattle.responses.specs.declared.Figures.{Figures}
-use Rattle.responses.specs.Figures.{rowsAbove, rowsBelow, isLate, latest, earliest, margin, lateFigures, figuresAt, figuresUnder}
+use Rattle.responses.specs.Figures.{rowsAbove, rowsBelow, isLate, latest, earliest, margin}
+use Rattle.responses.specs.Figures.{lateFigures, figuresAt, figuresUnder}
 use Rattle.analysis.specs.inside.Columns.{columnsMax, Filled, UnderColumns, FiguresIn, BlockingOfAny}
 use Rattle.analysis.proofs.Columns.{filled-front}
 use Rattle.plans.specs.declared.Entry.{Entry}
