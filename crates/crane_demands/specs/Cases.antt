@@ -1,0 +1,76 @@
+-- Cranes and what they come to, computed: each kind of cut, each refusal, and each condition of the demands occurs.
+use mathlib.Core.Path.{_≡_}
+use mathlib.Core.List.{List, [], _∷_, _++_}
+use Prim.Native.Nat.{ℕ, zero, suc}
+use Rattle.text.specs.Text.{bytes, lined}
+use Rattle.plans.specs.Outcomes.{Outcome, writes, refuses}
+use Rattle.demands.specs.Cases.{alone}
+use Rattle.crane_demands.specs.Pieces.{pieces}
+use Rattle.crane_demands.specs.Calls.{craned, cranePrints}
+
+-- a text and its pieces; a text, a buffer's room and the outcome; a text and what the program prints
+pub data Case : Type 0 where
+  cut : List ℕ → List (List ℕ) → Case
+  call : List ℕ → ℕ → Outcome → Case
+  prints : List ℕ → List ℕ → Case
+
+abbrev pub Holds : Case → Type 0
+Holds (cut text ps) = pieces text ≡ ps
+Holds (call text room w) = craned text room ≡ w
+Holds (prints text output) = cranePrints text ≡ output
+
+abbrev pub AllHold : List Case → Type 0
+AllHold [] = Unit {0}
+AllHold (c ∷ cs) = Holds c × AllHold cs
+
+-- a text n times
+abbrev pub times : ℕ → List ℕ → List ℕ
+times zero s = []
+times (suc n) s = s ++ times n s
+
+abbrev pub carriageReturn : ℕ
+carriageReturn = 13
+
+-- a board of one task that always runs, its plan, and a piece whose first line is not a board's
+abbrev pub one : List ℕ
+one = alone "worst=10" "beta=10000"
+
+abbrev pub onePlan : List ℕ
+onePlan = lined (
+    "plan=1" ∷ "board=7" ∷ "tasks=1"
+    ∷ "rank=1" ∷ "task=1" ∷ "best=10" ∷ "worst=10" ∷ "jitter=0" ∷ "margin=0"
+    ∷ [])
+
+abbrev pub noBoard : List ℕ
+noBoard = lined ("plan=0" ∷ "refusal=1" ∷ "line=1" ∷ [])
+
+abbrev pub cuts : List Case
+cuts =
+    cut [] ([] ∷ [])
+    ∷ cut (bytes "board=") (bytes "board=" ∷ [])
+    ∷ cut (lined ("board=1" ∷ [])) (lined ("board=1" ∷ []) ∷ [])
+    -- ahead of the first board, with a line feed and without one
+    ∷ cut (lined ("x" ∷ []) ++ bytes "board=") (lined ("x" ∷ []) ∷ bytes "board=" ∷ [])
+    ∷ cut (bytes "xboard=") (bytes "xboard=" ∷ [])
+    -- inside a line, and after a carriage return
+    ∷ cut (lined ("board=1 board=2" ∷ [])) (lined ("board=1 board=2" ∷ []) ∷ [])
+    ∷ cut (bytes "x" ++ (carriageReturn ∷ bytes "board=")) ((bytes "x" ++ (carriageReturn ∷ bytes "board=")) ∷ [])
+    -- an empty line is a line
+    ∷ cut (lined ("" ∷ "board=1" ∷ "a" ∷ "board=2" ∷ []))
+    (lined ("" ∷ []) ∷ lined ("board=1" ∷ "a" ∷ []) ∷ lined ("board=2" ∷ []) ∷ [])
+    ∷ []
+
+abbrev pub cranes : List Case
+cranes =
+    -- every piece refused: 9 all the same, where the buffer is one byte short
+    call [] 24 (writes noBoard)
+    ∷ call [] 23 (refuses 9 0)
+    -- 32 pieces and 33, which are refused whatever the buffer
+    ∷ call (times 32 (lined ("board=" ∷ []))) 0 (refuses 9 0)
+    ∷ call (times 33 (lined ("board=" ∷ []))) 0 (refuses 10 0)
+    ∷ prints (times 33 (lined ("board=" ∷ []))) (lined ("plan=0" ∷ "refusal=10" ∷ "line=0" ∷ []))
+    -- a refused piece changes no other: bytes ahead of a board, and a line too many in the first of two
+    ∷ call (lined ("x" ∷ []) ++ one) 100 (writes (noBoard ++ onePlan))
+    ∷ prints (one ++ one) (onePlan ++ onePlan)
+    ∷ prints (one ++ lined ("x" ∷ []) ++ one) (lined ("plan=0" ∷ "refusal=1" ∷ "line=9" ∷ []) ++ onePlan)
+    ∷ []

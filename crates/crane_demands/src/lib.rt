@@ -1,0 +1,1 @@
+// What is promised of a crane's text: definitions and theorems, no code.
