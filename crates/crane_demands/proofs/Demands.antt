@@ -16,7 +16,7 @@ use Rattle.plans.specs.Outcomes.{Outcome, writes, refuses, fitted}
 use Rattle.plans.proofs.Outcomes.{fits, fits-not}
 use Rattle.demands.specs.Calls.{plannerPrints}
 use Rattle.demands.proofs.Outcomes.{same-refusal, not-both}
-use Rattle.demands.proofs.Planner.{plan-demands, decided}
+use Rattle.demands.proofs.Planner as Planner
 use Rattle.crane_demands.specs.Pieces.{CutOf, boardKey, pieces, maxPieces}
 use Rattle.crane_demands.specs.Calls.{answers, craneText, craned, craneRoom}
 use Rattle.crane_demands.specs.Demands.{Singles, none, next, printedAll, plannedAll, CraneOf, craneRefusals}
@@ -28,11 +28,11 @@ use Rattle.crane_demands.proofs.Outputs.{composes}
 -- ---- single calls
 singles : (ps : List (List ℕ)) → Singles ps (plannedAll ps)
 singles [] = none
-singles (p ∷ ps) = next (plan-demands p planRoom) (singles ps)
+singles (p ∷ ps) = next (Planner.plan-demands p planRoom) (singles ps)
 
 only-singles : {ps : List (List ℕ)} {ws : List Outcome} → Singles ps ws → ws ≡ plannedAll ps
 only-singles none = refl
-only-singles (next {p = p} {w = w} d s) = ap₂ (λ v vs. v ∷ vs) (decided p planRoom w d) (only-singles s)
+only-singles (next {p = p} {w = w} d s) = ap₂ (λ v vs. v ∷ vs) (Planner.decided p planRoom w d) (only-singles s)
 
 all-printed : (ps : List (List ℕ)) → printedAll (plannedAll ps) ≡ joined (answers ps)
 all-printed [] = refl
@@ -161,5 +161,5 @@ module _ (text : List ℕ) where
       only (short h r is) = told .nine .1 (h, rw output-is at r) ∙ sym is
       only (written h r is) = told .written .1 (h, rw output-is at r) ∙ ap writes (sym output-is) ∙ sym is
 
-      pub decided-crane : w ≡ craned text room
-      decided-crane = only cases
+      pub decided : w ≡ craned text room
+      decided = only cases

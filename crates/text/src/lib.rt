@@ -59,7 +59,7 @@ fn line_length(s: &[u8]) -> usize
 }
 
 // Whether a text begins with a key.
-fn starts_with(s: &[u8], key: &[u8]) -> bool
+pub fn starts_with(s: &[u8], key: &[u8]) -> bool
     ensures { λ r. ⌜ r ≡ begins (now (key .entry)) (now (s .entry)) ⌝ }
 {
     if s.len() < key.len() {

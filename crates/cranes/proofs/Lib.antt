@@ -1,0 +1,3 @@
+-- Laws of where pieces end, and of their answers put one after another.
+pub mod Ends
+pub mod Answers
