@@ -1,5 +1,6 @@
--- Laws of a crane's pieces and output, room for it, and the demands of every text.
+-- Laws of a crane's pieces and output, and the demands of every text.
 pub mod Pieces
+pub mod Lines
 pub mod Answers
 pub mod Outputs
 pub mod Demands
