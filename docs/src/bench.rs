@@ -7,11 +7,13 @@
 #![allow(unexpected_cfgs)]
 
 mod dice;
+// Of these files only a part is needed here.
 #[cfg(not(model_only))]
+#[allow(dead_code)]
 mod library;
-// Of the model and the tables only a part is needed here.
 #[allow(dead_code)]
 mod model;
+#[allow(dead_code)]
 mod plain;
 #[allow(dead_code)]
 mod tables;

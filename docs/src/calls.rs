@@ -14,6 +14,7 @@ const GUARD: usize = 16;
 pub enum Call {
     Plan,
     Review,
+    Crane,
 }
 
 impl Call {
@@ -21,6 +22,15 @@ impl Call {
         match self {
             Call::Plan => model::planned,
             Call::Review => model::reviewed,
+            Call::Crane => model::craned,
+        }
+    }
+
+    /// The bytes of its input that the program takes.
+    pub fn takes(self) -> usize {
+        match self {
+            Call::Plan | Call::Review => model::TABLE_TAKES,
+            Call::Crane => model::CRANE_TAKES,
         }
     }
 
@@ -28,6 +38,7 @@ impl Call {
         match self {
             Call::Plan => library::plan,
             Call::Review => library::review,
+            Call::Crane => library::crane,
         }
     }
 
@@ -35,15 +46,17 @@ impl Call {
         match self {
             Call::Plan => "planner",
             Call::Review => "reviewer",
+            Call::Crane => "crane",
         }
     }
 }
 
-/// How often each number was answered, 0 for a plan.
+/// How often each number was answered, 0 for a written text.
 #[derive(Default)]
 pub struct Tally {
-    planner: [u64; 10],
-    reviewer: [u64; 10],
+    planner: [u64; 11],
+    reviewer: [u64; 11],
+    crane: [u64; 11],
 }
 
 impl Tally {
@@ -51,12 +64,13 @@ impl Tally {
         let counts = match call {
             Call::Plan => &mut self.planner,
             Call::Review => &mut self.reviewer,
+            Call::Crane => &mut self.crane,
         };
         counts[number as usize] += 1;
     }
 
     pub fn calls(&self) -> u64 {
-        self.planner.iter().chain(&self.reviewer).sum()
+        self.planner.iter().chain(&self.reviewer).chain(&self.crane).sum()
     }
 
     pub fn print(&self) {

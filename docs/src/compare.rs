@@ -32,7 +32,7 @@ const SHORT_PLAN: usize = 200;
 const MOST_SQUEEZES: u64 = 3;
 
 const USAGE: &str = "usage: compare [--texts N] [--tables N] [--boards N] [--seed S]
-       compare --says plan|review    print what the model says to standard input";
+       compare --says plan|review|crane    print what the model says to standard input";
 
 /// A line ten times in a run, so that a long one is seen to go on.
 fn progress(what: &str, done: u64, of: u64, started: Instant) {
@@ -193,6 +193,7 @@ fn options() -> Option<Options> {
             ("--seed", seed) => options.seed = seed.parse().ok()?,
             ("--says", "plan") => options.says = Some(Call::Plan),
             ("--says", "review") => options.says = Some(Call::Review),
+            ("--says", "crane") => options.says = Some(Call::Crane),
             _ => return None,
         }
     }
@@ -202,7 +203,7 @@ fn options() -> Option<Options> {
 fn say(call: Call) -> std::io::Result<()> {
     let mut input = Vec::new();
     std::io::stdin().read_to_end(&mut input)?;
-    std::io::stdout().write_all(&model::printed(call.by_model(), &input))
+    std::io::stdout().write_all(&model::printed(call.by_model(), call.takes(), &input))
 }
 
 /// Each part has dice of its own, so that its texts do not depend on the counts of the others.

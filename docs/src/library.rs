@@ -1,4 +1,4 @@
-//! The proved library's planner and reviewer behind safe functions.
+//! The proved library's planner, reviewer and crane behind safe functions.
 
 use crate::model::Answer;
 
@@ -12,6 +12,14 @@ extern "C" {
         answer_len: usize,
     );
     fn lumavoneig_review(
+        text: *const u8,
+        text_len: usize,
+        out: *mut u8,
+        out_len: usize,
+        answer: *mut u64,
+        answer_len: usize,
+    );
+    fn lumavoneig_crane(
         text: *const u8,
         text_len: usize,
         out: *mut u8,
@@ -48,4 +56,8 @@ pub fn plan(text: &[u8], buffer: &mut [u8]) -> Answer {
 
 pub fn review(text: &[u8], buffer: &mut [u8]) -> Answer {
     call(lumavoneig_review, text, buffer)
+}
+
+pub fn crane(text: &[u8], buffer: &mut [u8]) -> Answer {
+    call(lumavoneig_crane, text, buffer)
 }

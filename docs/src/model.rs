@@ -1,16 +1,22 @@
-//! The planner and the reviewer of document 01, written from that paper alone.
+//! The planner and the reviewer of document 01 and the crane of request 1, written from those
+//! papers alone.
 //!
 //! Nothing here is clever, and nothing follows the product: lines are an indexed list, figures
 //! are found by walking the points where a sum can change, and orders by trying every
-//! permutation (up to seven tasks) or by growing stable orders from the highest rank down.
+//! permutation (up to seven tasks) or by growing stable orders from the highest rank down. The
+//! pieces of a crane are groups of lines.
 
 use std::collections::BTreeMap;
 
 /// Tables with more tasks than this are ordered by `order_by_growing`.
 const PERMUTED_AT_MOST: usize = 7;
 
-/// The bytes of its input that a program takes.
-const PROGRAM_TAKES: usize = 16_384;
+/// The bytes of its input that a program takes: the planner and the reviewer, and the crane.
+pub const TABLE_TAKES: usize = 16_384;
+pub const CRANE_TAKES: usize = 65_536;
+
+/// A crane's text of more pieces is refused.
+pub const MOST_PIECES: usize = 32;
 
 #[derive(Clone, Copy, Debug, PartialEq)]
 pub struct Row {
@@ -37,7 +43,7 @@ pub struct Refusal {
     pub place: u64,
 }
 
-/// What a call answers beside the buffer: the number and the place are 0 for a written plan.
+/// What a call answers beside the buffer: the number and the place are 0 for a written text.
 #[derive(Clone, Copy, Debug, PartialEq)]
 pub struct Answer {
     pub number: u64,
@@ -45,7 +51,8 @@ pub struct Answer {
     pub length: u64,
 }
 
-/// What a text comes to before the buffer's length is looked at: a plan's text or a refusal.
+/// What a text comes to before the buffer's length is looked at: the text to be written or a
+/// refusal.
 pub type Outcome = Result<Vec<u8>, Refusal>;
 
 #[derive(Debug, PartialEq)]
@@ -320,24 +327,52 @@ pub fn reviewed(text: &[u8]) -> Outcome {
     plan_text(&table, &order)
 }
 
+/// What a program prints for an outcome.
+pub fn said(outcome: Outcome) -> Vec<u8> {
+    outcome.unwrap_or_else(|Refusal { number, place }| {
+        format!("plan=0\nrefusal={number}\nline={place}\n").into_bytes()
+    })
+}
+
+// ---- The crane --------------------------------------------------------------------------
+
+/// The pieces of a crane's text: its lines in groups, each line that begins with `board=` the
+/// first of its group. An empty text has no line and is one empty piece.
+pub fn pieces_of(text: &[u8]) -> Vec<Vec<u8>> {
+    if text.is_empty() {
+        return vec![Vec::new()];
+    }
+    let lines = lines_of(text);
+    let groups = lines.chunk_by(|_, line| !line.starts_with(b"board="));
+    groups.map(|lines| lines.concat()).collect()
+}
+
+/// What single calls on the pieces print, one after another. It is written or it does not fit:
+/// the refusal of a piece is none of the whole call.
+pub fn craned(text: &[u8]) -> Outcome {
+    let pieces = pieces_of(text);
+    refuse_if(pieces.len() > MOST_PIECES, 10, 0)?;
+    Ok(pieces.iter().flat_map(|piece| said(planned(piece))).collect())
+}
+
+// ---- The buffer and the programs --------------------------------------------------------
+
 /// What the call answers with this buffer, and what the buffer then holds.
 pub fn written(outcome: &Outcome, buffer: &mut [u8]) -> Answer {
     let refused = |Refusal { number, place }| Answer { number, place, length: 0 };
     match outcome {
         Err(refusal) => refused(*refusal),
-        Ok(plan) if plan.len() > buffer.len() => refused(Refusal { number: 9, place: 0 }),
-        Ok(plan) => {
-            buffer[..plan.len()].copy_from_slice(plan);
-            Answer { number: 0, place: 0, length: plan.len() as u64 }
+        Ok(text) if text.len() > buffer.len() => refused(Refusal { number: 9, place: 0 }),
+        Ok(text) => {
+            buffer[..text.len()].copy_from_slice(text);
+            Answer { number: 0, place: 0, length: text.len() as u64 }
         }
     }
 }
 
-/// What a program prints for its input; `call` is `planned` or `reviewed`.
-pub fn printed(call: fn(&[u8]) -> Outcome, input: &[u8]) -> Vec<u8> {
-    call(&input[..input.len().min(PROGRAM_TAKES)]).unwrap_or_else(|Refusal { number, place }| {
-        format!("plan=0\nrefusal={number}\nline={place}\n").into_bytes()
-    })
+/// What a program prints for its input, of which it takes that many bytes at the most.
+pub fn printed(call: fn(&[u8]) -> Outcome, takes: usize, input: &[u8]) -> Vec<u8> {
+    said(call(&input[..input.len().min(takes)]))
 }
 
 #[cfg(test)]
@@ -386,7 +421,7 @@ mod tests {
     #[test]
     fn the_example_prints_whole() {
         assert_eq!(planned(TABLE.as_bytes()), Ok(PLAN.into()));
-        assert_eq!(printed(planned, TABLE.as_bytes()), PLAN.as_bytes());
+        assert_eq!(printed(planned, TABLE_TAKES, TABLE.as_bytes()), PLAN.as_bytes());
         let ranked = format!("{TABLE}rank=12\nrank=11\nrank=13\n");
         assert_eq!(reviewed(ranked.as_bytes()), Ok(PLAN.into()));
     }
@@ -438,7 +473,7 @@ mod tests {
         assert_eq!(planned(b"board=7\ntasks=13\n"), refused(3, 2));
         assert!(read_table(changed(&[("worst=2", "worst=18")]).as_bytes()).is_ok());
         assert_eq!(planned(changed(&[("worst=2", "worst=19")]).as_bytes()), refused(4, 11));
-        assert_eq!(printed(planned, b""), b"plan=0\nrefusal=1\nline=1\n");
+        assert_eq!(printed(planned, TABLE_TAKES, b""), b"plan=0\nrefusal=1\nline=1\n");
     }
 
     #[test]
@@ -496,11 +531,11 @@ mod tests {
     #[test]
     fn a_program_takes_no_more_than_its_bytes() {
         let mut input = TABLE.as_bytes().to_vec();
-        input.resize(PROGRAM_TAKES, b'x');
-        assert_eq!(printed(planned, &input), b"plan=0\nrefusal=1\nline=21\n");
+        input.resize(TABLE_TAKES, b'x');
+        assert_eq!(printed(planned, TABLE_TAKES, &input), b"plan=0\nrefusal=1\nline=21\n");
         // A first line cut off by the limit has no line feed.
-        let long = [&[b'x'; PROGRAM_TAKES], TABLE.as_bytes()].concat();
-        assert_eq!(printed(planned, &long), b"plan=0\nrefusal=1\nline=1\n");
+        let long = [&[b'x'; TABLE_TAKES], TABLE.as_bytes()].concat();
+        assert_eq!(printed(planned, TABLE_TAKES, &long), b"plan=0\nrefusal=1\nline=1\n");
     }
 
     /// The definitions of W and E tried number by number.
@@ -549,5 +584,196 @@ mod tests {
             accepted += order.is_some() as usize;
         }
         assert!(accepted > 500 && accepted < 3_500, "{accepted} of 4000 have an order");
+    }
+
+    // ---- The crane ----------------------------------------------------------------------
+
+    /// What the crane says to a text of at most 32 pieces.
+    fn crane_says(text: &str) -> String {
+        String::from_utf8(craned(text.as_bytes()).unwrap()).unwrap()
+    }
+
+    fn refusal_says(number: u64, place: u64) -> String {
+        format!("plan=0\nrefusal={number}\nline={place}\n")
+    }
+
+    #[test]
+    fn a_text_without_a_board_line_is_one_piece() {
+        assert_eq!(crane_says(""), refusal_says(1, 1));
+        assert_eq!(crane_says("\n"), refusal_says(1, 1));
+        assert_eq!(crane_says("tasks=1\ntasks=1\n"), refusal_says(1, 1));
+        assert_eq!(crane_says("board7\nboard7\n"), refusal_says(1, 1));
+    }
+
+    #[test]
+    fn one_board_line_is_one_piece() {
+        assert_eq!(crane_says("board="), refusal_says(1, 1));
+        assert_eq!(crane_says("board=\n"), refusal_says(2, 1));
+        assert_eq!(crane_says("board=0\n"), refusal_says(3, 1));
+        assert_eq!(crane_says("board=7\n"), refusal_says(1, 2));
+        assert_eq!(crane_says(TABLE), PLAN);
+    }
+
+    #[test]
+    fn bytes_ahead_are_a_piece_only_if_a_line_feed_ends_them() {
+        for ahead in ["\n", "x\n", "\r\n", "boa\n", "tasks=3\n", "x\n\n\ny\n"] {
+            assert_eq!(crane_says(&format!("{ahead}{TABLE}")), refusal_says(1, 1) + PLAN);
+        }
+        for ahead in ["x", " ", "\r", "\0", "\u{feff}", "board"] {
+            assert_eq!(crane_says(&format!("{ahead}{TABLE}")), refusal_says(1, 1));
+        }
+        // The piece ahead is read as a table too, and it cannot be one.
+        assert_eq!(crane_says(&format!("x\ny{TABLE}{TABLE}")), refusal_says(1, 1) + PLAN);
+    }
+
+    #[test]
+    fn a_board_in_the_middle_of_a_line_cuts_nothing() {
+        let inside = changed(&[("task=11\n", "task=11board=7\n")]);
+        assert_eq!(crane_says(&inside), refusal_says(2, 3));
+        assert_eq!(crane_says("board=board=\n"), refusal_says(2, 1));
+        let unended = TABLE.strip_suffix('\n').unwrap();
+        for between in ["", "\r", "\0", " ", "\u{b}", "\u{c}", "\u{2028}"] {
+            let melted = format!("{unended}{between}{TABLE}");
+            assert_eq!(crane_says(&melted), refusal_says(2, 20));
+        }
+    }
+
+    #[test]
+    fn a_line_that_only_looks_like_a_board_line_cuts_nothing() {
+        for line in ["board", "board7", "Board=7", " board=7", "\rboard=7", "board =7", "boards=7"]
+        {
+            let text = format!("{TABLE}{line}\n{TABLE}");
+            assert_eq!(crane_says(&text), refusal_says(1, 21) + PLAN);
+        }
+    }
+
+    #[test]
+    fn carriage_returns_belong_to_their_lines() {
+        let ended = TABLE.replace('\n', "\r\n");
+        assert_eq!(crane_says(&ended.repeat(2)), refusal_says(2, 1).repeat(2));
+        assert_eq!(crane_says(&format!("{ended}{TABLE}")), refusal_says(2, 1) + PLAN);
+    }
+
+    #[test]
+    fn a_text_may_end_in_a_board_line() {
+        assert_eq!(crane_says(&format!("{TABLE}board=")), format!("{PLAN}{}", refusal_says(1, 1)));
+        assert_eq!(crane_says("\nboard="), refusal_says(1, 1).repeat(2));
+        for end in ["b", "boa", "board"] {
+            assert_eq!(crane_says(&format!("{TABLE}{end}")), refusal_says(1, 21));
+        }
+    }
+
+    #[test]
+    fn thirty_two_pieces_and_no_more() {
+        let crane = |ahead: &str, boards: usize| format!("{ahead}{}", TABLE.repeat(boards));
+        assert_eq!(crane_says(&crane("", 32)), PLAN.repeat(32));
+        assert_eq!(crane_says(&crane("x\n", 31)), refusal_says(1, 1) + &PLAN.repeat(31));
+        assert_eq!(craned(crane("", 33).as_bytes()), refused(10, 0));
+        assert_eq!(craned(crane("x\n", 32).as_bytes()), refused(10, 0));
+        assert_eq!(crane_says(&crane("x", 32)), refusal_says(1, 1) + &PLAN.repeat(31));
+        // None of the pieces is a table, or only the last that makes it too many.
+        assert_eq!(crane_says(&"board=\n".repeat(32)), refusal_says(2, 1).repeat(32));
+        assert_eq!(craned("board=\n".repeat(33).as_bytes()), refused(10, 0));
+        assert_eq!(craned(format!("{}board=", crane("", 32)).as_bytes()), refused(10, 0));
+        assert_eq!(
+            crane_says(&format!("{}boa", crane("", 32))),
+            PLAN.repeat(31) + &refusal_says(1, 21)
+        );
+    }
+
+    #[test]
+    fn a_refused_piece_changes_no_other() {
+        let broken = changed(&[("worst=2", "worst=19")]);
+        assert_eq!(
+            crane_says(&format!("{TABLE}{broken}{TABLE}")),
+            format!("{PLAN}{}{PLAN}", refusal_says(4, 11))
+        );
+        let unstable = changed(&[("57000", "54999")]);
+        let twice = changed(&[("task=12", "task=11")]);
+        let pieces = [(unstable, 8, 0), (twice, 5, 9), (format!("{TABLE}rank=11\n"), 1, 21)];
+        for (piece, number, place) in pieces {
+            let answer = refusal_says(number, place);
+            assert_eq!(crane_says(&format!("{piece}{TABLE}")), format!("{answer}{PLAN}"));
+            assert_eq!(crane_says(&format!("{TABLE}{piece}")), format!("{PLAN}{answer}"));
+        }
+    }
+
+    #[test]
+    fn a_board_twice_is_two_boards() {
+        let other = changed(&[("beta=8000", "beta=7999")]);
+        let text = format!("{other}{TABLE}{other}");
+        let plan = String::from_utf8(planned(other.as_bytes()).unwrap()).unwrap();
+        assert_ne!(plan, PLAN);
+        assert_eq!(crane_says(&text), format!("{plan}{PLAN}{plan}"));
+    }
+
+    #[test]
+    fn an_output_that_does_not_fit_is_refused_whole() {
+        let after = |text: &str, length: usize| {
+            let mut buffer = vec![200; length];
+            let Answer { number, place, length } = written(&craned(text.as_bytes()), &mut buffer);
+            ((number, place, length), buffer)
+        };
+        let plans = format!("{TABLE}{TABLE}");
+        let room = 2 * PLAN.len();
+        assert_eq!(after(&plans, room), ((0, 0, room as u64), PLAN.repeat(2).into_bytes()));
+        assert_eq!(after(&plans, room - 1), ((9, 0, 0), vec![200; room - 1]));
+        assert_eq!(after(&plans, PLAN.len()), ((9, 0, 0), vec![200; PLAN.len()]));
+        let longer = [PLAN.repeat(2).as_bytes(), &[200, 200]].concat();
+        assert_eq!(after(&plans, room + 2), ((0, 0, room as u64), longer));
+        // No piece has a plan.
+        assert_eq!(after("", 23), ((9, 0, 0), vec![200; 23]));
+        assert_eq!(after("", 0), ((9, 0, 0), Vec::new()));
+        assert_eq!(after("", 24), ((0, 0, 24), refusal_says(1, 1).into_bytes()));
+        assert_eq!(after("board=\nboard=\n", 47), ((9, 0, 0), vec![200; 47]));
+        // Too many pieces is said first.
+        assert_eq!(after(&TABLE.repeat(33), 0), ((10, 0, 0), Vec::new()));
+        assert_eq!(after(&TABLE.repeat(33), 100), ((10, 0, 0), vec![200; 100]));
+        assert_eq!(after(&TABLE.repeat(33), 9_000), ((10, 0, 0), vec![200; 9_000]));
+    }
+
+    #[test]
+    fn the_program_of_the_crane_takes_more_bytes_and_whole_pieces() {
+        let says = |input: &[u8]| printed(craned, CRANE_TAKES, input);
+        assert_eq!(says(b""), refusal_says(1, 1).as_bytes());
+        assert_eq!(says(TABLE.repeat(33).as_bytes()), refusal_says(10, 0).as_bytes());
+        // A piece is longer than what the planner's program takes.
+        let long = format!("{TABLE}board={}\n{TABLE}", "1".repeat(TABLE_TAKES));
+        assert_eq!(says(long.as_bytes()), format!("{PLAN}{}{PLAN}", refusal_says(2, 1)).as_bytes());
+        // The limit cuts off a line feed.
+        let mut input = TABLE.as_bytes().to_vec();
+        input.extend(b"board=");
+        input.resize(CRANE_TAKES - 1, b'1');
+        input.push(b'\n');
+        assert_eq!(says(&input), format!("{PLAN}{}", refusal_says(2, 1)).as_bytes());
+        input.insert(CRANE_TAKES - 1, b'1');
+        assert_eq!(says(&input), format!("{PLAN}{}", refusal_says(1, 1)).as_bytes());
+    }
+
+    #[test]
+    fn the_longest_output_is_shorter_than_the_programs_buffer() {
+        let rank = "rank=12\ntask=65535\nbest=1000000\nworst=1000000\njitter=1000000\n\
+            margin=200000000000\n";
+        let plan = format!("plan=1\nboard=65535\ntasks=12\n{}", rank.repeat(12));
+        assert!(plan.len() * MOST_PIECES <= 32_768, "{}", plan.len());
+    }
+
+    /// Every text of six parts, each part something that a cut depends on.
+    #[test]
+    fn the_pieces_are_the_only_ones_that_the_request_allows() {
+        let parts = ["", "board=", "board", "=", "\n", "\r", "x"];
+        for code in 0..parts.len().pow(6) {
+            let part = |at: u32| parts[code / parts.len().pow(at) % parts.len()];
+            let text: String = (0..6).map(part).collect();
+            let pieces = pieces_of(text.as_bytes());
+            let pieces: Vec<&str> =
+                pieces.iter().map(|piece| std::str::from_utf8(piece).unwrap()).collect();
+            assert_eq!(pieces.concat(), text);
+            assert!(pieces.iter().all(|piece| !piece.contains("\nboard=")), "{text:?}");
+            assert!(pieces[1..].iter().all(|piece| piece.starts_with("board=")), "{text:?}");
+            let ended = pieces.split_last().unwrap().1;
+            assert!(ended.iter().all(|piece| piece.ends_with('\n')), "{text:?}");
+            assert!(!pieces.contains(&"") || text.is_empty(), "{text:?}");
+        }
     }
 }

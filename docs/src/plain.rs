@@ -7,6 +7,9 @@
 use crate::model::{Answer, Refusal, Row};
 
 const MOST_TASKS: usize = 12;
+const MOST_PIECES: usize = 32;
+/// Room for any plan.
+const PLAN_ROOM: usize = 1_024;
 const UNKNOWN: u8 = 255;
 const NONE: u8 = 254;
 
@@ -317,4 +320,58 @@ pub fn plan(text: &[u8], buffer: &mut [u8]) -> Answer {
 
 pub fn review(text: &[u8], buffer: &mut [u8]) -> Answer {
     deliver(reviewed(text), buffer)
+}
+
+// ---- The crane --------------------------------------------------------------------------
+
+/// Where the piece that begins at `start` ends: before the next board line or with the text.
+fn end_of_piece(text: &[u8], start: usize) -> usize {
+    let mut at = start + 1;
+    while at < text.len() {
+        if text[at - 1] == b'\n' && text[at..].starts_with(b"board=") {
+            return at;
+        }
+        at += 1;
+    }
+    text.len()
+}
+
+fn ends_of_pieces(text: &[u8]) -> Vec<usize> {
+    let mut end = end_of_piece(text, 0);
+    let mut ends = vec![end];
+    while end < text.len() {
+        end = end_of_piece(text, end);
+        ends.push(end);
+    }
+    ends
+}
+
+/// Adds what a single call on the piece prints.
+fn push_piece(output: &mut Vec<u8>, piece: &[u8]) {
+    let mut room = [0; PLAN_ROOM];
+    let answer = plan(piece, &mut room);
+    if answer.number == 0 {
+        output.extend_from_slice(&room[..answer.length as usize]);
+    } else {
+        push_line(output, b"plan=", 0);
+        push_line(output, b"refusal=", answer.number);
+        push_line(output, b"line=", answer.place);
+    }
+}
+
+fn craned(text: &[u8]) -> Result<Vec<u8>, Refusal> {
+    let ends = ends_of_pieces(text);
+    if ends.len() > MOST_PIECES {
+        return Err(Refusal { number: 10, place: 0 });
+    }
+    let (mut output, mut start) = (Vec::new(), 0);
+    for end in ends {
+        push_piece(&mut output, &text[start..end]);
+        start = end;
+    }
+    Ok(output)
+}
+
+pub fn crane(text: &[u8], buffer: &mut [u8]) -> Answer {
+    deliver(craned(text), buffer)
 }
