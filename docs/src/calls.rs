@@ -7,6 +7,9 @@ use std::fmt::Write;
 /// A buffer longer than any plan.
 pub const AMPLE: usize = 2_048;
 
+/// A buffer longer than any output of the crane.
+pub const CRANE_AMPLE: usize = 33_000;
+
 /// Bytes before and after the lent buffer that no call may touch.
 const GUARD: usize = 16;
 
@@ -78,6 +81,13 @@ impl Tally {
             let refusals = (1..10).map(|number| format!(", refusal {number}: {}", counts[number]));
             println!("  {name}: plan: {}{}", counts[0], refusals.collect::<String>());
         }
+    }
+
+    pub fn print_crane(&self) {
+        let [written, .., without_room, of_too_many] = self.crane;
+        println!(
+            "  crane: written: {written}, refusal 9: {without_room}, refusal 10: {of_too_many}"
+        );
     }
 }
 

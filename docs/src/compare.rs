@@ -1,5 +1,5 @@
-//! Holds the proved planner and reviewer to the model of document 01, and their plans to the
-//! board. See `docs/TESTING.md`.
+//! Holds the proved planner, reviewer and crane to the model of document 01, and the plans to
+//! the board. See `docs/TESTING.md`.
 //!
 //! Built with `--cfg model_only` it needs no library: `plain.rs` stands in for it.
 
@@ -9,6 +9,8 @@
 mod board_runs;
 mod boards;
 mod calls;
+mod crane_runs;
+mod cranes;
 mod dice;
 #[cfg(not(model_only))]
 mod library;
@@ -31,7 +33,8 @@ const SHORT_PLAN: usize = 200;
 /// How often a table's betas are lowered at most.
 const MOST_SQUEEZES: u64 = 3;
 
-const USAGE: &str = "usage: compare [--texts N] [--tables N] [--boards N] [--seed S]
+const USAGE: &str = "usage: compare [--texts N] [--tables N] [--boards N] [--cranes N] [--seed S]
+         20000 texts, 1200 tables, 100 boards, 4000 cranes and seed 1 where nothing else is said
        compare --says plan|review|crane    print what the model says to standard input";
 
 /// A line ten times in a run, so that a long one is seen to go on.
@@ -177,12 +180,14 @@ struct Options {
     texts: u64,
     tables: u64,
     boards: u64,
+    cranes: u64,
     seed: u64,
     says: Option<Call>,
 }
 
 fn options() -> Option<Options> {
-    let mut options = Options { texts: 20_000, tables: 1_200, boards: 100, seed: 1, says: None };
+    let mut options =
+        Options { texts: 20_000, tables: 1_200, boards: 100, cranes: 4_000, seed: 1, says: None };
     let mut words = std::env::args().skip(1);
     while let Some(word) = words.next() {
         let value = words.next()?;
@@ -190,6 +195,7 @@ fn options() -> Option<Options> {
             ("--texts", count) => options.texts = count.parse().ok()?,
             ("--tables", count) => options.tables = count.parse().ok()?,
             ("--boards", count) => options.boards = count.parse().ok()?,
+            ("--cranes", count) => options.cranes = count.parse().ok()?,
             ("--seed", seed) => options.seed = seed.parse().ok()?,
             ("--says", "plan") => options.says = Some(Call::Plan),
             ("--says", "review") => options.says = Some(Call::Review),
@@ -210,7 +216,8 @@ fn say(call: Call) -> std::io::Result<()> {
 fn run_all(options: &Options) -> Result<(), String> {
     run_texts(&mut Dice::new(options.seed), options.texts)?;
     run_tables(&mut Dice::new(options.seed ^ 1 << 32), options.tables)?;
-    board_runs::run(&mut Dice::new(options.seed ^ 2 << 32), options.boards)
+    board_runs::run(&mut Dice::new(options.seed ^ 2 << 32), options.boards)?;
+    crane_runs::run(&mut Dice::new(options.seed ^ 3 << 32), options.cranes)
 }
 
 fn main() -> ExitCode {

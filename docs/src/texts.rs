@@ -168,7 +168,8 @@ fn remove_a_byte(dice: &mut Dice, text: &mut Vec<u8>) {
     }
 }
 
-fn damage(dice: &mut Dice, text: &mut Vec<u8>) {
+/// Damages the text in one way.
+pub fn damage(dice: &mut Dice, text: &mut Vec<u8>) {
     match dice.below(16) {
         0 => text.truncate(dice.below(text.len() + 1)),
         1 | 2 => change_a_byte(dice, text),
@@ -220,7 +221,7 @@ fn few_rows(dice: &mut Dice) -> Vec<Row> {
 }
 
 /// Bytes that are no table at all, up to far beyond any table's length.
-fn garbage(dice: &mut Dice) -> Vec<u8> {
+pub fn garbage(dice: &mut Dice) -> Vec<u8> {
     let length = dice.any_size(60_000) as usize;
     let kind = dice.below(4);
     (0..length)
