@@ -40,7 +40,7 @@ abbrev mostLines : ℕ
 mostLines = 3 + maxTasks * fieldCount
 
 -- line k may be the one that a stage expects
-abbrev Early : ℕ → Stage → Type 0
+abbrev pub Early : ℕ → Stage → Type 0
 Early k at-board = k ≤ 1
 Early k (at-tasks b) = k ≤ 2
 Early k (at-field n b rs vs) = (length vs < fieldCount) × (k + suc n * fieldCount ≤ mostLines + length vs)
@@ -71,7 +71,7 @@ after-early k (at-field n b rs vs) key z p h =
 after-early k (at-rank n b rs os) key z p h = absurd h
 after-early k (at-end b rs os) key z p h = no-line (sym (p .is-expected))
 
-reached : {text : List ℕ} {k : ℕ} {st : Stage} {here : List ℕ} → Reaches (table false) at-board text k st here
+pub reached : {text : List ℕ} {k : ℕ} {st : Stage} {here : List ℕ} → Reaches (table false) at-board text k st here
     → Early k st
 reached begin = omega arith
 reached (line {k = k} {s = st} key z rest r p is) = after-early k st key z p (reached r)

@@ -2,6 +2,7 @@
 pub mod Pieces
 pub mod Lines
 pub mod Answers
+pub mod Tables
 pub mod Outputs
 pub mod Demands
 pub mod Cases

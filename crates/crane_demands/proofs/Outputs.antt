@@ -19,6 +19,7 @@ use Rattle.crane_demands.specs.Demands.{planKey, Composes}
 use Rattle.crane_demands.proofs.Pieces.{some-pieces, one-piece, cut-together, only-cut}
 use Rattle.crane_demands.proofs.Lines.{signed-no-feed, Others, no-others, line-other, Begun, first-line}
 use Rattle.crane_demands.proofs.Answers.{by-answer}
+use Rattle.crane_demands.proofs.Tables.{tables-cut}
 
 alone : (text : List ℕ) → Whole boardKey text → craneText text ≡ plannerPrints text
 unfolding craneText
@@ -119,4 +120,4 @@ told-apart text =
     sym (only-cut planKey refl refl (craneText text) (answers (pieces text)) (record { joins = refl; separate = separate }))
 
 pub composes : Composes
-composes = record { alone = alone; together = together; told-apart = told-apart }
+composes = record { alone = alone; tables = tables-cut; together = together; told-apart = told-apart }

@@ -1,14 +1,15 @@
 -- What is promised of every crane's text, of any outcome and in document 02's words: how the text is cut, that each
 -- piece's single call meets the planner's demands, and when the whole call is refused. Only one outcome meets it.
 use mathlib.Core.Path.{_≡_}
-use mathlib.Core.Bool.{true}
+use mathlib.Core.Bool.{true, false}
 use mathlib.Core.List.{List, [], _∷_, _++_}
 use mathlib.Core.Logic.{_↔_}
 use Prim.Native.Nat.{ℕ, _≤_, _<_}
-use lib.ListN.{length}
+use lib.ListN.{length, getD}
 use Rattle.basics.specs.Basics.{isIn}
-use Rattle.text.specs.Text.{bytes}
+use Rattle.text.specs.Text.{bytes, joined}
 use Rattle.text.specs.Lines.{begins}
+use Rattle.tables.specs.TableLines.{readTable}
 use Rattle.plans.specs.declared.Answer.{Answer}
 use Rattle.plans.specs.Plans.{planRoom}
 use Rattle.plans.specs.Outcomes.{Outcome, writes, refuses, Written, printed}
@@ -55,6 +56,11 @@ planKey = bytes "plan="
 pub record Composes : Type 0 where
   -- a text that is one piece is answered as the planner answers it
   pub alone : (text : List ℕ) → Whole boardKey text → craneText text ≡ plannerPrints text
+  -- tables that the planner accepts, put one after another, are the pieces
+  pub tables :
+      (t : List ℕ) (ts : List (List ℕ))
+      → ((i : ℕ) → i < length (t ∷ ts) → readTable false (getD (t ∷ ts) i []) .refused ≡ 0)
+      → pieces (joined (t ∷ ts)) ≡ t ∷ ts
   -- of two texts put together, each is answered as if the other were not there: a refused piece changes no other
   pub together :
       (text more : List ℕ) → endsLine text ≡ true → begins boardKey more ≡ true
