@@ -16,7 +16,7 @@ use Rattle.crane_demands.specs.Calls.{craneText, craned}
 use Rattle.crane_demands.specs.Cases.{AllHold, cuts, cranes}
 
 pub cuts-hold : AllHold cuts
-cuts-hold = (refl, (refl, (refl, (refl, (refl, (refl, (refl, (refl, tt))))))))
+cuts-hold = (refl, (refl, (refl, (refl, (refl, (refl, (refl, (refl, (refl, tt)))))))))
 
 pub cranes-hold : AllHold cranes
 unfolding digits decimal signed keyLine numberOf lineAt formAt readFor readTable

@@ -55,6 +55,8 @@ cuts =
     -- inside a line, and after a carriage return
     ∷ cut (lined ("board=1 board=2" ∷ [])) (lined ("board=1 board=2" ∷ []) ∷ [])
     ∷ cut (bytes "x" ++ (carriageReturn ∷ bytes "board=")) ((bytes "x" ++ (carriageReturn ∷ bytes "board=")) ∷ [])
+    -- a line that begins with a part of the key
+    ∷ cut (lined ("x" ∷ "board" ∷ [])) (lined ("x" ∷ "board" ∷ []) ∷ [])
     -- an empty line is a line
     ∷ cut (lined ("" ∷ "board=1" ∷ "a" ∷ "board=2" ∷ []))
     (lined ("" ∷ []) ∷ lined ("board=1" ∷ "a" ∷ []) ∷ lined ("board=2" ∷ []) ∷ [])
