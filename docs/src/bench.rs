@@ -29,6 +29,10 @@ mod library {
     pub fn review(text: &[u8], buffer: &mut [u8]) -> Answer {
         model::written(&model::reviewed(text), buffer)
     }
+
+    pub fn crane(text: &[u8], buffer: &mut [u8]) -> Answer {
+        model::written(&model::craned(text), buffer)
+    }
 }
 
 use dice::Dice;
@@ -41,8 +45,10 @@ const FULL_BOARDS: usize = 120;
 /// The terms that the search adds up at the least where it is the search that is to be timed, and
 /// not reading and writing.
 const MUCH_WORK: u64 = 3_000;
-/// Longer than any plan.
-const AMPLE: usize = 2_048;
+/// Longer than any plan, and than any crane's output.
+const AMPLE: usize = 33_000;
+/// Cranes are timed with so many boards.
+const CRANES: [usize; 6] = [1, 2, 4, 8, 16, 32];
 /// Calls of one measurement together last about this many seconds, for the clock to be fine
 /// enough.
 const BATCH: f64 = 1e-3;
@@ -64,6 +70,7 @@ struct Pair {
 
 const PLAN: Pair = Pair { plain: plain::plan, library: library::plan };
 const REVIEW: Pair = Pair { plain: plain::review, library: library::review };
+const CRANE: Pair = Pair { plain: plain::crane, library: library::crane };
 
 /// A text on which the two do not print the same.
 struct Different(Vec<u8>);
@@ -95,13 +102,20 @@ fn printed(function: Function, text: &[u8]) -> (Answer, Vec<u8>) {
     (answer, buffer)
 }
 
-fn seconds(function: Function, text: &[u8], calls: u32) -> f64 {
+/// Calls on one text after another, all of them so many times.
+fn seconds_in_turn(function: Function, texts: &[&[u8]], turns: u32) -> f64 {
     let mut buffer = [0; AMPLE];
     let started = clock();
-    for _ in 0..calls {
-        black_box(function(black_box(text), &mut buffer));
+    for _ in 0..turns {
+        for &text in texts {
+            black_box(function(black_box(text), &mut buffer));
+        }
     }
-    (clock() - started) as f64 * 1e-6 / f64::from(calls)
+    (clock() - started) as f64 * 1e-6 / f64::from(turns)
+}
+
+fn seconds(function: Function, text: &[u8], calls: u32) -> f64 {
+    seconds_in_turn(function, &[text], calls)
 }
 
 /// The shortest times of several rounds, which are disturbed least; the two take turns in going
@@ -241,6 +255,35 @@ fn print_full_boards(
     Ok(())
 }
 
+/// Times cranes of ever more boards of 1 to 12 tasks each, and the library's crane against its own
+/// single calls on the same boards.
+fn print_cranes(dice: &mut Dice, count: usize, rounds: u32) -> Result<(), Different> {
+    println!("crane, boards of 1 to 12 tasks, microseconds a call");
+    println!("  boards     plain {NAME:>10}   ratio  to single calls");
+    for boards in CRANES {
+        let (mut sum, mut single) = (Times::default(), 0.0);
+        for _ in 0..count {
+            let mut board = || {
+                let tasks = dice.below(12) + 1;
+                table_text(&typical(dice, tasks))
+            };
+            let pieces: Vec<Vec<u8>> = (0..boards).map(|_| board()).collect();
+            let times = measure(&CRANE, &pieces.concat(), rounds)?;
+            sum.plain += times.plain;
+            sum.library += times.library;
+            let turns = (BATCH / times.library).clamp(1.0, 10_000.0) as u32;
+            let pieces: Vec<&[u8]> = pieces.iter().map(Vec::as_slice).collect();
+            let turn = |_| seconds_in_turn(library::plan, &pieces, turns);
+            single += (0..rounds).map(turn).fold(f64::INFINITY, f64::min);
+        }
+        let micros = 1e6 / count as f64;
+        let (plain, library) = (sum.plain * micros, sum.library * micros);
+        let more = sum.library / single;
+        println!("  {boards:6} {plain:9.2} {library:10.2} {:7.2} {more:16.2}", sum.ratio());
+    }
+    Ok(())
+}
+
 // ---- The search for a slow table --------------------------------------------------------
 
 fn near(dice: &mut Dice, number: u64, low: u64, high: u64) -> u64 {
@@ -370,6 +413,8 @@ fn run(options: &Options) -> Result<(), Different> {
     )?;
     print_full_boards("as drawn", &mut dice, 0, options.rounds)?;
     print_full_boards("with much to search", &mut dice, MUCH_WORK, options.rounds)?;
+    // Dice of its own, so that the tables of the other parts stay what they were.
+    print_cranes(&mut Dice::new(options.seed ^ 1 << 32), options.tables / 4 + 1, options.rounds)?;
     if options.climb > 0 {
         print_slowest(&mut dice, options.climb, options.rounds)?;
     }
