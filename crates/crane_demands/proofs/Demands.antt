@@ -11,14 +11,14 @@ use borrow.Author.Tests.{le-leb, lt-leb}
 use Rattle.basics.specs.Basics.{pick, isIn}
 use Rattle.basics.proofs.Tests.{le-or-lt}
 use Rattle.text.specs.Text.{joined}
-use Rattle.plans.specs.Plans.{planRoom}
-use Rattle.plans.specs.Outcomes.{Outcome, writes, refuses, fitted}
+use Rattle.plans.specs.Plans.{refusalText, planRoom}
+use Rattle.plans.specs.Outcomes.{Outcome, writes, refuses, fitted, printed}
 use Rattle.plans.proofs.Outcomes.{fits, fits-not}
 use Rattle.demands.specs.Calls.{plannerPrints}
 use Rattle.demands.proofs.Outcomes.{same-refusal, not-both}
 use Rattle.demands.proofs.Planner as Planner
 use Rattle.crane_demands.specs.Pieces.{CutOf, boardKey, pieces, maxPieces}
-use Rattle.crane_demands.specs.Calls.{answers, craneText, craned, craneRoom}
+use Rattle.crane_demands.specs.Calls.{answers, craneText, craned, craneRoom, cranePrints}
 use Rattle.crane_demands.specs.Demands.{Singles, none, next, printedAll, plannedAll, CraneOf, craneRefusals}
 use Rattle.crane_demands.specs.Demands.{CraneDemands}
 use Rattle.crane_demands.proofs.Pieces as P
@@ -62,6 +62,15 @@ module _ (text : List ℕ) where
         → craned text room ≡ writes (craneText text)
     written-is h r = few-is h ∙ fits room (craneText text) r
 
+  -- ---- the program
+  prints-few : length (pieces text) ≤ maxPieces → cranePrints text ≡ craneText text
+  prints-few h = ap printed (written-is craneRoom h (text-short h))
+
+  prints-many : maxPieces < length (pieces text) → cranePrints text ≡ refusalText 10 0
+  prints-many h = ap printed (ten-is craneRoom h)
+
+  -- ---- how the outcome comes about
+  module _ (room : ℕ) where
     data Cases : Type 0 where
       many : maxPieces < length (pieces text) → craned text room ≡ refuses 10 0 → Cases
       short : length (pieces text) ≤ maxPieces → room < length (craneText text) → craned text room ≡ refuses 9 0 → Cases
@@ -72,10 +81,10 @@ module _ (text : List ℕ) where
     cases = elim (le-or-lt (length (pieces text)) maxPieces) [
       | inl h ↦
           elim (le-or-lt (length (craneText text)) room) [
-            | inl r ↦ written h r (written-is h r)
-            | inr r ↦ short h r (nine-is h r)
+            | inl r ↦ written h r (written-is room h r)
+            | inr r ↦ short h r (nine-is room h r)
           ]
-      | inr h ↦ many h (ten-is h)
+      | inr h ↦ many h (ten-is room h)
     ]
 
     listed : Cases → (n p : ℕ) → craned text room ≡ refuses n p → (isIn n craneRefusals ≡ true) × (p ≡ 0)
@@ -116,12 +125,12 @@ module _ (text : List ℕ) where
 
     crane-of : CraneOf room (pieces text) (plannedAll (pieces text)) (craned text room)
     crane-of = record {
-      ten = (ten cases, ten-is);
+      ten = (ten cases, ten-is room);
       nine = subst (λ t. (craned text room ≡ refuses 9 0) ↔ ((length (pieces text) ≤ maxPieces) × (room < length t)))
-          output-is (nine cases, λ h. nine-is (h .0) (h .1));
+          output-is (nine cases, λ h. nine-is room (h .0) (h .1));
       written =
           subst (λ t. (craned text room ≡ writes t) ↔ ((length (pieces text) ≤ maxPieces) × (length t ≤ room)))
-          output-is (wrote cases, λ h. written-is (h .0) (h .1));
+          output-is (wrote cases, λ h. written-is room (h .0) (h .1));
     }
 
     only-cut : (ps : List (List ℕ)) → CutOf boardKey text ps → ps ≡ pieces text
@@ -148,6 +157,8 @@ module _ (text : List ℕ) where
       listed = listed cases;
       outcome = outcome;
       has-room = has-room;
+      prints-few = prints-few;
+      prints-many = prints-many;
       composes = composes;
     }
 

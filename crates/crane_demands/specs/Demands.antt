@@ -11,12 +11,12 @@ use Rattle.text.specs.Text.{bytes, joined}
 use Rattle.text.specs.Lines.{begins}
 use Rattle.tables.specs.TableLines.{readTable}
 use Rattle.plans.specs.declared.Answer.{Answer}
-use Rattle.plans.specs.Plans.{planRoom}
+use Rattle.plans.specs.Plans.{refusalText, planRoom}
 use Rattle.plans.specs.Outcomes.{Outcome, writes, refuses, Written, printed}
 use Rattle.demands.specs.Calls.{planned, plannerPrints}
 use Rattle.demands.specs.Demands.{PlanDemands}
 use Rattle.crane_demands.specs.Pieces.{cutBefore, Whole, endsLine, CutOf, boardKey, pieces, maxPieces}
-use Rattle.crane_demands.specs.Calls.{answers, craneText, craned, craneRoom}
+use Rattle.crane_demands.specs.Calls.{answers, craneText, craned, craneRoom, cranePrints}
 
 -- ---- single calls
 -- outcomes of the pieces' single calls, in a buffer with room for every plan: one for each piece, and each meets the
@@ -79,8 +79,10 @@ pub record CraneDemands (text : List ℕ) (room : ℕ) (w : Outcome) : Type 0 wh
   pub listed : (n p : ℕ) → w ≡ refuses n p → (isIn n craneRefusals ≡ true) × (p ≡ 0)
   pub outcome :
       (ps : List (List ℕ)) (ws : List Outcome) → CutOf boardKey text ps → Singles ps ws → CraneOf room ps ws w
-  -- a program's buffer has room for every output
+  -- a program's buffer has room for every output, so the program prints that, or the lines of refusal 10
   pub has-room : craneRoom ≤ room → (p : ℕ) → w ≡ refuses 9 p → ⊥
+  pub prints-few : length (pieces text) ≤ maxPieces → cranePrints text ≡ craneText text
+  pub prints-many : maxPieces < length (pieces text) → cranePrints text ≡ refusalText 10 0
   pub composes : Composes
 
 -- what the public call promises, of the bytes of its buffer before and after it and of what it returns
