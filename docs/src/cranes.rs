@@ -65,13 +65,15 @@ const ENDS: [&[u8]; 12] = [
 ];
 
 /// What is put in somewhere, and is a cut there or almost one.
-const NEARLY_CUTS: [&[u8]; 12] = [
+const NEARLY_CUTS: [&[u8]; 14] = [
     b"board=",
     b"board=",
     b"\nboard=",
     b"\nboard=",
     b"\rboard=",
     b" board=",
+    b"\n board=",
+    b"\n\tboard=",
     b"\0board=",
     b"board",
     b"\nboard",

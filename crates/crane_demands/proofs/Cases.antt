@@ -16,10 +16,10 @@ use Rattle.crane_demands.specs.Calls.{craneText, craned}
 use Rattle.crane_demands.specs.Cases.{AllHold, cuts, cranes}
 
 pub cuts-hold : AllHold cuts
-cuts-hold = (refl, (refl, (refl, (refl, (refl, (refl, (refl, (refl, (refl, tt)))))))))
+cuts-hold = (refl, (refl, (refl, (refl, (refl, (refl, (refl, (refl, (refl, (refl, tt))))))))))
 
 pub cranes-hold : AllHold cranes
 unfolding digits decimal signed keyLine numberOf lineAt formAt readFor readTable
     cost blocking smallest largest overSet rankText headText planText refusalText fitted onTable ifOrdered
     craneText craned
-cranes-hold = (refl, (refl, (refl, (refl, (refl, (refl, (refl, (refl, tt))))))))
+cranes-hold = (refl, (refl, (refl, (refl, (refl, (refl, (refl, (refl, (refl, (refl, tt))))))))))

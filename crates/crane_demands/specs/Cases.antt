@@ -28,6 +28,9 @@ abbrev pub times : ℕ → List ℕ → List ℕ
 times zero s = []
 times (suc n) s = s ++ times n s
 
+abbrev pub tab : ℕ
+tab = 9
+
 abbrev pub carriageReturn : ℕ
 carriageReturn = 13
 
@@ -57,6 +60,9 @@ cuts =
     ∷ cut (bytes "x" ++ (carriageReturn ∷ bytes "board=")) ((bytes "x" ++ (carriageReturn ∷ bytes "board=")) ∷ [])
     -- a line that begins with a part of the key
     ∷ cut (lined ("x" ∷ "board" ∷ [])) (lined ("x" ∷ "board" ∷ []) ∷ [])
+    -- and with almost the key
+    ∷ cut (lined ("x" ∷ "Board=1" ∷ " board=2" ∷ []) ++ (tab ∷ bytes "board="))
+    ((lined ("x" ∷ "Board=1" ∷ " board=2" ∷ []) ++ (tab ∷ bytes "board=")) ∷ [])
     -- an empty line is a line
     ∷ cut (lined ("" ∷ "board=1" ∷ "a" ∷ "board=2" ∷ []))
     (lined ("" ∷ []) ∷ lined ("board=1" ∷ "a" ∷ []) ∷ lined ("board=2" ∷ []) ∷ [])
@@ -73,6 +79,8 @@ cranes =
     ∷ prints (times 33 (lined ("board=" ∷ []))) (lined ("plan=0" ∷ "refusal=10" ∷ "line=0" ∷ []))
     -- a refused piece changes no other: bytes ahead of a board, and a line too many in the first of two
     ∷ call (lined ("x" ∷ []) ++ one) 100 (writes (noBoard ++ onePlan))
+    ∷ call (lined ("x" ∷ []) ++ one ++ one) 168 (writes (noBoard ++ onePlan ++ onePlan))
+    ∷ call (lined ("x" ∷ []) ++ one ++ one) 167 (refuses 9 0)
     ∷ prints (one ++ one) (onePlan ++ onePlan)
     ∷ prints (one ++ lined ("x" ∷ []) ++ one) (lined ("plan=0" ∷ "refusal=1" ∷ "line=9" ∷ []) ++ onePlan)
     ∷ []
