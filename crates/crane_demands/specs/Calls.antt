@@ -19,7 +19,7 @@ answers (p ∷ ps) = plannerPrints p ∷ answers ps
 unfoldable pub craneText : List ℕ → List ℕ
 craneText text = joined (answers (pieces text))
 
--- more than 32 pieces: 10; an output that the buffer can't hold: 9
+-- more than 32 pieces: 10, whatever the buffer; else an output that the buffer can't hold: 9; else the output
 unfoldable pub craned : List ℕ → ℕ → Outcome
 craned text room = pick (leb (length (pieces text)) maxPieces) (fitted room (craneText text)) (refuses 10 0)
 

@@ -34,7 +34,7 @@ tab = 9
 abbrev pub carriageReturn : ℕ
 carriageReturn = 13
 
--- a board of one task that always runs, its plan, and a piece whose first line is not a board's
+-- a board of one task that always runs, its plan, and the refusal of a piece whose first line is not a board's
 abbrev pub one : List ℕ
 one = alone "worst=10" "beta=10000"
 
@@ -44,8 +44,8 @@ onePlan = lined (
     ∷ "rank=1" ∷ "task=1" ∷ "best=10" ∷ "worst=10" ∷ "jitter=0" ∷ "margin=0"
     ∷ [])
 
-abbrev pub noBoard : List ℕ
-noBoard = lined ("plan=0" ∷ "refusal=1" ∷ "line=1" ∷ [])
+abbrev pub noBoardRefusal : List ℕ
+noBoardRefusal = lined ("plan=0" ∷ "refusal=1" ∷ "line=1" ∷ [])
 
 abbrev pub cuts : List Case
 cuts =
@@ -71,15 +71,15 @@ cuts =
 abbrev pub cranes : List Case
 cranes =
     -- every piece refused: 9 all the same, where the buffer is one byte short
-    call [] 24 (writes noBoard)
+    call [] 24 (writes noBoardRefusal)
     ∷ call [] 23 (refuses 9 0)
     -- 32 pieces and 33, which are refused whatever the buffer
     ∷ call (times 32 (lined ("board=" ∷ []))) 0 (refuses 9 0)
     ∷ call (times 33 (lined ("board=" ∷ []))) 0 (refuses 10 0)
     ∷ prints (times 33 (lined ("board=" ∷ []))) (lined ("plan=0" ∷ "refusal=10" ∷ "line=0" ∷ []))
     -- a refused piece changes no other: bytes ahead of a board, and a line too many in the first of two
-    ∷ call (lined ("x" ∷ []) ++ one) 100 (writes (noBoard ++ onePlan))
-    ∷ call (lined ("x" ∷ []) ++ one ++ one) 168 (writes (noBoard ++ onePlan ++ onePlan))
+    ∷ call (lined ("x" ∷ []) ++ one) 100 (writes (noBoardRefusal ++ onePlan))
+    ∷ call (lined ("x" ∷ []) ++ one ++ one) 168 (writes (noBoardRefusal ++ onePlan ++ onePlan))
     ∷ call (lined ("x" ∷ []) ++ one ++ one) 167 (refuses 9 0)
     ∷ prints (one ++ one) (onePlan ++ onePlan)
     ∷ prints (one ++ lined ("x" ∷ []) ++ one) (lined ("plan=0" ∷ "refusal=1" ∷ "line=9" ∷ []) ++ onePlan)

@@ -33,7 +33,7 @@ abbrev pub printedAll : List Outcome → List ℕ
 printedAll [] = []
 printedAll (w ∷ ws) = printed w ++ printedAll ws
 
--- the planner's own
+-- the planner's own outcomes
 abbrev pub plannedAll : List (List ℕ) → List Outcome
 plannedAll [] = []
 plannedAll (p ∷ ps) = planned p planRoom ∷ plannedAll ps

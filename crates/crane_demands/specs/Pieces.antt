@@ -13,12 +13,13 @@ use Rattle.text.specs.Lines.{begins}
 abbrev pub cutAfter : List ℕ → ℕ → List ℕ → Bool
 cutAfter key b s = eqb b lineFeed && begins key s
 
--- a byte before pieces: a piece of its own, or the first byte of the first one
+-- a byte before pieces, of which there is always one: a piece of its own, or the first byte of the first one
 abbrev pub before : Bool → ℕ → List (List ℕ) → List (List ℕ)
 before true b ps = (b ∷ []) ∷ ps
 before false b [] = (b ∷ []) ∷ []
 before false b (p ∷ ps) = (b ∷ p) ∷ ps
 
+-- the pieces of a text, byte by byte: each byte belongs to the piece after it, but where a cut stands between them
 abbrev pub cutBefore : List ℕ → List ℕ → List (List ℕ)
 cutBefore key [] = [] ∷ []
 cutBefore key (b ∷ s) = before (cutAfter key b s) b (cutBefore key s)

@@ -21,6 +21,7 @@ const MAX_PIECES: usize = 32;
 // Room for every crane's output.
 pub const CRANE_ROOM: usize = MAX_PIECES * ROOM;
 
+// A buffer with that room.
 pub fn buffer() -> [u8; CRANE_ROOM]
     ensures { λ r. ⌜ r ≡ replicate craneRoom 0 ⌝ }
 {
@@ -53,7 +54,8 @@ fn piece_end(text: &[u8], from: usize) -> usize
     i
 }
 
-// Where each piece ends, and how many there are, in one pass over the text. It stops where there are too many.
+// Where each piece ends, and how many there are, or one more than the most where there are too many: in one pass over the
+// text, which stops there.
 fn cut(text: &[u8], ends: &mut [usize]) -> usize
     requires { ⌜ maxPieces ≤ length (now ends) ⌝ }
     ensures { λ r. ⌜ Cuts (now (text .entry)) (now (ends .exit)) r ⌝ }
@@ -93,7 +95,7 @@ fn put_answers(out: &mut [u8], text: &[u8], ends: &[usize], count: usize) -> usi
 }
 
 // The crane's call: the plans and refusals of a text's pieces, in sequence. They are written whole into a buffer of the
-// call's own, so that a refusal leaves out as it was.
+// call's own, so that a refusal leaves `out` as it was.
 pub fn write_crane(text: &[u8], out: &mut [u8]) -> Answer
     ensures { λ r. ⌜ CraneSays (now (text .entry)) (now (out .entry)) (now (out .exit)) r ⌝ }
 {

@@ -1,4 +1,4 @@
-// The product's two calls, held against what the brute force has to answer.
+// The planner's and the reviewer's calls, held against what the brute force has to answer.
 use trials::Answer;
 use trials::Question;
 use trials::SPACE;

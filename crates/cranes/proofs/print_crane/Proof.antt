@@ -45,7 +45,7 @@ returns : tie.Need-returns
 returns c =
     let w = c .before .before .before .before in
     let r = w .write-crane .result in
-    let is = print-refused r (w .write-crane .last .1 .0) (c .before .before .if1 .taken) in
+    let is = print-refused r (w .write-crane .last .1 .0) (λ z. omega (arith, c .before .before .if1 .taken)) in
     let put = c .put-refusal in
     let p = subst (λ t. Wrote t (w .write-crane .last .1 .0) (put .last .0) (put .result)) (sym is) (put .ensures) in
     (prints _ (has-number w) (answer w) p, wrote-counts p)
