@@ -13,7 +13,7 @@ use Rattle.text.proofs.Lines.{decimal-no-feed}
 use Rattle.plans.specs.declared.Entry.{Entry}
 use Rattle.plans.specs.Plans.{rankText, rankTexts, headText, planText, refusalText}
 use Rattle.demands.specs.Calls.{plannerPrints}
-use Rattle.crane_demands.specs.Pieces.{cutBefore, Whole, endsLine, Separate, boardKey, pieces}
+use Rattle.crane_demands.specs.Pieces.{cutBefore, Uncut, endsLine, Separate, boardKey, pieces}
 use Rattle.crane_demands.specs.Calls.{answers, craneText}
 use Rattle.crane_demands.specs.Demands.{planKey, Composes}
 use Rattle.crane_demands.proofs.Pieces.{some-pieces, one-piece, cut-together, only-cut}
@@ -21,7 +21,7 @@ use Rattle.crane_demands.proofs.Lines.{signed-no-feed, Others, no-other
 use Rattle.crane_demands.proofs.Answers.{by-answer}
 use Rattle.crane_demands.proofs.Tables.{tables-cut}
 
-alone : (text : List ℕ) → Whole boardKey text → craneText text ≡ plannerPrints text
+alone : (text : List ℕ) → Uncut boardKey text → craneText text ≡ plannerPrints text
 unfolding craneText
 alone text w = ap (λ ps. joined (answers ps)) (one-piece boardKey text w) ∙ append-nil (plannerPrints text)
 
@@ -104,10 +104,10 @@ prints-answered : (text : List ℕ) → Begun planKey (plannerPrints text)
 prints-answered = by-answer (Begun planKey) (λ board es h. plan-answered board es) (λ n p h l. refusal-answered n p)
 
 answers-separate : (p : List ℕ) (ps : List (List ℕ)) → Separate planKey (answers (p ∷ ps))
-answers-separate p [] = prints-answered p .whole
+answers-separate p [] = prints-answered p .uncut
 answers-separate p (q ∷ ps) =
     let a = prints-answered p in
-    (a .whole, a .ends, prints-answered q .begun, answers-separate q ps)
+    (a .uncut, a .ends, prints-answered q .begun, answers-separate q ps)
 
 all-separate : (ps : List (List ℕ)) → 0 < length ps → Separate planKey (answers ps)
 all-separate [] h = absurd (omega arith)

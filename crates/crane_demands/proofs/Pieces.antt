@@ -13,7 +13,7 @@ use Rattle.basics.specs.Basics.{isIn}
 use Rattle.basics.proofs.Tests.{test-of, true-not-false, false-of, and-left, and-right, and-both, or-right}
 use Rattle.text.specs.Text.{lineFeed, joined}
 use Rattle.text.specs.Lines.{begins}
-use Rattle.crane_demands.specs.Pieces.{cutAfter, before, cutBefore, Whole, endsLine, Separate, CutOf}
+use Rattle.crane_demands.specs.Pieces.{cutAfter, before, cutBefore, Uncut, endsLine, Separate, CutOf}
 
 -- ---- keys
 pub begins-more : (key s t : List ℕ) → begins key s ≡ true → begins key (s ++ t) ≡ true
@@ -64,26 +64,26 @@ joined-before false b [] = refl
 joined-before false b (p ∷ ps) = refl
 
 module _ (key : List ℕ) where
-  -- ---- whole pieces
+  -- ---- uncut pieces
   not-empty : (u v : List ℕ) → [] ≡ u ++ (lineFeed ∷ v) → ⊥
   not-empty u v e = omega (arith, ap length e, length-append u (lineFeed ∷ v))
 
-  pub whole-none : Whole key []
-  whole-none u v e = absurd (not-empty u v e)
+  pub uncut-none : Uncut key []
+  uncut-none u v e = absurd (not-empty u v e)
 
-  pub whole-more : (b : ℕ) (p : List ℕ) → cutAfter key b p ≡ false → Whole key p → Whole key (b ∷ p)
-  whole-more b p h w [] v e =
+  pub uncut-more : (b : ℕ) (p : List ℕ) → cutAfter key b p ≡ false → Uncut key p → Uncut key (b ∷ p)
+  uncut-more b p h w [] v e =
       let feed : b ≡ lineFeed = cc in
       let same : p ≡ v = cc in
       ap (begins key) (sym same) ∙ sym (ap (λ t. t && begins key p) (eq-eqb b lineFeed feed)) ∙ h
-  whole-more b p h w (c ∷ u) v e = let is : p ≡ u ++ (lineFeed ∷ v) = cc in w u v is
+  uncut-more b p h w (c ∷ u) v e = let is : p ≡ u ++ (lineFeed ∷ v) = cc in w u v is
 
-  whole-tail : (b : ℕ) (p : List ℕ) → Whole key (b ∷ p) → Whole key p
-  whole-tail b p w u v e = w (b ∷ u) v (ap (λ l. b ∷ l) e)
+  uncut-tail : (b : ℕ) (p : List ℕ) → Uncut key (b ∷ p) → Uncut key p
+  uncut-tail b p w u v e = w (b ∷ u) v (ap (λ l. b ∷ l) e)
 
-  -- no cut after the first byte of a whole piece
-  whole-uncut : (b : ℕ) (p : List ℕ) → Whole key (b ∷ p) → cutAfter key b p ≡ false
-  whole-uncut b p w = elim (test-of (eqb b lineFeed)) [
+  -- no cut after the first byte of an uncut piece
+  uncut-first : (b : ℕ) (p : List ℕ) → Uncut key (b ∷ p) → cutAfter key b p ≡ false
+  uncut-first b p w = elim (test-of (eqb b lineFeed)) [
     | inl e ↦ rw e (w [] p (ap (λ x. x ∷ p) (eqb-true b lineFeed e)))
     | inr e ↦ rw e
   ]
@@ -99,8 +99,8 @@ module _ (key : List ℕ) where
   some-pieces (b ∷ s) = some-before (cutAfter key b s) b (cutBefore key s)
 
   -- where the text is not cut, the piece is not
-  uncut : (b : ℕ) (p rest : List ℕ) → cutAfter key b (p ++ rest) ≡ false → cutAfter key b p ≡ false
-  uncut b p rest h = false-of (cutAfter key b p) (λ e.
+  uncut-front : (b : ℕ) (p rest : List ℕ) → cutAfter key b (p ++ rest) ≡ false → cutAfter key b p ≡ false
+  uncut-front b p rest h = false-of (cutAfter key b p) (λ e.
       true-not-false (cutAfter key b (p ++ rest))
       (and-both (eqb b lineFeed) (begins key (p ++ rest)) (and-left (eqb b lineFeed) (begins key p) e)
       (begins-more key p rest (and-right (eqb b lineFeed) (begins key p) e))) h)
@@ -108,25 +108,25 @@ module _ (key : List ℕ) where
   separate-uncut : (b : ℕ) (s : List ℕ) (ps : List (List ℕ)) → cutAfter key b s ≡ false → joined ps ≡ s
       → Separate key ps → Separate key (before false b ps)
   separate-uncut b s [] c j h = absurd h
-  separate-uncut b s (p ∷ []) c j h = whole-more b p (uncut b p [] (ap (cutAfter key b) j ∙ c)) h
+  separate-uncut b s (p ∷ []) c j h = uncut-more b p (uncut-front b p [] (ap (cutAfter key b) j ∙ c)) h
   separate-uncut b s (p ∷ q ∷ qs) c j h = (
-    whole-more b p (uncut b p (joined (q ∷ qs)) (ap (cutAfter key b) j ∙ c)) (h .0),
+    uncut-more b p (uncut-front b p (joined (q ∷ qs)) (ap (cutAfter key b) j ∙ c)) (h .0),
     ends-more b p (h .1),
     h .2,
     h .3,
   )
 
   -- ---- a text that is one piece
-  pub one-piece : (p : List ℕ) → Whole key p → cutBefore key p ≡ p ∷ []
+  pub one-piece : (p : List ℕ) → Uncut key p → cutBefore key p ≡ p ∷ []
   one-piece [] w = refl
   one-piece (b ∷ p) w =
-      ap (λ c. before c b (cutBefore key p)) (whole-uncut b p w) ∙ ap (before false b) (one-piece p (whole-tail b p w))
+      ap (λ c. before c b (cutBefore key p)) (uncut-first b p w) ∙ ap (before false b) (one-piece p (uncut-tail b p w))
 
   -- ---- where the key is not empty and has no line feed
   module _ (some : begins key [] ≡ false) (in-line : isIn lineFeed key ≡ false) where
-    whole-one : (b : ℕ) → Whole key (b ∷ [])
-    whole-one b [] v e = let is : v ≡ [] = cc in ap (begins key) is ∙ some
-    whole-one b (c ∷ u) v e = let is : [] ≡ u ++ (lineFeed ∷ v) = cc in absurd (not-empty u v is)
+    uncut-one : (b : ℕ) → Uncut key (b ∷ [])
+    uncut-one b [] v e = let is : v ≡ [] = cc in ap (begins key) is ∙ some
+    uncut-one b (c ∷ u) v e = let is : [] ≡ u ++ (lineFeed ∷ v) = cc in absurd (not-empty u v is)
 
     piece-begins : (p rest : List ℕ) → endsLine p ≡ true → begins key (p ++ rest) ≡ true → begins key p ≡ true
     piece-begins p rest e h = begins-within key p rest in-line (ends-in p e) h
@@ -135,13 +135,13 @@ module _ (key : List ℕ) where
         → Separate key ps → Separate key (before true b ps)
     separate-cut b s [] c j h = absurd h
     separate-cut b s (p ∷ []) c j h = (
-      whole-one b,
+      uncut-one b,
       and-left (eqb b lineFeed) (begins key s) c,
       ap (begins key) (sym (append-nil p) ∙ j) ∙ and-right (eqb b lineFeed) (begins key s) c,
       h,
     )
     separate-cut b s (p ∷ q ∷ qs) c j h = (
-      whole-one b,
+      uncut-one b,
       and-left (eqb b lineFeed) (begins key s) c,
       piece-begins p (joined (q ∷ qs)) (h .1)
           (ap (begins key) j ∙ and-right (eqb b lineFeed) (begins key s) c),
@@ -149,7 +149,7 @@ module _ (key : List ℕ) where
     )
 
     separate : (s : List ℕ) → Separate key (cutBefore key s)
-    separate [] = whole-none
+    separate [] = uncut-none
     separate (b ∷ s) =
         let ih = separate s in
         elim (test-of (cutAfter key b s)) [
@@ -172,7 +172,7 @@ module _ (key : List ℕ) where
     cut-together [] more e h = absurd (true-not-false false e refl)
     cut-together (b ∷ []) more e h =
         ap (λ c. before c b (cutBefore key more)) (and-both (eqb b lineFeed) (begins key more) e h)
-        ∙ ap (λ ps. ps ++ cutBefore key more) (sym (one-piece (b ∷ []) (whole-one b)))
+        ∙ ap (λ ps. ps ++ cutBefore key more) (sym (one-piece (b ∷ []) (uncut-one b)))
     cut-together (b ∷ c ∷ s) more e h =
         ap (λ t. before (eqb b lineFeed && t) b (cutBefore key ((c ∷ s) ++ more))) (begins-same (c ∷ s) more e)
         ∙ ap (before (cutAfter key b (c ∷ s)) b) (cut-together (c ∷ s) more e h)

@@ -1,13 +1,14 @@
 -- A table that the planner accepts is a piece: its first line alone has the key of a board. So tables put one after
 -- another are the pieces.
 use mathlib.Core.Path.{_≡_, refl, sym, ap, subst, _∙_}
-use mathlib.Core.Bool.{true, false}
+use mathlib.Core.Bool.{Bool, true, false}
 use mathlib.Core.List.{List, [], _∷_, _++_}
 use Prim.Native.Nat.{ℕ, suc, _≤_, _<_}
 use native.Mathlib.Omega.{arith}
 use lib.IntN.{ℤ}
 use lib.ListN.{length, getD}
 use Rattle.basics.specs.Basics.{isIn}
+use Rattle.basics.proofs.Tests.{true-not-false}
 use Rattle.text.specs.Text.{lineFeed, signed, joined, keyLine}
 use Rattle.text.specs.Lines.{begins}
 use Rattle.grammars.specs.Grammars.{a-line, keyIn}
@@ -31,6 +32,16 @@ data Kind (s : Stage) (key : List ℕ) : Type 0 where
   first : s ≡ at-board → key ≡ boardKey → Kind s key
   later : (s ≡ at-board → ⊥) → ((more : List ℕ) → begins boardKey (key ++ more) ≡ false) → Kind s key
 
+abbrev isFirst : Stage → Bool
+isFirst at-board = true
+isFirst (at-tasks b) = false
+isFirst (at-field n b rs vs) = false
+isFirst (at-rank n b rs os) = false
+isFirst (at-end b rs os) = false
+
+not-first : {s : Stage} → isFirst s ≡ false → s ≡ at-board → ⊥
+not-first h e = true-not-false true refl (sym (ap isFirst e) ∙ h)
+
 expected-key : {key lock : List ℕ} {form lockForm : Form} → a-line key form ≡ a-line lock lockForm → key ≡ lock
 expected-key e = cc
 
@@ -42,16 +53,10 @@ kind : (k : ℕ) (s : Stage) (key : List ℕ) (z : ℤ) → Passes (table false)
 kind k at-board key z p h = first refl (expected-key (sym (p .is-expected)))
 kind k (at-tasks b) key z p h =
     let is = expected-key (sym (p .is-expected)) in
-    later (λ e. clash e) (λ more. ap (λ l. begins boardKey (l ++ more)) is)
-  where
-    clash : at-tasks b ≡ at-board → ⊥
-    clash e = let z : _≡_ {A = ℕ} 0 1 = cc in omega arith
+    later (not-first refl) (λ more. ap (λ l. begins boardKey (l ++ more)) is)
 kind k (at-field n b rs vs) key z p h =
     let is = expected-key (sym (p .is-expected)) in
-    later (λ e. clash e) (λ more. ap (λ l. begins boardKey (l ++ more)) is ∙ field-differs (length vs) (h .0) more)
-  where
-    clash : at-field n b rs vs ≡ at-board → ⊥
-    clash e = let z : _≡_ {A = ℕ} 0 1 = cc in omega arith
+    later (not-first refl) (λ more. ap (λ l. begins boardKey (l ++ more)) is ∙ field-differs (length vs) (h .0) more)
 kind k (at-rank n b rs os) key z p h = absurd h
 kind k (at-end b rs os) key z p h = no-line (sym (p .is-expected))
 
@@ -84,17 +89,17 @@ module _ {text : List ℕ} where
 table-begun : (text : List ℕ) → readTable false text .refused ≡ 0 → Begun boardKey text
 table-begun text a =
     let whole = read false text .as-written a .whole in
-    begun whole (λ e. let z : _≡_ {A = ℕ} 0 1 = cc in omega arith) (no-others boardKey refl)
+    begun whole (not-first refl) (no-others boardKey refl)
 
 abbrev Accepted : List (List ℕ) → Type 0
 Accepted ts = (i : ℕ) → i < length ts → readTable false (getD ts i []) .refused ≡ 0
 
 tables-separate : (t : List ℕ) (ts : List (List ℕ)) → Accepted (t ∷ ts) → Separate boardKey (t ∷ ts)
-tables-separate t [] a = table-begun t (a 0 (omega arith)) .whole
+tables-separate t [] a = table-begun t (a 0 (omega arith)) .uncut
 tables-separate t (u ∷ ts) a =
     let b = table-begun t (a 0 (omega arith)) in
     let rest = tables-separate u ts (λ i h. a (suc i) (omega arith)) in
-    (b .whole, b .ends, table-begun u (a 1 (omega arith)) .begun, rest)
+    (b .uncut, b .ends, table-begun u (a 1 (omega arith)) .begun, rest)
 
 pub tables-cut : (t : List ℕ) (ts : List (List ℕ)) → Accepted (t ∷ ts) → pieces (joined (t ∷ ts)) ≡ t ∷ ts
 tables-cut t ts a =

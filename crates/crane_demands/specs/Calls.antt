@@ -1,5 +1,5 @@
 -- What the crane's call comes to for a text and the room of a buffer, and what its program prints.
-use mathlib.Core.List.{List, [], _∷_}
+use mathlib.Core.List.{List, map}
 use Prim.Native.Nat.{ℕ, _*_}
 use lib.Dec.{leb}
 use lib.ListN.{length}
@@ -12,8 +12,7 @@ use Rattle.crane_demands.specs.Pieces.{pieces, maxPieces}
 
 -- what the planner prints for each piece alone
 abbrev pub answers : List (List ℕ) → List (List ℕ)
-answers [] = []
-answers (p ∷ ps) = plannerPrints p ∷ answers ps
+answers ps = map plannerPrints ps
 
 -- the plans and refusals of a text's pieces, in sequence
 unfoldable pub craneText : List ℕ → List ℕ

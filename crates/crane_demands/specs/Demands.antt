@@ -2,7 +2,7 @@
 -- piece's single call meets the planner's demands, and when the whole call is refused. Only one outcome meets it.
 use mathlib.Core.Path.{_≡_}
 use mathlib.Core.Bool.{true, false}
-use mathlib.Core.List.{List, [], _∷_, _++_}
+use mathlib.Core.List.{List, [], _∷_, _++_, map}
 use mathlib.Core.Logic.{_↔_}
 use Prim.Native.Nat.{ℕ, _≤_, _<_}
 use lib.ListN.{length, getD}
@@ -15,7 +15,7 @@ use Rattle.plans.specs.Plans.{refusalText, planRoom}
 use Rattle.plans.specs.Outcomes.{Outcome, writes, refuses, Written, printed}
 use Rattle.demands.specs.Calls.{planned, plannerPrints}
 use Rattle.demands.specs.Demands.{PlanDemands}
-use Rattle.crane_demands.specs.Pieces.{cutBefore, Whole, endsLine, CutOf, boardKey, pieces, maxPieces}
+use Rattle.crane_demands.specs.Pieces.{cutBefore, Uncut, endsLine, CutOf, boardKey, pieces, maxPieces}
 use Rattle.crane_demands.specs.Calls.{answers, craneText, craned, craneRoom, cranePrints}
 
 -- ---- single calls
@@ -30,13 +30,11 @@ pub data Singles : List (List ℕ) → List Outcome → Type 0 where
 
 -- what a program prints of each, in sequence
 abbrev pub printedAll : List Outcome → List ℕ
-printedAll [] = []
-printedAll (w ∷ ws) = printed w ++ printedAll ws
+printedAll ws = joined (map printed ws)
 
 -- the planner's own outcomes
 abbrev pub plannedAll : List (List ℕ) → List Outcome
-plannedAll [] = []
-plannedAll (p ∷ ps) = planned p planRoom ∷ plannedAll ps
+plannedAll ps = map (λ p. planned p planRoom) ps
 
 -- ---- the whole call
 -- of pieces and their single calls: 10 exactly for too many pieces, whatever the buffer; else 9 exactly where it is
@@ -55,7 +53,7 @@ planKey = bytes "plan="
 
 pub record Composes : Type 0 where
   -- a text that is one piece is answered as the planner answers it
-  pub alone : (text : List ℕ) → Whole boardKey text → craneText text ≡ plannerPrints text
+  pub alone : (text : List ℕ) → Uncut boardKey text → craneText text ≡ plannerPrints text
   -- tables that the planner accepts, put one after another, are the pieces
   pub tables :
       (t : List ℕ) (ts : List (List ℕ))

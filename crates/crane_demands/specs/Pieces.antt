@@ -26,8 +26,8 @@ cutBefore key (b ∷ s) = before (cutAfter key b s) b (cutBefore key s)
 
 -- ---- what makes a list of pieces the cut of a text
 -- no line after a piece's first begins with the key
-abbrev pub Whole : List ℕ → List ℕ → Type 0
-Whole key p = (u v : List ℕ) → p ≡ u ++ (lineFeed ∷ v) → begins key v ≡ false
+abbrev pub Uncut : List ℕ → List ℕ → Type 0
+Uncut key p = (u v : List ℕ) → p ≡ u ++ (lineFeed ∷ v) → begins key v ≡ false
 
 -- a piece ends with a line feed, so that a line begins after it
 abbrev pub endsLine : List ℕ → Bool
@@ -35,11 +35,11 @@ endsLine [] = false
 endsLine (b ∷ []) = eqb b lineFeed
 endsLine (b ∷ c ∷ s) = endsLine (c ∷ s)
 
--- one piece or more, each whole; each but the last ends a line, and each but the first begins with the key
+-- one piece or more, each uncut; each but the last ends a line, and each but the first begins with the key
 abbrev pub Separate : List ℕ → List (List ℕ) → Type 0
 Separate key [] = ⊥
-Separate key (p ∷ []) = Whole key p
-Separate key (p ∷ q ∷ qs) = Whole key p × (endsLine p ≡ true) × (begins key q ≡ true) × Separate key (q ∷ qs)
+Separate key (p ∷ []) = Uncut key p
+Separate key (p ∷ q ∷ qs) = Uncut key p × (endsLine p ≡ true) × (begins key q ≡ true) × Separate key (q ∷ qs)
 
 pub record CutOf (key text : List ℕ) (ps : List (List ℕ)) : Type 0 where
   pub joins : joined ps ≡ text

@@ -1,13 +1,13 @@
 // The crane's calls: a text of several boards, each piece of it planned as if it had come alone.
 ghost use mathlib.Core.Path.{_≡_};
 ghost use Prim.Native.Nat.{suc, _+_, _≤_, _<_};
-ghost use lib.ListN.{length, getD, take, drop, replicate};
+ghost use lib.ListN.{length, getD, drop, replicate};
 ghost use Rattle.io.specs.Counts.{Counts};
 ghost use Rattle.text.specs.Buffers.{Wrote};
-ghost use Rattle.crane_demands.specs.Pieces.{cutAfter, boardKey, pieces, maxPieces};
+ghost use Rattle.crane_demands.specs.Pieces.{cutAfter, boardKey, maxPieces};
 ghost use Rattle.crane_demands.specs.Calls.{craneText, craneRoom, cranePrints};
 ghost use Rattle.crane_demands.specs.Demands.{CraneSays};
-ghost use Rattle.cranes.specs.inside.Ends.{firstLong, endsFrom, Cuts};
+ghost use Rattle.cranes.specs.inside.Ends.{firstLong, Cuts};
 use plan_lines::put_refusal;
 use plans::Answer;
 use ranks::ROOM;
