@@ -1,3 +1,4 @@
--- Laws of tests, ranges and lists.
+-- Laws of tests, numbers, ranges and lists.
 pub mod Tests
+pub mod Numbers
 pub mod Fronts

@@ -1,4 +1,4 @@
--- Choices by a test, ranges, and lists of numbers.
+-- Choices by a test, the larger of two numbers, ranges, and lists of numbers.
 use mathlib.Core.Bool.{Bool, true, false, _&&_, _||_, not}
 use mathlib.Core.List.{List, [], _∷_}
 use Prim.Native.Nat.{ℕ}
@@ -7,6 +7,9 @@ use lib.Dec.{eqb, leb}
 abbrev pub pick : {A : Type 0} → Bool → A → A → A
 pick true a b = a
 pick false a b = b
+
+abbrev pub larger : ℕ → ℕ → ℕ
+larger a b = pick (leb a b) b a
 
 -- low ≤ value ≤ high
 abbrev pub within : ℕ → ℕ → ℕ → Bool

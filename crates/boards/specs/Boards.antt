@@ -1,11 +1,16 @@
--- A board that runs an order, tick by tick: preemptive, with fixed priorities. The order's rows stand highest rank
--- first, and ranks are counted from 0 here. A run is given by each rank's first release (its offset) and by the ticks
--- that its kth job needs; both are functions, so a run has no end.
-use mathlib.Core.Bool.{Bool, false, _&&_, _||_}
+-- A board that runs an order, tick by tick, with fixed priorities. The order's rows stand highest rank first, and ranks
+-- are counted from 0 here. A tick goes to the pending job of highest rank, unless the job that had the tick before keeps
+-- the processor, whoever is released meanwhile. It may keep it for a stretch of at most its row's hold of ticks. The
+-- first of these fell to it by rank; its last tick ends its stretch, and a job may have any number of stretches. A run
+-- is given by each rank's first release (its offset), by the ticks that its kth job needs, and by whether a stretch that
+-- may go on in tick t does (`keeps t`); all are functions, so a run has no end.
+use mathlib.Core.Bool.{Bool, true, false, _&&_, _||_}
 use mathlib.Core.List.{List, [], _∷_, _++_}
 use Prim.Native.Nat.{ℕ, zero, suc, _-_, _/_, _%_}
 use lib.Dec.{eqb, leb}
+use lib.ListN.{getD}
 use Rattle.basics.specs.Basics.{pick}
+use Rattle.rows.specs.Rows.{rowAt}
 use Rattle.rows.specs.declared.Row.{Row}
 
 -- a pending job: its release, and the ticks that it still needs
@@ -19,10 +24,13 @@ pub record Done : Type 0 where
   pub release : ℕ
   pub finish : ℕ
 
--- each rank's pending jobs, the oldest first; and every job finished so far
+-- each rank's pending jobs, the oldest first; every job finished so far; the rank that had the last tick, and the ticks
+-- for which its job may still keep the processor
 pub record Board : Type 0 where
   pub pending : List (List Job)
   pub finished : List Done
+  pub holder : ℕ
+  pub left : ℕ
 
 abbrev pub noJobs : List Row → List (List Job)
 noJobs [] = []
@@ -40,29 +48,62 @@ withReleases i t (r ∷ rs) offset need (q ∷ qs) =
     let job : Job = record { release = t; needs = need i ((t - offset i) / r .period) } in
     pick (releases r (offset i) t) (q ++ (job ∷ [])) q ∷ withReleases (suc i) t rs offset need qs
 
--- the pending job of highest rank runs a tick, the oldest of its task; with none, the tick is idle
-abbrev pub afterWork : List (List Job) → List (List Job)
-afterWork [] = []
-afterWork ([] ∷ qs) = [] ∷ afterWork qs
-afterWork ((j ∷ q) ∷ qs) = pick (leb (j .needs) 1) q (record { release = j .release; needs = j .needs - 1 } ∷ q) ∷ qs
+-- ---- a tick's work
+-- the highest rank with a pending job; with none, the number of ranks
+abbrev pub highest : List (List Job) → ℕ
+highest [] = 0
+highest ([] ∷ qs) = suc (highest qs)
+highest ((j ∷ q) ∷ qs) = 0
 
--- the job whose last tick is t, if it has one
-abbrev pub finishes : ℕ → ℕ → List (List Job) → List Done
-finishes i t [] = []
-finishes i t ([] ∷ qs) = finishes (suc i) t qs
-finishes i t ((j ∷ q) ∷ qs) =
-    pick (leb (j .needs) 1) (record { rank = i; release = j .release; finish = suc t } ∷ []) []
+-- rank m's queue
+abbrev pub queueAt : List (List Job) → ℕ → List Job
+queueAt qs m = getD qs m []
 
--- tick t: releases, then work
-abbrev pub afterTick : List Row → (ℕ → ℕ) → (ℕ → ℕ → ℕ) → ℕ → Board → Board
-afterTick order offset need t b =
+-- a tick is the last of a queue's oldest job, if it has one
+abbrev pub ends : List Job → Bool
+ends [] = true
+ends (j ∷ q) = leb (j .needs) 1
+
+-- a queue after a tick of its oldest job; the queues after a tick of rank m, which is idle where that has no job
+abbrev pub worked : List Job → List Job
+worked [] = []
+worked (j ∷ q) = pick (ends (j ∷ q)) q (record { release = j .release; needs = j .needs - 1 } ∷ q)
+
+abbrev pub workedAt : ℕ → List (List Job) → List (List Job)
+workedAt m [] = []
+workedAt zero (q ∷ qs) = worked q ∷ qs
+workedAt (suc m) (q ∷ qs) = q ∷ workedAt m qs
+
+-- the job of rank m's queue whose last tick is t, if that is one's last
+abbrev pub finishing : ℕ → ℕ → List Job → List Done
+finishing m t [] = []
+finishing m t (j ∷ q) = pick (ends (j ∷ q)) (record { rank = m; release = j .release; finish = suc t } ∷ []) []
+
+-- tick t goes to rank m, in the stretch that goes on or else in a new one
+abbrev pub tickOf : List Row → ℕ → Board → List (List Job) → Bool → ℕ → Board
+tickOf order t b qs on m = record {
+  pending = workedAt m qs;
+  finished = b .finished ++ finishing m t (queueAt qs m);
+  holder = m;
+  left = pick (ends (queueAt qs m)) 0 (pick on (b .left) (rowAt order m .hold) - 1);
+}
+
+-- ---- the board
+-- the stretch of the last tick goes on in tick t: it may, and its job keeps the processor
+abbrev pub goesOn : (ℕ → Bool) → ℕ → Board → Bool
+goesOn keeps t b = keeps t && leb 1 (b .left)
+
+-- tick t: releases, then a tick of the rank whose stretch goes on, or else of the highest with a pending job
+abbrev pub afterTick : List Row → (ℕ → ℕ) → (ℕ → ℕ → ℕ) → (ℕ → Bool) → ℕ → Board → Board
+afterTick order offset need keeps t b =
     let qs = withReleases 0 t order offset need (b .pending) in
-    record { pending = afterWork qs; finished = b .finished ++ finishes 0 t qs }
+    let on = goesOn keeps t b in
+    tickOf order t b qs on (pick on (b .holder) (highest qs))
 
 -- the board before tick t; it starts with no job left over
-abbrev pub afterTicks : List Row → (ℕ → ℕ) → (ℕ → ℕ → ℕ) → ℕ → Board
-afterTicks order offset need zero = record { pending = noJobs order; finished = [] }
-afterTicks order offset need (suc t) = afterTick order offset need t (afterTicks order offset need t)
+abbrev pub afterTicks : List Row → (ℕ → ℕ) → (ℕ → ℕ → ℕ) → (ℕ → Bool) → ℕ → Board
+afterTicks order offset need keeps zero = record { pending = noJobs order; finished = []; holder = 0; left = 0 }
+afterTicks order offset need keeps (suc t) = afterTick order offset need keeps t (afterTicks order offset need keeps t)
 
 -- rank i's job released at r finished at f
 abbrev pub isDone : ℕ → ℕ → ℕ → List Done → Bool

@@ -1,24 +1,46 @@
--- Nothing is claimed of runs in vain: runs that meet each condition of a claim, of an order of document 01's example.
+-- Nothing is claimed of runs in vain: runs that meet each condition of a claim, of an order of document 01's example;
+-- and with a hold of its lowest task, runs past the figures that count no hold.
 use mathlib.Core.Path.{_≡_}
-use mathlib.Core.Bool.{true}
-use mathlib.Core.List.{List, [], _∷_}
+use mathlib.Core.Bool.{Bool, true, false}
+use mathlib.Core.List.{List, [], _∷_, map}
 use mathlib.Core.Logic.{_⊎_}
 use Prim.Native.Nat.{ℕ, _≤_, _<_}
+use lib.Dec.{leb}
 use lib.ListN.{length, getD}
+use Rattle.basics.specs.Basics.{pick}
 use Rattle.rows.specs.Rows.{row, timesInRange, allRows, rowAt, cost}
 use Rattle.rows.specs.declared.Row.{Row}
-use Rattle.boards.specs.Claims.{LastsInRange, Finishes, AfterFirstReleases, NoneLate}
+use Rattle.responses.specs.Interference.{leastFixed, largestFixed}
+use Rattle.responses.specs.Figures.{rowsAbove, worstLoad, bestLoad}
+use Rattle.responses.specs.Claims.{NoneHolds}
+use Rattle.boards.specs.Claims.{LastsInRange, Finishes, AfterFirstReleases, latestAt, earliestAt, NoneLate}
 use Rattle.boards.specs.Runs.{boardGoesTo}
 
-abbrev pub exampleOrder : List Row
-exampleOrder = row 12 18 2 2 1000 8000 ∷ row 11 24 6 6 1000 8000 ∷ row 13 200 19 17 3000 57000 ∷ []
+-- the rows of document 01's example, with a hold of the lowest
+abbrev pub lowestHolds : ℕ → List Row
+lowestHolds hold =
+    row 12 18 2 2 1000 8000 0 ∷ row 11 24 6 6 1000 8000 0 ∷ row 13 200 19 17 3000 57000 hold ∷ []
 
--- all first releases at tick 0, and every job as long as the ticks say, rank by rank
+abbrev pub exampleOrder : List Row
+exampleOrder = lowestHolds 0
+
+-- all first releases at tick 0; those of the ranks above the lowest a tick later; and every job as long as the ticks
+-- say, rank by rank
 abbrev pub atOnce : ℕ → ℕ
 atOnce i = 0
 
+abbrev pub lowestFirst : ℕ → ℕ
+lowestFirst i = pick (leb 2 i) 0 1
+
 abbrev pub lasting : List ℕ → ℕ → ℕ → ℕ
 lasting ticks i k = getD ticks i 0
+
+-- no stretch goes on, and every one that may
+abbrev pub never : ℕ → Bool
+never t = false
+
+abbrev pub always : ℕ → Bool
+always t = true
 
 pub record RunsMet : Type 0 where
   pub none-late : NoneLate exampleOrder
@@ -31,11 +53,31 @@ pub record RunsMet : Type 0 where
   -- a job of the lowest rank that is held to its earliest response, 25, and finishes just then; and one that takes its
   -- latest, 35
   pub held-early : AfterFirstReleases exampleOrder atOnce 2 200
-  pub earliest-reached : Finishes exampleOrder atOnce (lasting (2 ∷ 6 ∷ 17 ∷ [])) 2 200 225
-  pub latest-reached : Finishes exampleOrder atOnce (lasting (2 ∷ 6 ∷ 19 ∷ [])) 2 0 35
+  pub earliest-reached : Finishes exampleOrder atOnce (lasting (2 ∷ 6 ∷ 17 ∷ [])) never 2 200 225
+  pub latest-reached : Finishes exampleOrder atOnce (lasting (2 ∷ 6 ∷ 19 ∷ [])) never 2 0 35
   -- a job of the same task before it; a tick that goes to no job; and jobs of the highest rank that fit their period
-  pub finished-before : Finishes exampleOrder atOnce (lasting (2 ∷ 6 ∷ 17 ∷ [])) 2 0 33
+  pub finished-before : Finishes exampleOrder atOnce (lasting (2 ∷ 6 ∷ 17 ∷ [])) never 2 0 33
   pub idle-there :
       (i k : ℕ) → i < length exampleOrder
-      → boardGoesTo exampleOrder atOnce (lasting (2 ∷ 6 ∷ 17 ∷ [])) i k 226 ≡ true → ⊥
+      → boardGoesTo exampleOrder atOnce (lasting (2 ∷ 6 ∷ 17 ∷ [])) never i k 226 ≡ true → ⊥
   pub highest-short : (k : ℕ) → lasting (2 ∷ 6 ∷ 19 ∷ []) 0 k ≤ rowAt exampleOrder 0 .period
+  pub none-holds : NoneHolds exampleOrder
+
+-- ---- the lowest task may hold the processor for 5 ticks
+abbrev pub heldOrder : List Row
+heldOrder = lowestHolds 5
+
+pub record HoldsCount : Type 0 where
+  pub none-late : NoneLate heldOrder
+  -- the latest response of rank 1 is 12, where it would be 8 without its blocking time of 4; in a run in which the lowest
+  -- begins a stretch a tick before the others are released, a job takes 12
+  pub latest-is : latestAt heldOrder 1 ≡ 12
+  pub latest-without :
+      leastFixed (cost (rowAt heldOrder 1)) 24 (map worstLoad (rowsAbove heldOrder 1)) ≡ 8
+  pub latest-reached : Finishes heldOrder lowestFirst (lasting (2 ∷ 6 ∷ 19 ∷ [])) always 1 1 13
+  -- the earliest response of the lowest is 17, its best, where its equation gives 25; in a run in which it keeps the
+  -- processor while the others are released, a job that is held to it takes 17
+  pub earliest-is : earliestAt heldOrder 2 ≡ 17
+  pub earliest-by-equation : largestFixed 17 (latestAt heldOrder 2) (map bestLoad (rowsAbove heldOrder 2)) ≡ 25
+  pub held-early : AfterFirstReleases heldOrder atOnce 2 200
+  pub earliest-reached : Finishes heldOrder atOnce (lasting (2 ∷ 6 ∷ 17 ∷ [])) always 2 200 217

@@ -47,7 +47,7 @@ expected-key e = cc
 
 field-differs : (i : ℕ) → i < fieldCount → (more : List ℕ) → begins boardKey (rowLineAt i .key ++ more) ≡ false
 field-differs = at-within (λ l. (more : List ℕ) → begins boardKey (l .key ++ more) ≡ false)
-    (λ s. refl, (λ s. refl, (λ s. refl, (λ s. refl, (λ s. refl, (λ s. refl, tt))))))
+    (λ s. refl, (λ s. refl, (λ s. refl, (λ s. refl, (λ s. refl, (λ s. refl, (λ s. refl, tt)))))))
 
 kind : (k : ℕ) (s : Stage) (key : List ℕ) (z : ℤ) → Passes (table false) s key z → Early k s → Kind s key
 kind k at-board key z p h = first refl (expected-key (sym (p .is-expected)))

@@ -34,13 +34,13 @@ tasksIn (some os) = some (tasksOf os)
 
 abbrev pub Holds : Case → Type 0
 Holds (figures t above e w j m) =
-    (below : List Row)
+    (below : List Row) → NoneHolds below
     → (isLate t above below ≡ false)
     × (earliest t above below ≡ e)
     × (latest t above below ≡ w)
     × (jitter t above below ≡ j)
     × (margin t above below ≡ m)
-Holds (late t above) = (below : List Row) → isLate t above below ≡ true
+Holds (late t above) = (below : List Row) → NoneHolds below → isLate t above below ≡ true
 Holds (order rows tasks) = tasksIn (chosenOrder rows) ≡ some tasks
 Holds (plan text output) = planned text planRoom ≡ writes output
 Holds (refusal text number place) = planned text planRoom ≡ refuses number place
@@ -53,20 +53,20 @@ AllHold (c ∷ cs) = Holds c × AllHold cs
 
 -- the paper's rows and table, with the betas of tasks 11, 12 and 13
 abbrev pub row11 : ℕ → Row
-row11 beta = row 11 24 6 6 1000 beta
+row11 beta = row 11 24 6 6 1000 beta 0
 
 abbrev pub row12 : ℕ → Row
-row12 beta = row 12 18 2 2 1000 beta
+row12 beta = row 12 18 2 2 1000 beta 0
 
 abbrev pub row13 : ℕ → Row
-row13 beta = row 13 200 19 17 3000 beta
+row13 beta = row 13 200 19 17 3000 beta 0
 
 abbrev pub table : String → String → String → List ℕ
 table beta11 beta12 beta13 = lined (
     "board=7" ∷ "tasks=3"
-    ∷ "task=11" ∷ "period=24" ∷ "worst=6" ∷ "best=6" ∷ "alpha=1000" ∷ beta11
-    ∷ "task=12" ∷ "period=18" ∷ "worst=2" ∷ "best=2" ∷ "alpha=1000" ∷ beta12
-    ∷ "task=13" ∷ "period=200" ∷ "worst=19" ∷ "best=17" ∷ "alpha=3000" ∷ beta13
+    ∷ "task=11" ∷ "period=24" ∷ "worst=6" ∷ "best=6" ∷ "alpha=1000" ∷ beta11 ∷ "hold=0"
+    ∷ "task=12" ∷ "period=18" ∷ "worst=2" ∷ "best=2" ∷ "alpha=1000" ∷ beta12 ∷ "hold=0"
+    ∷ "task=13" ∷ "period=200" ∷ "worst=19" ∷ "best=17" ∷ "alpha=3000" ∷ beta13 ∷ "hold=0"
     ∷ [])
 
 -- its plan, with the margin of task 13
@@ -82,7 +82,7 @@ planWith margin13 = lined (
 abbrev pub alone : String → String → List ℕ
 alone worst beta = lined (
     "board=7" ∷ "tasks=1"
-    ∷ "task=1" ∷ "period=10" ∷ worst ∷ "best=10" ∷ "alpha=1000" ∷ beta
+    ∷ "task=1" ∷ "period=10" ∷ worst ∷ "best=10" ∷ "alpha=1000" ∷ beta ∷ "hold=0"
     ∷ [])
 
 abbrev pub starred : List Case
@@ -110,8 +110,8 @@ starred =
 abbrev pub elevenAbove : List ℕ
 elevenAbove = lined (
     "board=7" ∷ "tasks=2"
-    ∷ "task=11" ∷ "period=24" ∷ "worst=6" ∷ "best=6" ∷ "alpha=1000" ∷ "beta=8000"
-    ∷ "task=13" ∷ "period=200" ∷ "worst=19" ∷ "best=17" ∷ "alpha=3000" ∷ "beta=57000"
+    ∷ "task=11" ∷ "period=24" ∷ "worst=6" ∷ "best=6" ∷ "alpha=1000" ∷ "beta=8000" ∷ "hold=0"
+    ∷ "task=13" ∷ "period=200" ∷ "worst=19" ∷ "best=17" ∷ "alpha=3000" ∷ "beta=57000" ∷ "hold=0"
     ∷ "rank=11" ∷ "rank=13"
     ∷ [])
 

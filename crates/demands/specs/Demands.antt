@@ -13,7 +13,7 @@ use Rattle.rows.specs.Rows.{tasksOf, rowsFor, rowAt}
 use Rattle.rows.specs.declared.Row.{Row}
 use Rattle.tables.specs.Claims.{Tells, Fails, Read}
 use Rattle.responses.specs.Figures.{rowsAbove, rowsBelow, isLate}
-use Rattle.responses.specs.Claims.{Figured}
+use Rattle.responses.specs.Claims.{Figured, AsDocument01, NoneHolds}
 use Rattle.orders.specs.Orders.{Possible, positionIn, positionsUp, notAfter, Chosen}
 use Rattle.orders.specs.Stability.{stable, orderStable}
 use Rattle.boards.specs.Claims.{LastsInRange, Kept, NoneLate}
@@ -37,16 +37,23 @@ pub record Promised (order : List Row) : Type 0 where
   pub entry-is :
       (i : ℕ) → i < length order → entryAt order i ≡ entry (rowAt order i) (rowsAbove order i) (rowsBelow order i)
   pub by-formulas : (i : ℕ) → i < length order → Figured (rowAt order i) (rowsAbove order i) (rowsBelow order i)
-  -- not by the sequence of the rows above, and not by the rows below
-  pub by-above :
-      (i : ℕ) (above′ below′ : List Row) → i < length order → Perm (rowsAbove order i) above′
+  -- by which rows are above and which below, and not by their sequence
+  pub by-sets :
+      (i : ℕ) (above′ below′ : List Row) → i < length order
+      → Perm (rowsAbove order i) above′ → Perm (rowsBelow order i) below′
       → entryAt order i ≡ entry (rowAt order i) above′ below′
-  -- demand 3: on every board, for all first releases and job lengths, the run is by the rules, and it keeps the `worst`
-  -- and `best` lines
-  pub by-rules : (offset : ℕ → ℕ) (need : ℕ → ℕ → ℕ) → LastsInRange order need → BoardRuns order offset need
+  -- with every hold 0 or 1, those of document 01
+  pub without-holds :
+      NoneHolds order → (i : ℕ) → i < length order
+      → AsDocument01 (rowAt order i) (rowsAbove order i) (rowsBelow order i)
+  -- demand 3: on every board, for all first releases, job lengths and stretches, the run is by the rules, and it keeps
+  -- the `worst` and `best` lines
+  pub by-rules :
+      (offset : ℕ → ℕ) (need : ℕ → ℕ → ℕ) (keeps : ℕ → Bool) → LastsInRange order need
+      → BoardRuns order offset need keeps
   pub kept :
-      (offset : ℕ → ℕ) (need : ℕ → ℕ → ℕ) → LastsInRange order need
-      → Kept order offset need (λ i. entryAt order i .worst) (λ i. entryAt order i .best)
+      (offset : ℕ → ℕ) (need : ℕ → ℕ → ℕ) (keeps : ℕ → Bool) → LastsInRange order need
+      → Kept order offset need keeps (λ i. entryAt order i .worst) (λ i. entryAt order i .best)
 
 -- what the plan of an order comes to: 9 exactly where the room is shorter, and else its text
 pub record PlanOf (room board : ℕ) (order : List Row) (w : Outcome) : Type 0 where

@@ -49,12 +49,12 @@ tooMany = lined ("board=7" ∷ []) ++ keyLine (bytes "tasks=") (decimal (suc max
 pub record Met : Type 0 where
   -- refusals 1 to 6, each at its line
   pub missing : Fails false [] 1 1
-  pub trailing : Fails false (example ++ bytes "x") 1 21
+  pub trailing : Fails false (example ++ bytes "x") 1 24
   pub no-number : Fails false malformed 2 1
   pub out-of-range : Fails false tooMany 3 2
   pub exceeding : Fails false (twoTasks ("worst=11" ∷ [])) 4 5
-  pub repeated : Fails false (twoTasks ("worst=10" ∷ "best=1" ∷ "alpha=1000" ∷ "beta=0" ∷ "task=1" ∷ [])) 5 9
-  pub impossible : Fails true (example ++ lined ("rank=11" ∷ "rank=11" ∷ [])) 6 22
+  pub repeated : Fails false (twoTasks ("worst=10" ∷ "best=1" ∷ "alpha=1000" ∷ "beta=0" ∷ "hold=0" ∷ "task=1" ∷ [])) 5 10
+  pub impossible : Fails true (example ++ lined ("rank=11" ∷ "rank=11" ∷ [])) 6 25
   -- a table with an order, in a room that is too short too, and one with none
   pub tells : Tells false example 7 exampleRows []
   pub by-rule : ByRule exampleRows exampleOrder

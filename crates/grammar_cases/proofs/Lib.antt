@@ -2,4 +2,3 @@
 pub mod ToyLines
 pub mod ToyCases
 pub mod TableCases
-pub mod Nested

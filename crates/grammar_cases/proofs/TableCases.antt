@@ -1,4 +1,4 @@
--- Document 01's table, read by computing: by the grammar, and once as it was read before.
+-- Document 01's table, each row with its hold, read by computing.
 use mathlib.Core.Path.{_≡_, refl}
 use mathlib.Core.Bool.{true, false}
 use mathlib.Core.List.{List, [], _∷_}
@@ -11,46 +11,61 @@ use Rattle.grammars.specs.Grammars.{readFor}
 use Rattle.rows.specs.Rows.{row}
 use Rattle.rows.specs.declared.Row.{Row}
 use Rattle.tables.specs.TableLines.{readTable, tableOf, turnedDown}
-use Rattle.grammar_cases.specs.Nested.{nested}
 
--- the table with another line for its third task, and lines behind it
-abbrev paper : String → List String → List ℕ
-paper third more =
+-- the table with another line for its third task, and the lines behind its beta
+abbrev paperWith : String → List String → List ℕ
+paperWith third more =
     lined
     ("board=7" ∷ "tasks=3"
-    ∷ "task=11" ∷ "period=24" ∷ "worst=6" ∷ "best=6" ∷ "alpha=1000" ∷ "beta=8000"
-    ∷ "task=12" ∷ "period=18" ∷ "worst=2" ∷ "best=2" ∷ "alpha=1000" ∷ "beta=8000"
+    ∷ "task=11" ∷ "period=24" ∷ "worst=6" ∷ "best=6" ∷ "alpha=1000" ∷ "beta=8000" ∷ "hold=0"
+    ∷ "task=12" ∷ "period=18" ∷ "worst=2" ∷ "best=2" ∷ "alpha=1000" ∷ "beta=8000" ∷ "hold=0"
     ∷ third ∷ "period=200" ∷ "worst=19" ∷ "best=17" ∷ "alpha=3000" ∷ "beta=57000" ∷ more)
 
-abbrev paperRows : List Row
-paperRows = row 11 24 6 6 1000 8000 ∷ row 12 18 2 2 1000 8000 ∷ row 13 200 19 17 3000 57000 ∷ []
+-- with lines behind the table
+abbrev paper : String → List String → List ℕ
+paper third more = paperWith third ("hold=0" ∷ more)
 
-paper-table : readTable false (paper "task=13" []) ≡ tableOf 7 paperRows []
+abbrev paperRows : ℕ → List Row
+paperRows hold = row 11 24 6 6 1000 8000 0 ∷ row 12 18 2 2 1000 8000 0 ∷ row 13 200 19 17 3000 57000 hold ∷ []
+
+paper-table : readTable false (paper "task=13" []) ≡ tableOf 7 (paperRows 0) []
 unfolding readTable readFor formAt lineAt numberOf
 paper-table = refl
 
 ranked-table : readTable true (paper "task=13" ("rank=12" ∷ "rank=11" ∷ "rank=13" ∷ []))
-    ≡ tableOf 7 paperRows (12 ∷ 11 ∷ 13 ∷ [])
+    ≡ tableOf 7 (paperRows 0) (12 ∷ 11 ∷ 13 ∷ [])
 unfolding readTable readFor formAt lineAt numberOf
 ranked-table = refl
 
-ranks-missing : readTable true (paper "task=13" []) ≡ turnedDown 1 21
+ranks-missing : readTable true (paper "task=13" []) ≡ turnedDown 1 24
 unfolding readTable readFor formAt lineAt numberOf
 ranks-missing = refl
 
-trailing-bytes : readTable false (paper "task=13" ("rank=12" ∷ [])) ≡ turnedDown 1 21
+trailing-bytes : readTable false (paper "task=13" ("rank=12" ∷ [])) ≡ turnedDown 1 24
 unfolding readTable readFor formAt lineAt numberOf
 trailing-bytes = refl
 
-repeated-task : readTable false (paper "task=11" []) ≡ turnedDown 5 15
+repeated-task : readTable false (paper "task=11" []) ≡ turnedDown 5 17
 unfolding readTable readFor formAt lineAt numberOf
 repeated-task = refl
 
-repeated-rank : readTable true (paper "task=13" ("rank=12" ∷ "rank=12" ∷ "rank=13" ∷ [])) ≡ turnedDown 6 22
+repeated-rank : readTable true (paper "task=13" ("rank=12" ∷ "rank=12" ∷ "rank=13" ∷ [])) ≡ turnedDown 6 25
 unfolding readTable readFor formAt lineAt numberOf
 repeated-rank = refl
 
--- the nested reading
-repeated-rank-before : nested true (paper "task=13" ("rank=12" ∷ "rank=12" ∷ "rank=13" ∷ [])) ≡ turnedDown 6 22
-unfolding nested lineAt numberOf
-repeated-rank-before = refl
+-- ---- the line of a hold
+hold-worst : readTable false (paperWith "task=13" ("hold=19" ∷ [])) ≡ tableOf 7 (paperRows 19) []
+unfolding readTable readFor formAt lineAt numberOf
+hold-worst = refl
+
+past-worst : readTable false (paperWith "task=13" ("hold=20" ∷ [])) ≡ turnedDown 4 23
+unfolding readTable readFor formAt lineAt numberOf
+past-worst = refl
+
+past-limit : readTable false (paperWith "task=13" ("hold=1000001" ∷ [])) ≡ turnedDown 3 23
+unfolding readTable readFor formAt lineAt numberOf
+past-limit = refl
+
+missing-hold : readTable false (paperWith "task=13" []) ≡ turnedDown 1 23
+unfolding readTable readFor formAt lineAt numberOf
+missing-hold = refl

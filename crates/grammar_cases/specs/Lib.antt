@@ -1,3 +1,2 @@
 -- A next text at the price of a page, and the reading of a table before it was a grammar.
 pub mod ToyLines
-pub mod Nested

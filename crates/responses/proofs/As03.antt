@@ -1,11 +1,11 @@
--- The figures are those of document 03, whose definitions stand here as they stand there: a job takes at most the row's
--- worst, and the rows below hold nothing up.
+-- Where no job may hold the processor, the figures are those of document 03, whose definitions stand here as they stand
+-- there: a job takes at most the row's worst, and the rows below hold nothing up.
 use mathlib.Core.Path.{_≡_, refl, ap, ap₂, sym, _∙_}
 use mathlib.Core.Bool.{Bool, true, false, _&&_, not, cond}
 use mathlib.Core.Logic.{inl, inr}
 use mathlib.Core.List.{List, [], _∷_, map}
 use Prim.Native.Nat.{ℕ, zero, suc, _+_, _-_, _*_, _≤_, _<_}
-use native.Mathlib.Nat.{sub-zero, add-zero}
+use native.Mathlib.Nat.{sub-zero}
 use native.Mathlib.Omega.{arith}
 use borrow.Author.Tests.{ltb-true, ltb-false, eqb-true, eqb-false, leb-true, leb-false, lt-ltb, le-ltb}
 use lib.Dec.{eqb, ltb, leb}
@@ -24,7 +24,8 @@ use Rattle.responses.specs.Figures.{worstLoad, bestLoad, worstIn, bestIn
 use Rattle.responses.specs.Figures as F
 use Rattle.responses.proofs.Margins.{not-below-zero}
 use Rattle.responses.proofs.FixedPoints.{demand-mono, least-is, least-none, largest-is}
-use Rattle.responses.proofs.Responses.{responses, limits-times}
+use Rattle.responses.specs.Claims.{NoneHolds}
+use Rattle.responses.proofs.Responses.{responses, limits-times, without-holds}
 
 -- ---- document 03
 abbrev pub worstSum : ℕ → List Row → ℕ
@@ -82,9 +83,9 @@ best-is x [] = refl
 best-is x (r ∷ rs) = ap (λ (s : ℕ). (ceiling x (r .period) - 1) * r .best + s) (best-is x rs)
 
 -- what W's equation adds to the interference
-base-is : (t : Row) (below : List Row) → R.cost t + F.blocking below ≡ t .worst
-unfolding R.cost F.blocking
-base-is t below = add-zero (t .worst)
+base-is : (t : Row) → R.cost t ≡ t .worst
+unfolding R.cost
+base-is t = refl
 
 -- ---- the iterations: one step, by its tests
 abbrev step : Bool → Bool → ℕ → ℕ → ℕ
@@ -145,13 +146,15 @@ less-is a b = elim (test-of (leb b a)) [
 ]
 
 -- ---- figures of rows whose times are in range
-module _ (t : Row) (rs below : List Row) (ht : timesInRange t ≡ true) (hr : allRows timesInRange rs ≡ true) where
+module _ (t : Row) (rs below : List Row) (own : t .hold ≤ 1) (none : NoneHolds below) (ht : timesInRange t ≡ true)
+    (hr : allRows timesInRange rs ≡ true) where
   pub latest-is : latest t rs ≡ F.latest t rs below
   unfolding R.cost
   latest-is =
       let l = times t ht in
       raised t rs (suc (t .period)) (t .worst) (omega arith) (omega arith) (λ v a e b. omega arith) (omega arith)
-      ∙ sym (ap (λ (b : ℕ). leastFixed b (t .period) (map worstLoad rs)) (base-is t below))
+      ∙ sym (without-holds t rs below own none .latest-then
+      ∙ ap (λ (b : ℕ). leastFixed b (t .period) (map worstLoad rs)) (base-is t))
 
   from-latest : (w : ℕ) → w ≡ F.latest t rs below → earliestFrom w t rs w ≡ largestFixed (t .best) w (map bestLoad rs)
   unfolding largest
@@ -165,6 +168,7 @@ module _ (t : Row) (rs below : List Row) (ht : timesInRange t ≡ true) (hr : al
   pub earliest-is : earliest t rs ≡ F.earliest t rs below
   earliest-is = from-latest (latest t rs) latest-is
       ∙ ap (λ (w : ℕ). largestFixed (t .best) w (map bestLoad rs)) latest-is
+      ∙ sym (without-holds t rs below own none .earliest-then)
 
   cost-is : cost t rs ≡ 1000 * F.earliest t rs below + t .alpha * F.jitter t rs below
   cost-is = ap₂ (λ (w e : ℕ). 1000 * e + t .alpha * (w - e)) latest-is earliest-is
@@ -204,11 +208,13 @@ said true l false w w′ e e′ m m′ s h =
     let g = h refl in
     rw (g .0, g .1, g .2, g .3, g .4) (refl, refl, refl, refl, refl, refl, refl)
 
-pub figures-say : (t : Row) (rs below : List Row) → FiguresSay t rs below (F.figuresOf t rs below)
-figures-say t rs below =
+pub figures-say : (t : Row) (rs below : List Row) → t .hold ≤ 1 → NoneHolds below
+    → FiguresSay t rs below (F.figuresOf t rs below)
+figures-say t rs below own none =
     said (F.inLimits t rs below) (isLate t rs) (F.isLate t rs below) (latest t rs) (F.latest t rs below)
     (earliest t rs) (F.earliest t rs below) (margin t rs) (F.margin t rs below) (isStable t rs) (λ ok.
     let h = limits-times t rs below ok in
-    let w = latest-is t rs below (h .0) (h .1) in
-    let e = earliest-is t rs below (h .0) (h .1) in
-    (ap (λ (x : ℕ). eqb x 0) w, w, e, margin-is t rs below (h .0) (h .1), stable-is t rs below (h .0) (h .1)))
+    let w = latest-is t rs below own none (h .0) (h .1) in
+    let e = earliest-is t rs below own none (h .0) (h .1) in
+    let m = margin-is t rs below own none (h .0) (h .1) in
+    (ap (λ (x : ℕ). eqb x 0) w, w, e, m, stable-is t rs below own none (h .0) (h .1)))

@@ -1,12 +1,12 @@
 -- The responses of a task between the rows above and below it. W is fixed within the period. At W the best jobs take at
--- most what the worst take, so E exists and is at most W. Demand 2 follows.
+-- most what the worst take, so E exists and is at most W, by its formula as much as the best time. Demand 2 follows.
 use mathlib.Core.Path.{_≡_, ap, ap₂, sym, _∙_}
 use mathlib.Core.Bool.{Bool, true, false, _&&_, not}
 use mathlib.Core.List.{List, [], _∷_, map}
 use Prim.Native.Nat.{ℕ, _+_, _-_, _≤_}
 use native.Mathlib.Nat.{mul-le-mul, add-le-add}
 use native.Mathlib.Omega.{arith}
-use borrow.Author.Tests.{eqb-false, eq-eqb, ne-eqb, leb-true, le-leb, not-true}
+use borrow.Author.Tests.{eqb-false, eq-eqb, ne-eqb, leb-true, le-leb, lt-leb, not-true}
 use mathlib.Core.Logic.{inl, inr}
 use lib.Dec.{leb}
 use lib.IntN.{ℤ, pos}
@@ -15,15 +15,16 @@ use lib.ListN.{length}
 use Rattle.rows.specs.Rows.{cost, timesInRange, inRange, allRows}
 use Rattle.rows.specs.declared.Row.{Row}
 use Rattle.basics.specs.Basics.{pick}
-use Rattle.basics.proofs.Tests.{test-of, and-left, and-right, and-both}
+use Rattle.basics.proofs.Tests.{test-of, and-left, and-right, and-both, le-or-lt}
 use Rattle.rows.proofs.Limits.{times, in-range-times, head-passes, tail-passes, all-times}
-use Rattle.responses.specs.Interference.{ceiling}
+use Rattle.responses.specs.Interference.{ceiling, leastFixed, largestFixed}
 use Rattle.responses.specs.Figures.{worstLoad, bestLoad, worstIn, bestIn, blocking, latest, isLate, earliest}
 use Rattle.responses.specs.Figures.{isStable, marginAt, margin, lateFigures, figuresAt, figuresUnder}
-use Rattle.responses.specs.Figures.{maxOthers, inLimits}
-use Rattle.responses.specs.Claims.{spent, Figured, Demand-2}
+use Rattle.responses.specs.Figures.{mayHold, maxOthers, inLimits}
+use Rattle.responses.specs.Claims.{spent, Figured, WithoutHolds, Demand-2}
 use Rattle.responses.proofs.Sums.{rounds-up}
 use Rattle.responses.proofs.Margins.{sub-is, not-below-zero}
+use Rattle.responses.proofs.Blocking.{blocks, no-blocking}
 use Rattle.responses.proofs.FixedPoints.{least-fixed, least-least, largest-fixed, largest-above}
 
 best-in-worst : (x : ℕ) (rs : List Row) → allRows timesInRange rs ≡ true → bestIn x rs ≤ worstIn x rs
@@ -40,9 +41,23 @@ pub record Responses (t : Row) (above below : List Row) : Type 0 where
   pub latest-is : latest t above below ≡ cost t + blocking below + worstIn (latest t above below) above
   pub latest-period : latest t above below ≤ t .period
   pub best-fits : t .best + bestIn (latest t above below) above ≤ latest t above below
-  pub earliest-is : earliest t above below ≡ t .best + bestIn (earliest t above below) above
+  pub earliest-is : t .hold ≤ 1 → earliest t above below ≡ t .best + bestIn (earliest t above below) above
   pub earliest-some : 1 ≤ earliest t above below
   pub earliest-latest : earliest t above below ≤ latest t above below
+
+-- E by the formula, or the best time
+pub runs-by-rank : (t : Row) → t .hold ≤ 1 → mayHold t ≡ false
+runs-by-rank t s = lt-leb 2 (t .hold) (omega arith)
+
+module _ (t : Row) (above below : List Row) where
+  abbrev formula : ℕ
+  formula = largestFixed (t .best) (latest t above below) (map bestLoad above)
+
+  pub earliest-formula : t .hold ≤ 1 → earliest t above below ≡ formula
+  earliest-formula s = ap (λ (b : Bool). pick b (t .best) formula) (runs-by-rank t s)
+
+  earliest-best : 2 ≤ t .hold → earliest t above below ≡ t .best
+  earliest-best s = ap (λ (b : Bool). pick b (t .best) formula) (le-leb 2 (t .hold) s)
 
 pub responses : (t : Row) (above below : List Row) → timesInRange t ≡ true → allRows timesInRange above ≡ true
     → 1 ≤ latest t above below → Responses t above below
@@ -53,13 +68,20 @@ responses t above below ht h k =
     let f : t .best + bestIn (latest t above below) above ≤ latest t above below = omega
     (arith, w .0, b, l .best-cost) in
     let e = largest-fixed (t .best) (latest t above below) (map bestLoad above) (l .best-some) f in
+    let by-rank : t .hold ≤ 1 → earliest t above below ≡ formula t above below = earliest-formula t above below in
+    let own = earliest-best t above below in
+    let within : (1 ≤ earliest t above below) × (earliest t above below ≤ latest t above below) =
+    elim (le-or-lt (t .hold) 1) [
+      | inl s ↦ (omega (arith, by-rank s, e .1), omega (arith, by-rank s, e .2))
+      | inr s ↦ (omega (arith, own s, l .best-some), omega (arith, own s))
+    ] in
     record {
       latest-is = w .0;
       latest-period = w .1;
       best-fits = f;
-      earliest-is = e .0;
-      earliest-some = e .1;
-      earliest-latest = e .2;
+      earliest-is = λ s. rw (by-rank s) (e .0);
+      earliest-some = within .0;
+      earliest-latest = within .1;
     }
 
 -- rows that a call takes
@@ -77,12 +99,15 @@ not-late t above below h = let k = eqb-false (latest t above below) 0 h in omega
 pub figured : (t : Row) (above below : List Row) → timesInRange t ≡ true → allRows timesInRange above ≡ true
     → Figured t above below
 figured t above below ht ha = record {
+  blocked = blocks below;
   latest-fixed = λ h. let k = in-time h in let r = known k in (r .latest-is, k, r .latest-period);
   latest-least = λ w h e l.
       let p = least-least (cost t + blocking below) (t .period) (map worstLoad above) w h e l in
       (ne-eqb (latest t above below) 0 (λ z. omega (arith, z, p .0)), p .1);
-  earliest-fixed = λ h. let r = known (in-time h) in (r .earliest-is, r .earliest-some, r .earliest-latest);
-  earliest-largest = λ e h k l f. largest-above (t .best) (latest t above below) (map bestLoad above) e f l;
+  earliest-fixed = λ s h. let r = known (in-time h) in (r .earliest-is s, r .earliest-some, r .earliest-latest);
+  earliest-largest = λ e s h k l f.
+      rw (earliest-formula t above below s) (largest-above (t .best) (latest t above below) (map bestLoad above) e f l);
+  earliest-held = earliest-best t above below;
   jitter-is = λ h. omega (arith, known (in-time h) .earliest-latest);
   margin-is = sym (sub-is (t .beta) (spent t above below));
   stable-only = λ h. (
@@ -107,8 +132,17 @@ figured t above below ht ha = record {
     known : 1 ≤ latest t above below → Responses t above below
     known = responses t above below ht ha
 
+-- ---- where no hold counts
+pub without-holds : WithoutHolds
+without-holds t above below own none = record {
+  latest-then =
+      let base : cost t + blocking below ≡ cost t = omega (arith, no-blocking below none) in
+      ap (λ (b : ℕ). leastFixed b (t .period) (map worstLoad above)) base;
+  earliest-then = earliest-formula t above below own;
+}
+
 pub demand-2 : Demand-2
-demand-2 = record { rounds-up = rounds-up; figured = figured }
+demand-2 = record { rounds-up = rounds-up; figured = figured; without-holds = without-holds }
 
 -- ---- a row's figures as one answer
 module _ (t : Row) (above below : List Row) where

@@ -1,6 +1,5 @@
 -- The figures depend on the rows above only through their interference, and on those below only through the blocking
--- time: so on which rows they are, and not on their sequence; and on none below, since today's blocking time counts
--- none. W does not fall as interference grows.
+-- time: so on which rows they are, and not on their sequence. W does not fall as interference grows.
 use mathlib.Core.Path.{_≡_, refl, ap, ap₂, sym, _∙_, fun-ext}
 use mathlib.Core.Bool.{Bool, true, false, _&&_, not, Bool-set}
 use lib.IntN.{pos}
@@ -13,16 +12,17 @@ use native.Mathlib.Nat.{ℕ-set}
 use native.Mathlib.Omega.{arith}
 use lib.Dec.{eqb, leb}
 use lib.ListN.{length}
-use Rattle.basics.specs.Basics.{pick}
+use Rattle.basics.specs.Basics.{pick, larger}
+use Rattle.basics.proofs.Numbers.{larger-swap}
 use Rattle.rows.specs.Rows.{cost, inRange, allRows, rowAt}
 use Rattle.rows.specs.declared.Row.{Row}
 use Rattle.responses.specs.declared.Figures.{Figures}
 use Rattle.responses.specs.Extremes.{smallest, largest}
 use Rattle.responses.specs.Interference.{ceiling, Load, interference}
 use Rattle.responses.specs.Figures.{worstLoad, bestLoad, worstIn, bestIn, blocking, latest, earliest}
-use Rattle.responses.specs.Figures.{rowsAbove, rowsBelow, marginAt, lateFigures, noFigures}
+use Rattle.responses.specs.Figures.{longestHold, mayHold, rowsAbove, rowsBelow, marginAt, lateFigures, noFigures}
 use Rattle.responses.specs.Figures.{figuresAt, figuresUnder, maxOthers, inLimits, figuresOf}
-use Rattle.responses.specs.Claims.{SameFigures, BySet, NotByBelow}
+use Rattle.responses.specs.Claims.{SameFigures, BySet, ByBlocking}
 use Rattle.responses.proofs.FixedPoints.{fixed-below, demand-mono, least-fixed, least-least}
 
 -- the rows above a row, the row and the rows below it are the order
@@ -46,7 +46,7 @@ module _ (t : Row) {xs ys bs cs : List Row} (s : Same xs ys bs cs) where
 
   pub earliest-same : earliest t xs bs ≡ earliest t ys cs
   earliest-same =
-      ap₂ (λ (f : ℕ → Bool) (w : ℕ). largest f w)
+      ap₂ (λ (f : ℕ → Bool) (w : ℕ). pick (mayHold t) (t .best) (largest f w))
       (fun-ext (λ x. ap (λ (k : ℕ). eqb x (t .best + k)) (s .best-same x)))
       latest-same
 
@@ -101,7 +101,10 @@ length-permuted p =
 
 blocking-permuted : {bs cs : List Row} → Perm bs cs → blocking bs ≡ blocking cs
 unfolding blocking
-blocking-permuted p = refl
+blocking-permuted p =
+    ap (λ (h : ℕ). h - 1)
+    (∥∥₁-elim p (ℕ-set _ _)
+    (permuted longestHold (λ r h. larger (r .hold) h) (λ r rs. refl) (λ r q h. larger-swap (r .hold) (q .hold) h)))
 
 pub same-permuted : {xs ys bs cs : List Row} → Perm xs ys → Perm bs cs → Same xs ys bs cs
 same-permuted p q = record {
@@ -121,25 +124,17 @@ figures-permuted t p q =
     let limits = ap₂ (λ (a b : Bool). inRange t && (a && b)) (all-permuted inRange p) rest in
     ap₂ (λ (b : Bool) (x : Figures). pick b x noFigures) limits (figures-same t (same-permuted p q))
 
--- ---- other rows below: the blocking time counts none of them
-blocking-below : (bs cs : List Row) → blocking bs ≡ blocking cs
-unfolding blocking
-blocking-below bs cs = refl
+-- ---- other rows below, with the same blocking time
+same-below : (above bs cs : List Row) → blocking bs ≡ blocking cs → Same above above bs cs
+same-below above bs cs e = record { worst-same = λ x. refl; best-same = λ x. refl; blocking-same = e }
 
-same-below : (above bs cs : List Row) → Same above above bs cs
-same-below above bs cs = record {
-  worst-same = λ x. refl;
-  best-same = λ x. refl;
-  blocking-same = blocking-below bs cs;
-}
+pub by-blocking : ByBlocking
+by-blocking t above below below′ e = same-figures t (same-below above below below′ e)
 
-pub not-by-below : NotByBelow
-not-by-below t above below below′ = same-figures t (same-below above below below′)
-
-pub figures-below : (t : Row) (above bs cs : List Row) → inLimits t above bs ≡ inLimits t above cs
-    → figuresOf t above bs ≡ figuresOf t above cs
-figures-below t above bs cs limits =
-    ap₂ (λ (b : Bool) (x : Figures). pick b x noFigures) limits (figures-same t (same-below above bs cs))
+pub figures-below : (t : Row) (above bs cs : List Row) → blocking bs ≡ blocking cs
+    → inLimits t above bs ≡ inLimits t above cs → figuresOf t above bs ≡ figuresOf t above cs
+figures-below t above bs cs e limits =
+    ap₂ (λ (b : Bool) (x : Figures). pick b x noFigures) limits (figures-same t (same-below above bs cs e))
 
 -- ---- more interference: a task that is not late under ys is not late under xs, and W is no larger
 pub latest-mono : (t : Row) (xs ys below : List Row) → 1 ≤ cost t → ((x : ℕ) → worstIn x xs ≤ worstIn x ys)

@@ -1,15 +1,17 @@
--- What is claimed of the figures: they are those of the published formulas (demand 2),
--- the rows above and below count as sets, and today those below not at all.
+-- What is claimed of the figures: they are those of the published formulas (demand 2), the rows above and below count
+-- as sets, those below by their blocking time alone; and where no job may hold the processor, they are document 01's.
 use mathlib.Core.Path.{_≡_}
 use mathlib.Core.Bool.{true, false}
-use mathlib.Core.List.{List, Perm}
-use Prim.Native.Nat.{ℕ, _+_, _*_, _≤_}
+use mathlib.Core.List.{List, map, Perm}
+use Prim.Native.Nat.{ℕ, _+_, _*_, _≤_, _<_}
+use lib.ListN.{length}
 use lib.IntN.{pos, _-ℤ_}
-use Rattle.rows.specs.Rows.{cost, timesInRange, allRows}
+use Rattle.rows.specs.Rows.{cost, rowAt, timesInRange, allRows}
 use Rattle.rows.specs.declared.Row.{Row}
 use Rattle.responses.specs.declared.Figures.{Figures}
-use Rattle.responses.specs.Interference.{ceiling}
-use Rattle.responses.specs.Figures.{worstIn, bestIn, blocking, latest, isLate, earliest, jitter}
+use Rattle.responses.specs.Interference.{ceiling, leastFixed, largestFixed}
+use Rattle.responses.specs.Figures.{worstLoad, bestLoad, worstIn, bestIn, blocking, latest, isLate}
+use Rattle.responses.specs.Figures.{earliest, jitter}
 use Rattle.responses.specs.Figures.{margin, isStable, inLimits, figuresOf}
 
 -- k is a / p rounded up: the fewest periods that cover a
@@ -17,12 +19,20 @@ pub record RoundsUp (a p k : ℕ) : Type 0 where
   pub covers : a ≤ k * p
   pub fewest : (j : ℕ) → a ≤ j * p → k ≤ j
 
+-- b is the largest hold of some rows less 1, or 0: none is more than a tick above it, and where it is not 0, one is just
+-- that
+pub record Blocks (rows : List Row) (b : ℕ) : Type 0 where
+  pub covers : (i : ℕ) → i < length rows → rowAt rows i .hold ≤ b + 1
+  pub reached : 1 ≤ b → (i : ℕ) × (i < length rows) × (rowAt rows i .hold ≡ b + 1)
+
 -- what a margin is taken from beta
 abbrev pub spent : Row → List Row → List Row → ℕ
 spent t above below = 1000 * earliest t above below + t .alpha * jitter t above below
 
 -- the figures of a task are those of the formulas
 pub record Figured (t : Row) (above below : List Row) : Type 0 where
+  -- the rows below block it for the largest hold among them less 1, or not at all
+  pub blocked : Blocks below (blocking below)
   -- W solves its equation within the period, and is the least that does; a task with no such W is late
   pub latest-fixed :
       isLate t above below ≡ false
@@ -31,14 +41,18 @@ pub record Figured (t : Row) (above below : List Row) : Type 0 where
   pub latest-least :
       (w : ℕ) → 1 ≤ w → w ≡ cost t + blocking below + worstIn w above → w ≤ t .period
       → (isLate t above below ≡ false) × (latest t above below ≤ w)
-  -- E solves its equation from 1 to W, and is the largest that does
+  -- E of a task that holds the processor for no more than a tick solves its equation from 1 to W, and is the largest
+  -- that does
   pub earliest-fixed :
-      isLate t above below ≡ false
+      t .hold ≤ 1 → isLate t above below ≡ false
       → let e = earliest t above below in
       (e ≡ t .best + bestIn e above) × (1 ≤ e) × (e ≤ latest t above below)
   pub earliest-largest :
-      (e : ℕ) → isLate t above below ≡ false → 1 ≤ e → e ≤ latest t above below → e ≡ t .best + bestIn e above
+      (e : ℕ) → t .hold ≤ 1 → isLate t above below ≡ false
+      → 1 ≤ e → e ≤ latest t above below → e ≡ t .best + bestIn e above
       → e ≤ earliest t above below
+  -- that of any other is its best time
+  pub earliest-held : 2 ≤ t .hold → earliest t above below ≡ t .best
   -- jitter and margin
   pub jitter-is :
       isLate t above below ≡ false → earliest t above below + jitter t above below ≡ latest t above below
@@ -47,12 +61,6 @@ pub record Figured (t : Row) (above below : List Row) : Type 0 where
   pub stable-only :
       isStable t above below ≡ true → (isLate t above below ≡ false) × (spent t above below ≤ t .beta)
   pub stable-if : isLate t above below ≡ false → spent t above below ≤ t .beta → isStable t above below ≡ true
-
-pub record Demand-2 : Type 0 where
-  pub rounds-up : (a p : ℕ) → 1 ≤ p → RoundsUp a p (ceiling a p)
-  pub figured :
-      (t : Row) (above below : List Row)
-      → timesInRange t ≡ true → allRows timesInRange above ≡ true → Figured t above below
 
 -- two lists of rows above, and two of rows below, give a task the same figures
 pub record SameFigures (t : Row) (above above′ below below′ : List Row) : Type 0 where
@@ -69,9 +77,32 @@ BySet =
     (t : Row) (above above′ below below′ : List Row) → Perm above above′ → Perm below below′
     → SameFigures t above above′ below below′
 
--- today no row below counts
-abbrev pub NotByBelow : Type 0
-NotByBelow = (t : Row) (above below below′ : List Row) → SameFigures t above above below below′
+-- the rows below count by their blocking time alone
+abbrev pub ByBlocking : Type 0
+ByBlocking =
+    (t : Row) (above below below′ : List Row) → blocking below ≡ blocking below′
+    → SameFigures t above above below below′
+
+-- ---- document 01's figures: no task is held up by those below it, and E is that of its equation for every task
+pub record AsDocument01 (t : Row) (above below : List Row) : Type 0 where
+  pub latest-then : latest t above below ≡ leastFixed (cost t) (t .period) (map worstLoad above)
+  pub earliest-then :
+      earliest t above below ≡ largestFixed (t .best) (latest t above below) (map bestLoad above)
+
+-- no job of some rows may hold the processor past a tick
+abbrev pub NoneHolds : List Row → Type 0
+NoneHolds rows = (i : ℕ) → i < length rows → rowAt rows i .hold ≤ 1
+
+-- where no hold counts, they are these
+abbrev pub WithoutHolds : Type 0
+WithoutHolds = (t : Row) (above below : List Row) → t .hold ≤ 1 → NoneHolds below → AsDocument01 t above below
+
+pub record Demand-2 : Type 0 where
+  pub rounds-up : (a p : ℕ) → 1 ≤ p → RoundsUp a p (ceiling a p)
+  pub figured :
+      (t : Row) (above below : List Row)
+      → timesInRange t ≡ true → allRows timesInRange above ≡ true → Figured t above below
+  pub without-holds : WithoutHolds
 
 -- ---- what a call that answers a row's figures promises
 pub record FiguresSay (t : Row) (above below : List Row) (x : Figures) : Type 0 where
@@ -81,6 +112,7 @@ pub record FiguresSay (t : Row) (above below : List Row) (x : Figures) : Type 0 
   -- not by the sequence of the rows
   pub any-sequence :
       (above′ below′ : List Row) → Perm above above′ → Perm below below′ → x ≡ figuresOf t above′ below′
-  -- not by the rows below, where these are as much in the limits
-  pub not-by-below :
-      (below′ : List Row) → inLimits t above below ≡ inLimits t above below′ → x ≡ figuresOf t above below′
+  -- by the rows below, where these are as much in the limits, no more than their blocking time
+  pub by-blocking :
+      (below′ : List Row) → blocking below ≡ blocking below′ → inLimits t above below ≡ inLimits t above below′
+      → x ≡ figuresOf t above below′

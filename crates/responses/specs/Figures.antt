@@ -1,12 +1,12 @@
 -- The figures of a task between the rows above it and the rows below it.
 use mathlib.Core.Bool.{Bool, true, false, _&&_, not}
-use mathlib.Core.List.{List, map}
+use mathlib.Core.List.{List, [], _∷_, map}
 use Prim.Native.Nat.{ℕ, suc, _+_, _-_, _*_}
 use lib.Dec.{eqb, leb}
 use lib.IntN.{ℤ, pos, subℕ}
 use lib.ListN.{length, take, drop}
 use lib.Signed.{leZ}
-use Rattle.basics.specs.Basics.{pick}
+use Rattle.basics.specs.Basics.{pick, larger}
 use Rattle.rows.specs.Rows.{maxTasks, cost, inRange, allRows}
 use Rattle.rows.specs.declared.Row.{Row}
 use Rattle.responses.specs.declared.Figures.{Figures}
@@ -33,10 +33,15 @@ worstIn x above = interference 0 x (map worstLoad above)
 abbrev pub bestIn : ℕ → List Row → ℕ
 bestIn x above = interference 1 x (map bestLoad above)
 
--- the ticks that jobs of the rows below may hold a task up (its blocking time): none, since every job can be
--- interrupted at every tick
+-- the longest stretch that jobs of some rows may keep the processor for
+abbrev pub longestHold : List Row → ℕ
+longestHold [] = 0
+longestHold (r ∷ rs) = larger (r .hold) (longestHold rs)
+
+-- the ticks that jobs of the rows below may hold a task up (its blocking time): one stretch, less its first tick, which
+-- falls to it by rank
 unfoldable pub blocking : List Row → ℕ
-blocking below = 0
+blocking below = longestHold below - 1
 
 -- W, the worst-case response time; 0 where the task is late
 abbrev pub latest : Row → List Row → List Row → ℕ
@@ -46,9 +51,14 @@ latest t above below = leastFixed (cost t + blocking below) (t .period) (map wor
 abbrev pub isLate : Row → List Row → List Row → Bool
 isLate t above below = eqb (latest t above below) 0
 
--- E, the best-case response time of a task that is not late; at most W
+-- whether jobs of a row may keep the processor past the tick that falls to them by rank
+abbrev pub mayHold : Row → Bool
+mayHold r = leb 2 (r .hold)
+
+-- E, the best-case response time of a task that is not late; at most W. In a stretch of its own no task above counts
 abbrev pub earliest : Row → List Row → List Row → ℕ
-earliest t above below = largestFixed (t .best) (latest t above below) (map bestLoad above)
+earliest t above below =
+    pick (mayHold t) (t .best) (largestFixed (t .best) (latest t above below) (map bestLoad above))
 
 abbrev pub jitter : Row → List Row → List Row → ℕ
 jitter t above below = latest t above below - earliest t above below

@@ -11,6 +11,7 @@ use Rattle.basics.specs.Basics.{within}
 use Rattle.basics.proofs.Tests.{and-left, and-right, and-both, Within, within-true}
 use Rattle.rows.specs.declared.Row.{Row}
 use Rattle.rows.specs.Rows.{minTask, maxTask, minTicks, maxTicks, minAlpha, maxAlpha, minBeta, maxBeta}
+use Rattle.rows.specs.Rows.{minHold, maxHold}
 use Rattle.rows.specs.Rows.{cost, inRange, timesInRange, allRows, noRow}
 
 -- ---- every limit
@@ -21,19 +22,25 @@ pub record Limits (r : Row) : Type 0 where
   pub best : Within minTicks maxTicks (r .best)
   pub alpha : Within minAlpha maxAlpha (r .alpha)
   pub beta : Within minBeta maxBeta (r .beta)
+  pub hold : Within minHold maxHold (r .hold)
   pub worst-period : r .worst ≤ r .period
   pub best-worst : r .best ≤ r .worst
+  pub hold-worst : r .hold ≤ r .worst
 
 pub limits : (r : Row) → inRange r ≡ true → Limits r
-limits r h₈ =
+limits r h₁₀ =
     let t₁ = within minTask maxTask (r .task) in
     let t₂ = within minTicks maxTicks (r .period) in
     let t₃ = within minTicks maxTicks (r .worst) in
     let t₄ = within minTicks maxTicks (r .best) in
     let t₅ = within minAlpha maxAlpha (r .alpha) in
     let t₆ = within minBeta maxBeta (r .beta) in
-    let t₇ = leb (r .worst) (r .period) in
-    let t₈ = leb (r .best) (r .worst) in
+    let t₇ = within minHold maxHold (r .hold) in
+    let t₈ = leb (r .worst) (r .period) in
+    let t₉ = leb (r .best) (r .worst) in
+    let t₁₀ = leb (r .hold) (r .worst) in
+    let h₉ = and-left (t₁ && t₂ && t₃ && t₄ && t₅ && t₆ && t₇ && t₈ && t₉) t₁₀ h₁₀ in
+    let h₈ = and-left (t₁ && t₂ && t₃ && t₄ && t₅ && t₆ && t₇ && t₈) t₉ h₉ in
     let h₇ = and-left (t₁ && t₂ && t₃ && t₄ && t₅ && t₆ && t₇) t₈ h₈ in
     let h₆ = and-left (t₁ && t₂ && t₃ && t₄ && t₅ && t₆) t₇ h₇ in
     let h₅ = and-left (t₁ && t₂ && t₃ && t₄ && t₅) t₆ h₆ in
@@ -47,8 +54,11 @@ limits r h₈ =
       best = within-true minTicks maxTicks (r .best) (and-right (t₁ && t₂ && t₃) t₄ h₄);
       alpha = within-true minAlpha maxAlpha (r .alpha) (and-right (t₁ && t₂ && t₃ && t₄) t₅ h₅);
       beta = within-true minBeta maxBeta (r .beta) (and-right (t₁ && t₂ && t₃ && t₄ && t₅) t₆ h₆);
-      worst-period = leb-true (r .worst) (r .period) (and-right (t₁ && t₂ && t₃ && t₄ && t₅ && t₆) t₇ h₇);
-      best-worst = leb-true (r .best) (r .worst) (and-right (t₁ && t₂ && t₃ && t₄ && t₅ && t₆ && t₇) t₈ h₈);
+      hold = within-true minHold maxHold (r .hold) (and-right (t₁ && t₂ && t₃ && t₄ && t₅ && t₆) t₇ h₇);
+      worst-period = leb-true (r .worst) (r .period) (and-right (t₁ && t₂ && t₃ && t₄ && t₅ && t₆ && t₇) t₈ h₈);
+      best-worst = leb-true (r .best) (r .worst) (and-right (t₁ && t₂ && t₃ && t₄ && t₅ && t₆ && t₇ && t₈) t₉ h₉);
+      hold-worst =
+          leb-true (r .hold) (r .worst) (and-right (t₁ && t₂ && t₃ && t₄ && t₅ && t₆ && t₇ && t₈ && t₉) t₁₀ h₁₀);
     }
 
 pub in-range : (r : Row) → Limits r → inRange r ≡ true
@@ -66,8 +76,11 @@ in-range r h =
       le-leb _ _ (h .alpha .le-high),
       le-leb _ _ (h .beta .low-le),
       le-leb _ _ (h .beta .le-high),
+      le-leb _ _ (h .hold .low-le),
+      le-leb _ _ (h .hold .le-high),
       le-leb _ _ (h .worst-period),
       le-leb _ _ (h .best-worst),
+      le-leb _ _ (h .hold-worst),
     )
 
 -- ---- the times: a job takes from the best to the cost, and fits its period

@@ -35,6 +35,13 @@ minBeta = 0
 abbrev pub maxBeta : ℕ
 maxBeta = 200000000000
 
+-- hold, in ticks
+abbrev pub minHold : ℕ
+minHold = 0
+
+abbrev pub maxHold : ℕ
+maxHold = 1000000
+
 -- the rows of a table; the code's MAX_TASKS is the same
 abbrev pub minTasks : ℕ
 minTasks = 1
@@ -42,12 +49,12 @@ minTasks = 1
 abbrev pub maxTasks : ℕ
 maxTasks = 12
 
--- a row of six numbers; what stands past the rows that count
-abbrev pub row : ℕ → ℕ → ℕ → ℕ → ℕ → ℕ → Row
-row t p w b a e = record { task = t; period = p; worst = w; best = b; alpha = a; beta = e }
+-- a row of seven numbers; what stands past the rows that count
+abbrev pub row : ℕ → ℕ → ℕ → ℕ → ℕ → ℕ → ℕ → Row
+row t p w b a e h = record { task = t; period = p; worst = w; best = b; alpha = a; beta = e; hold = h }
 
 abbrev pub noRow : Row
-noRow = row 0 0 0 0 0 0
+noRow = row 0 0 0 0 0 0 0
 
 -- ---- a row as its numbers: where each stands among them
 abbrev pub taskAt : ℕ
@@ -68,14 +75,17 @@ alphaAt = 4
 abbrev pub betaAt : ℕ
 betaAt = 5
 
+abbrev pub holdAt : ℕ
+holdAt = 6
+
 abbrev pub fieldCount : ℕ
-fieldCount = suc betaAt
+fieldCount = suc holdAt
 
 -- the row that its numbers make
 abbrev pub rowOf : List ℕ → Row
 rowOf vs =
     row (getD vs taskAt 0) (getD vs periodAt 0) (getD vs worstAt 0) (getD vs bestAt 0) (getD vs alphaAt 0)
-    (getD vs betaAt 0)
+    (getD vs betaAt 0) (getD vs holdAt 0)
 
 -- ---- some rows
 -- row i of a table
@@ -86,7 +96,7 @@ rowAt table i = getD table i noRow
 unfoldable pub cost : Row → ℕ
 cost r = r .worst
 
--- each number is within its limits, and best ≤ worst ≤ period
+-- each number is within its limits, best ≤ worst ≤ period, and hold ≤ worst
 abbrev pub inRange : Row → Bool
 inRange r =
     within minTask maxTask (r .task)
@@ -95,8 +105,10 @@ inRange r =
     && within minTicks maxTicks (r .best)
     && within minAlpha maxAlpha (r .alpha)
     && within minBeta maxBeta (r .beta)
+    && within minHold maxHold (r .hold)
     && leb (r .worst) (r .period)
     && leb (r .best) (r .worst)
+    && leb (r .hold) (r .worst)
 
 -- the times alone: 1 ≤ best ≤ worst ≤ period, and the period within its limit
 abbrev pub timesInRange : Row → Bool

@@ -6,12 +6,14 @@ pub use numbers::ALPHA;
 pub use numbers::BEST;
 pub use numbers::BETA;
 pub use numbers::FIELDS;
+pub use numbers::HOLD;
 pub use numbers::NUMBERS;
 pub use numbers::PERIOD;
 pub use numbers::TASK;
 pub use numbers::WORST;
 pub use numbers::cost_at;
 pub use numbers::has_task;
+pub use numbers::hold_at;
 pub use numbers::in_range_at;
 pub use numbers::is_among;
 pub use numbers::order_at;
@@ -25,7 +27,8 @@ mod numbers;
 // The most rows of a table. This and `maxTasks` in specs/Rows.antt are the two to change: every room follows from them.
 pub const MAX_TASKS: usize = 12;
 
-// A task's row. Times are in ticks, alpha in thousandths, beta in thousandths of a tick.
+// A task's row. Times are in ticks, alpha in thousandths, beta in thousandths of a tick. A job of it may keep the
+// processor for a stretch of at most `hold` ticks.
 pub struct Row {
     pub task: u32,
     pub period: u32,
@@ -33,6 +36,7 @@ pub struct Row {
     pub best: u32,
     pub alpha: u32,
     pub beta: u64,
+    pub hold: u32,
 }
 
 // An order, highest rank first: at most MAX_TASKS task numbers and a count.
@@ -64,9 +68,21 @@ impl Row {
 
     pub const BETA_MAX: u64 = 200_000_000_000;
 
-    // Whether six numbers keep the limits of a row.
-    fn keeps(task: u64, period: u64, worst: u64, best: u64, alpha: u64, beta: u64) -> bool
-        ensures { λ r. ⌜ r ≡ inRange (row task period worst best alpha beta) ⌝ }
+    pub const HOLD_MIN: u64 = 0;
+
+    pub const HOLD_MAX: u64 = 1_000_000;
+
+    // Whether seven numbers keep the limits of a row.
+    fn keeps(
+        task: u64,
+        period: u64,
+        worst: u64,
+        best: u64,
+        alpha: u64,
+        beta: u64,
+        hold: u64,
+    ) -> bool
+        ensures { λ r. ⌜ r ≡ inRange (row task period worst best alpha beta hold) ⌝ }
     {
         within(Row::TASK_MIN, Row::TASK_MAX, task)
             & within(Row::TICKS_MIN, Row::TICKS_MAX, period)
@@ -74,15 +90,25 @@ impl Row {
             & within(Row::TICKS_MIN, Row::TICKS_MAX, best)
             & within(Row::ALPHA_MIN, Row::ALPHA_MAX, alpha)
             & within(Row::BETA_MIN, Row::BETA_MAX, beta)
+            & within(Row::HOLD_MIN, Row::HOLD_MAX, hold)
             & (worst <= period)
             & (best <= worst)
+            & (hold <= worst)
     }
 
-    // The row of six numbers, if they keep its limits.
-    pub fn new(task: u64, period: u64, worst: u64, best: u64, alpha: u64, beta: u64) -> Checked
-        ensures { λ r. ⌜ r ≡ checked (row task period worst best alpha beta) ⌝ }
+    // The row of seven numbers, if they keep its limits.
+    pub fn new(
+        task: u64,
+        period: u64,
+        worst: u64,
+        best: u64,
+        alpha: u64,
+        beta: u64,
+        hold: u64,
+    ) -> Checked
+        ensures { λ r. ⌜ r ≡ checked (row task period worst best alpha beta hold) ⌝ }
     {
-        if !Row::keeps(task, period, worst, best, alpha, beta) {
+        if !Row::keeps(task, period, worst, best, alpha, beta, hold) {
             return Checked {
                 in_range: false,
                 row: no_row(),
@@ -95,6 +121,7 @@ impl Row {
             best: best as u32,
             alpha: alpha as u32,
             beta,
+            hold: hold as u32,
         };
         Checked {
             in_range: true,
@@ -120,6 +147,7 @@ impl Row {
             self.best as u64,
             self.alpha as u64,
             self.beta,
+            self.hold as u64,
         )
     }
 }
@@ -135,5 +163,6 @@ pub fn no_row() -> Row
         best: 0,
         alpha: 0,
         beta: 0,
+        hold: 0,
     }
 }

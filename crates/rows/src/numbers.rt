@@ -26,7 +26,9 @@ pub const ALPHA: usize = 4;
 
 pub const BETA: usize = 5;
 
-pub const FIELDS: usize = BETA + 1;
+pub const HOLD: usize = 6;
+
+pub const FIELDS: usize = HOLD + 1;
 
 // Room for the numbers of a table's rows.
 pub const NUMBERS: usize = FIELDS * MAX_TASKS;
@@ -44,6 +46,7 @@ pub fn row_at(numbers: &[u64], i: usize) -> Row
         best: numbers[at + BEST] as u32,
         alpha: numbers[at + ALPHA] as u32,
         beta: numbers[at + BETA],
+        hold: numbers[at + HOLD] as u32,
     }
 }
 
@@ -60,6 +63,7 @@ pub fn in_range_at(numbers: &[u64], i: usize) -> bool
         numbers[at + BEST],
         numbers[at + ALPHA],
         numbers[at + BETA],
+        numbers[at + HOLD],
     );
     checked.in_range
 }
@@ -70,6 +74,14 @@ pub fn cost_at(numbers: &[u64], i: usize) -> u64
     ensures { λ r. ⌜ r ≡ cost (rowIn (now (numbers .entry)) i) ⌝ }
 {
     numbers[FIELDS * i + WORST]
+}
+
+// The most ticks for which a job of row i may keep the processor.
+pub fn hold_at(numbers: &[u64], i: usize) -> u64
+    requires { ⌜ fieldCount * suc i ≤ length (now numbers) ⌝ }
+    ensures { λ r. ⌜ r ≡ rowIn (now (numbers .entry)) i .hold ⌝ }
+{
+    numbers[FIELDS * i + HOLD]
 }
 
 // Row i is put among the numbers, if there is room for it.
@@ -84,6 +96,7 @@ fn put_row(numbers: &mut [u64; NUMBERS], i: usize, row: Row)
         numbers[at + BEST] = row.best as u64;
         numbers[at + ALPHA] = row.alpha as u64;
         numbers[at + BETA] = row.beta;
+        numbers[at + HOLD] = row.hold as u64;
     }
 }
 

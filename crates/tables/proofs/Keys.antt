@@ -11,7 +11,7 @@ use Rattle.tables.proofs.RowLines.{at-each}
 
 key-plain : (i : ℕ) → isIn lineFeed (rowLineAt i .key) ≡ false
 key-plain i =
-    at-each (λ l. isIn lineFeed (l .key) ≡ false) refl (refl, (refl, (refl, (refl, (refl, (refl, tt)))))) i
+    at-each (λ l. isIn lineFeed (l .key) ≡ false) refl (refl, (refl, (refl, (refl, (refl, (refl, (refl, tt))))))) i
 
 pub table-plain : (ranked : Bool) → Plain (table ranked)
 table-plain ranked at-board = refl

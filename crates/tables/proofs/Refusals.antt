@@ -35,7 +35,10 @@ field-small =
         none,
         (
           λ rs vs v. small (ltb (getD vs periodAt 0) v) exceeding (omega arith),
-          (λ rs vs v. small (ltb (getD vs worstAt 0) v) exceeding (omega arith), (none, (none, tt))),
+          (
+            λ rs vs v. small (ltb (getD vs worstAt 0) v) exceeding (omega arith),
+            (none, (none, (λ rs vs v. small (ltb (getD vs worstAt 0) v) exceeding (omega arith), tt))),
+          ),
         ),
       ),
     )

@@ -25,7 +25,7 @@ use Rattle.rows.specs.Rows.{minTasks, maxTasks, inRange, allRows, tasksOf, hasT
 use Rattle.rows.specs.declared.Row.{Row}
 use Rattle.rows.proofs.Tasks.{tasks-last, all-tasks-last}
 use Rattle.rows.proofs.Limits.{in-range, append-passes}
-use Rattle.rows.specs.Rows.{taskAt, periodAt, worstAt, bestAt, alphaAt, betaAt, fieldCount, rowOf}
+use Rattle.rows.specs.Rows.{taskAt, periodAt, worstAt, bestAt, alphaAt, betaAt, holdAt, fieldCount, rowOf}
 use Rattle.tables.specs.TableLines.{minBoard, maxBoard, exceeding, repeated, impossible}
 use Rattle.tables.specs.TableLines.{rowLineAt, atMost, newRank}
 use Rattle.tables.specs.TableLines.{Stage, at-board, at-tasks, at-field, at-rank, at-end, ranksStage, rowsStage}
@@ -100,8 +100,10 @@ module _ (rs : List Row) where
           best = in-limits bestAt (omega arith);
           alpha = in-limits alphaAt (omega arith);
           beta = in-limits betaAt (omega arith);
+          hold = in-limits holdAt (omega arith);
           worst-period = at-most worstAt periodAt (omega arith) (omega arith) refl;
           best-worst = at-most bestAt worstAt (omega arith) (omega arith) refl;
+          hold-worst = at-most holdAt worstAt (omega arith) (omega arith) refl;
         })
 
     row-new : hasTask (rowOf vs .task) rs ≡ false

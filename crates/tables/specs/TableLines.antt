@@ -10,7 +10,7 @@ use Rattle.text.specs.Text.{bytes}
 use Rattle.grammars.specs.Forms.{natural, size}
 use Rattle.grammars.specs.Grammars.{Expected, the-end, a-line, Grammar, Verdict, accepted, refused, read}
 use Rattle.rows.specs.Rows.{minTask, maxTask, minTicks, maxTicks, minAlpha, maxAlpha, minBeta, maxBeta}
-use Rattle.rows.specs.Rows.{minTasks, maxTasks, periodAt, worstAt, fieldCount, rowOf, hasTask}
+use Rattle.rows.specs.Rows.{minHold, maxHold, minTasks, maxTasks, periodAt, worstAt, fieldCount, rowOf, hasTask}
 use Rattle.rows.specs.declared.Row.{Row}
 
 -- board numbers
@@ -21,7 +21,7 @@ abbrev pub maxBoard : ℕ
 maxBoard = 65535
 
 -- ---- refusals of a number in its range
--- worst > period, best > worst
+-- worst > period, best > worst, hold > worst
 abbrev pub exceeding : ℕ
 exceeding = 4
 
@@ -67,6 +67,7 @@ rowLines =
     ∷ rowLine (bytes "best=") minTicks maxTicks (λ rs vs. atMost (getD vs worstAt 0))
     ∷ rowLine (bytes "alpha=") minAlpha maxAlpha (λ rs vs. anyNumber)
     ∷ rowLine (bytes "beta=") minBeta maxBeta (λ rs vs. anyNumber)
+    ∷ rowLine (bytes "hold=") minHold maxHold (λ rs vs. atMost (getD vs worstAt 0))
     ∷ []
 
 -- the line at a position in a row

@@ -13,6 +13,7 @@ use super::progress::Part;
 use super::progress::Stand;
 use rows::ALPHA;
 use rows::BEST;
+use rows::BETA;
 use rows::FIELDS;
 use rows::MAX_TASKS;
 use rows::PERIOD;
@@ -116,7 +117,11 @@ fn row_line(
             at_most(numbers[start + WORST], answer, line)
         }
         ALPHA => line_at(text, at, line, b"alpha=", Row::ALPHA_MIN, Row::ALPHA_MAX),
-        _ => line_at(text, at, line, b"beta=", Row::BETA_MIN, Row::BETA_MAX),
+        BETA => line_at(text, at, line, b"beta=", Row::BETA_MIN, Row::BETA_MAX),
+        _ => {
+            let answer = line_at(text, at, line, b"hold=", Row::HOLD_MIN, Row::HOLD_MAX);
+            at_most(numbers[start + WORST], answer, line)
+        }
     }
 }
 

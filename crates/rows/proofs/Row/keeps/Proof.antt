@@ -21,9 +21,13 @@ within-requires-5 c κs = search needs
 within-requires-6 : tie.Need-within-requires-6
 within-requires-6 c κs = search needs
 
+within-requires-7 : tie.Need-within-requires-7
+within-requires-7 c κs = search needs
+
 returns : tie.Need-returns
 returns c =
-    let five = c .before in
+    let six = c .before in
+    let five = six .before in
     let four = five .before in
     let three = four .before in
     let two = three .before in
@@ -33,7 +37,8 @@ returns c =
       three .within3 .ensures,
       four .within4 .ensures,
       five .within5 .ensures,
-      c .within6 .ensures,
+      six .within6 .ensures,
+      c .within7 .ensures,
     )
 
 pub keeps-spec : {M : Type 1} → statement M
@@ -46,4 +51,5 @@ keeps-spec =
     within-requires-4
     within-requires-5
     within-requires-6
+    within-requires-7
     returns)

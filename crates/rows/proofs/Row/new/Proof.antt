@@ -13,7 +13,8 @@ keeps-requires c κs = search needs
 
 -- past the test, the numbers keep their limits
 known : (c : tie.Else1)
-    → let n = c .before .before .args in Limits (row (n .task) (n .period) (n .worst) (n .best) (n .alpha) (n .beta))
+    → let n = c .before .before .args in
+    Limits (row (n .task) (n .period) (n .worst) (n .best) (n .alpha) (n .beta) (n .hold))
 known c = limits _ (sym (c .before .keeps .ensures) ∙ not-false _ (c .if1 .left))
 
 no-row-requires : tie.Need-no-row-requires
@@ -23,9 +24,6 @@ returns : tie.Need-returns
 returns c =
     let k = c .before .before in
     simp (c .no-row .ensures, sym (k .keeps .ensures) ∙ not-true _ (c .before .if1 .taken))
-
-cast-t11 : tie.Need-cast-t11
-cast-t11 c = omega (arith, known c)
 
 cast-t12 : tie.Need-cast-t12
 cast-t12 c = omega (arith, known c)
@@ -39,10 +37,16 @@ cast-t14 c = omega (arith, known c)
 cast-t15 : tie.Need-cast-t15
 cast-t15 c = omega (arith, known c)
 
+cast-t16 : tie.Need-cast-t16
+cast-t16 c = omega (arith, known c)
+
+cast-t17 : tie.Need-cast-t17
+cast-t17 c = omega (arith, known c)
+
 returns-2 : tie.Need-returns-2
 returns-2 c = simp (sym (c .before .keeps .ensures) ∙ not-false _ (c .if1 .left))
 
 pub new-spec : {M : Type 1} → statement M
 new-spec =
     tie.close
-    (tie.spec keeps-requires no-row-requires returns cast-t11 cast-t12 cast-t13 cast-t14 cast-t15 returns-2)
+    (tie.spec keeps-requires no-row-requires returns cast-t12 cast-t13 cast-t14 cast-t15 cast-t16 cast-t17 returns-2)

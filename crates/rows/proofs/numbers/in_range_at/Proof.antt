@@ -65,12 +65,21 @@ mul-new-6 c = search needs
 shared-slice-read-new-6 : tie.Need-shared-slice-read-new-6
 shared-slice-read-new-6 c = search needs
 
+add-new-7 : tie.Need-add-new-7
+add-new-7 c = search needs
+
+mul-new-7 : tie.Need-mul-new-7
+mul-new-7 c = search needs
+
+shared-slice-read-new-7 : tie.Need-shared-slice-read-new-7
+shared-slice-read-new-7 c = search needs
+
 new-requires : tie.Need-new-requires
 new-requires c κs = search needs
 
 returns : tie.Need-returns
 returns c =
-    let a = c .before .before .before .before .before .before .before .before .args in
+    let a = c .before .before .before .before .before .before .before .before .before .args in
     ap (λ (x : Checked). x .in_range) (c .new .ensures)
     ∙ ap inRange (sym (row-from (a .numbers .now) (fieldCount * a .i)))
 
@@ -97,5 +106,8 @@ in-range-at-spec =
     add-new-6
     mul-new-6
     shared-slice-read-new-6
+    add-new-7
+    mul-new-7
+    shared-slice-read-new-7
     new-requires
     returns)

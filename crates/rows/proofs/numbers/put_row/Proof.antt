@@ -1,4 +1,4 @@
--- `rows::numbers::put_row` meets its contract: six numbers are written, or none.
+-- `rows::numbers::put_row` meets its contract: seven numbers are written, or none.
 use borrow.Author.Needs.{needs}
 use Rattle.rows.proofs.Putting.{row-put, row-left}
 use Rattle.rows.proofs.numbers.put_row.Statement.{statement}
@@ -76,9 +76,21 @@ mul-numbers-6 c = search needs
 element-write-numbers-6 : tie.Need-element-write-numbers-6
 element-write-numbers-6 c = search needs
 
+cast-numbers-6 : tie.Need-cast-numbers-6
+cast-numbers-6 c = search needs
+
+add-numbers-7 : tie.Need-add-numbers-7
+add-numbers-7 c = search needs
+
+mul-numbers-7 : tie.Need-mul-numbers-7
+mul-numbers-7 c = search needs
+
+element-write-numbers-7 : tie.Need-element-write-numbers-7
+element-write-numbers-7 c = search needs
+
 returns : tie.Need-returns
 returns c =
-    let a = c .before .before .before .before .before .before .args in
+    let a = c .before .before .before .before .before .before .before .args in
     row-put (a .numbers .now) (a .i) (a .row)
 
 returns-2 : tie.Need-returns-2
@@ -114,5 +126,9 @@ put-row-spec =
     add-numbers-6
     mul-numbers-6
     element-write-numbers-6
+    cast-numbers-6
+    add-numbers-7
+    mul-numbers-7
+    element-write-numbers-7
     returns
     returns-2)

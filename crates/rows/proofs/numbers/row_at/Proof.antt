@@ -4,7 +4,8 @@ use Prim.Native.Nat.{_+_, _*_}
 use native.Mathlib.Omega.{arith}
 use borrow.Author.Needs.{needs}
 use lib.ListN.{getD}
-use Rattle.rows.specs.Rows.{taskAt, periodAt, worstAt, bestAt, alphaAt, betaAt, fieldCount, row, inRange}
+use Rattle.rows.specs.Rows.{taskAt, periodAt, worstAt, bestAt, alphaAt, betaAt, holdAt, fieldCount, row}
+use Rattle.rows.specs.Rows.{inRange}
 use Rattle.rows.proofs.Limits.{Limits, limits}
 use Rattle.rows.proofs.RowNumbers.{row-from}
 use Rattle.rows.proofs.numbers.row_at.Statement.{statement}
@@ -12,7 +13,8 @@ use Rattle.rows.proofs.numbers.row_at.Tie as tie
 
 kept : (c : tie.Start) → let ns = c .args .numbers .now in let at = fieldCount * c .args .i in
     Limits (row (getD ns (at + taskAt) 0) (getD ns (at + periodAt) 0) (getD ns (at + worstAt) 0)
-    (getD ns (at + bestAt) 0) (getD ns (at + alphaAt) 0) (getD ns (at + betaAt) 0))
+    (getD ns (at + bestAt) 0) (getD ns (at + alphaAt) 0) (getD ns (at + betaAt) 0)
+    (getD ns (at + holdAt) 0))
 kept c =
     limits _ (ap inRange (sym (row-from (c .args .numbers .now) (fieldCount * c .args .i))) ∙ c .pre .1)
 
@@ -88,9 +90,21 @@ mul-t30 c = search needs
 shared-slice-read-t32 : tie.Need-shared-slice-read-t32
 shared-slice-read-t32 c = search needs
 
+add-t33 : tie.Need-add-t33
+add-t33 c = search needs
+
+mul-t34 : tie.Need-mul-t34
+mul-t34 c = search needs
+
+shared-slice-read-t36 : tie.Need-shared-slice-read-t36
+shared-slice-read-t36 c = search needs
+
+cast-t37 : tie.Need-cast-t37
+cast-t37 c = record { fits = omega (arith, kept (c .before .before .before .before .before .before .before) .hold .le-high) }
+
 returns : tie.Need-returns
 returns c =
-    let a = c .before .before .before .before .before .before .args in
+    let a = c .before .before .before .before .before .before .before .args in
     sym (row-from (a .numbers .now) (fieldCount * a .i))
 
 pub row-at-spec : {M : Type 1} → statement M
@@ -121,4 +135,8 @@ row-at-spec =
     add-t29
     mul-t30
     shared-slice-read-t32
+    add-t33
+    mul-t34
+    shared-slice-read-t36
+    cast-t37
     returns)

@@ -3,7 +3,7 @@ use mathlib.Core.Path.{_≡_, _∙_}
 use native.Mathlib.Omega.{arith}
 use borrow.Author.Needs.{needs}
 use Rattle.grammars.proofs.Answers.{no-test}
-use Rattle.rows.specs.Rows.{periodAt, worstAt, bestAt, betaAt}
+use Rattle.rows.specs.Rows.{periodAt, worstAt, bestAt, holdAt}
 use Rattle.rows.proofs.RowNumbers.{between-at}
 use Rattle.tables.specs.inside.Numbers.{rowStart}
 use Rattle.tables.proofs.lines.row_line.Statement.{statement}
@@ -33,9 +33,15 @@ returns-5 : tie.Need-returns-5
 returns-5 c = rw (c .before .before .match .keys5) (c .line-at5 .ensures ∙ no-test _ _)
 
 returns-6 : tie.Need-returns-6
-returns-6 c =
-    let last : c .before .before .before .before .before .args .position ≡ betaAt = omega arith in
-    rw last (c .line-at6 .ensures ∙ no-test _ _)
+returns-6 c = rw (c .before .before .match .keys6) (c .line-at6 .ensures ∙ no-test _ _)
+
+returns-7 : tie.Need-returns-7
+returns-7 c =
+    let m = c .before .before .before .before in
+    let a = m .before .before .before .args in
+    let last : a .position ≡ holdAt = omega arith in
+    rw (last, between-at (rowStart (a .count)) (a .numbers .now) holdAt worstAt (omega arith))
+    (rw (c .before .before .line-at7 .ensures) at (c .at-most3 .ensures))
 
 pub row-line-spec : {M : Type 1} → statement M
 row-line-spec =
@@ -69,4 +75,5 @@ row-line-spec =
     returns-3
     returns-4
     returns-5
-    returns-6)
+    returns-6
+    returns-7)

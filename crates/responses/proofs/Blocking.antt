@@ -1,0 +1,61 @@
+-- The blocking time of some rows: the largest of their holds less 1, or 0. It does not depend on their sequence, is
+-- within the limit of a hold, and is 0 where no job may hold the processor past a tick.
+use mathlib.Core.Path.{_≡_, refl, ap}
+use mathlib.Core.Bool.{true}
+use mathlib.Core.Logic.{inl, inr}
+use mathlib.Core.List.{List, [], _∷_}
+use Prim.Native.Nat.{ℕ, zero, suc, _+_, _-_, _≤_, _<_}
+use native.Mathlib.Nat.{le-trans}
+use native.Mathlib.Omega.{arith}
+use lib.ListN.{length}
+use Rattle.basics.specs.Basics.{larger}
+use Rattle.basics.proofs.Numbers.{larger-left, larger-right, larger-either, larger-most}
+use Rattle.rows.specs.Rows.{maxTicks, inRange, allRows, rowAt}
+use Rattle.rows.specs.declared.Row.{Row}
+use Rattle.rows.proofs.Limits.{limits, head-passes, tail-passes}
+use Rattle.responses.specs.Figures.{longestHold, blocking}
+use Rattle.responses.specs.Claims.{Blocks, NoneHolds}
+
+-- ---- the longest hold
+hold-under : (rs : List Row) (i : ℕ) → i < length rs → rowAt rs i .hold ≤ longestHold rs
+hold-under [] i l = absurd (omega arith)
+hold-under (r ∷ rs) zero l = larger-left (r .hold) (longestHold rs)
+hold-under (r ∷ rs) (suc i) l = le-trans (hold-under rs i (omega arith)) (larger-right (r .hold) (longestHold rs))
+
+hold-reached : (rs : List Row) → 1 ≤ longestHold rs
+    → (i : ℕ) × (i < length rs) × (rowAt rs i .hold ≡ longestHold rs)
+hold-reached [] h = absurd (omega arith)
+hold-reached (r ∷ rs) h = elim (larger-either (r .hold) (longestHold rs)) [
+  | inl e ↦ (0, omega arith, rw e)
+  | inr e ↦ (let b = hold-reached rs (rw e at h) in (suc (b .0), omega (arith, b .1), rw e (b .2)))
+]
+
+pub longest-most : (x : ℕ) (rs : List Row) → ((i : ℕ) → i < length rs → rowAt rs i .hold ≤ x) → longestHold rs ≤ x
+longest-most x [] h = omega arith
+longest-most x (r ∷ rs) h =
+    larger-most (r .hold) (longestHold rs) x (h 0 (omega arith)) (longest-most x rs (λ i l. h (suc i) (omega arith)))
+
+-- ---- the blocking time
+pub blocking-is : (rs : List Row) → blocking rs ≡ longestHold rs - 1
+unfolding blocking
+blocking-is rs = refl
+
+pub blocks : (rs : List Row) → Blocks rs (blocking rs)
+blocks rs = record {
+  covers = λ i l. omega (arith, hold-under rs i l, blocking-is rs);
+  reached = λ h.
+      let b = hold-reached rs (omega (arith, blocking-is rs)) in
+      (b .0, b .1, omega (arith, b .2, blocking-is rs));
+}
+
+pub no-blocking : (rs : List Row) → NoneHolds rs → blocking rs ≡ 0
+no-blocking rs h = omega (arith, longest-most 1 rs h, blocking-is rs)
+
+holds-ranged : (rs : List Row) → allRows inRange rs ≡ true → longestHold rs ≤ maxTicks
+holds-ranged [] h = omega arith
+holds-ranged (r ∷ rs) h =
+    larger-most (r .hold) (longestHold rs) maxTicks (limits r (head-passes inRange r rs h) .hold .le-high)
+    (holds-ranged rs (tail-passes inRange r rs h))
+
+pub blocking-max : (rs : List Row) → allRows inRange rs ≡ true → blocking rs ≤ maxTicks
+blocking-max rs h = omega (arith, holds-ranged rs h, blocking-is rs)
