@@ -1,7 +1,7 @@
 -- Every run of a board in the documents' words, whatever is claimed of it: which job each tick goes to and when a job is
 -- finished, apart from how a board keeps its queues and its stretches.
 use mathlib.Core.Path.{_≡_}
-use mathlib.Core.Bool.{Bool, true, _&&_}
+use mathlib.Core.Bool.{Bool, true, false, _&&_}
 use mathlib.Core.List.{List, [], _∷_}
 use mathlib.Core.Logic.{_⊎_, _↔_}
 use Prim.Native.Nat.{ℕ, zero, suc, _+_, _*_, _≤_, _<_}
