@@ -8,12 +8,13 @@ use native.Mathlib.Numerals.{add-one}
 use native.Mathlib.Omega.{arith}
 use lib.ListN.{length, getD, take, drop, length-take, length-drop}
 use lib.Seq.{getD-take, getD-drop}
+use Rattle.basics.specs.Basics.{pick}
 use Rattle.rows.specs.Rows.{maxTicks, cost, timesInRange, inRange, allRows, rowAt, noRow}
 use Rattle.rows.specs.declared.Row.{Row}
 use Rattle.rows.proofs.Limits.{Times, times, in-range-times, at-passes, front-passes}
 use Rattle.responses.specs.Interference.{ceiling, Load, load, interference, leastFixed, largestFixed}
 use Rattle.analysis.specs.inside.Columns.{loadsFrom, loads, columnsMax, Columns, Filled, UnderColumns}
-use Rattle.responses.specs.Figures.{worstLoad, bestLoad, blocking, latest, earliest}
+use Rattle.responses.specs.Figures.{worstLoad, bestLoad, blocking, mayHold, latest, earliest}
 use Rattle.responses.proofs.Sums.{term-max}
 use Rattle.responses.proofs.Responses.{responses}
 
@@ -163,14 +164,18 @@ module _ (t : Row) {b : ℕ} {columns : List ℕ} {n k : ℕ} {rows : List Row} 
       e ∙ ap₂ (λ (c : ℕ) (ls : List Load). leastFixed (cost t + c) (t .period) ls) blocked (worst-loads f)
 
   pub earliest-found : (w e : ℕ) → w ≡ latest t (take k rows) below
-      → e ≡ largestFixed (t .best) w (loads k columns (from (n + n) columns)) → e ≡ earliest t (take k rows) below
-  earliest-found w e i h = h ∙ ap₂ (largestFixed (t .best)) i (best-loads f)
+      → e ≡ pick (mayHold t) (t .best) (largestFixed (t .best) w (loads k columns (from (n + n) columns)))
+      → e ≡ earliest t (take k rows) below
+  earliest-found w e i h =
+      h ∙ ap₂ (λ (v : ℕ) (ls : List Load). pick (mayHold t) (t .best) (largestFixed (t .best) v ls)) i (best-loads f)
 
 -- of a task that is not late
 pub record Found (t : Row) (columns : List ℕ) (n k w : ℕ) : Type 0 where
   pub latest-max : w ≤ maxTicks
   pub best-fits : t .best + interference 1 w (loads k columns (from (n + n) columns)) ≤ w
-  pub earliest-latest : (e : ℕ) → e ≡ largestFixed (t .best) w (loads k columns (from (n + n) columns)) → e ≤ w
+  pub earliest-latest :
+      (e : ℕ) → e ≡ pick (mayHold t) (t .best) (largestFixed (t .best) w (loads k columns (from (n + n) columns)))
+      → e ≤ w
 
 pub found : {t : Row} {b : ℕ} {columns : List ℕ} {n k : ℕ} (w : ℕ) → UnderColumns t b columns n k
     → w ≡ leastFixed (cost t + b) (t .period) (loads k columns (from n columns)) → 1 ≤ w → Found t columns n k w

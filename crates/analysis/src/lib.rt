@@ -1,21 +1,24 @@
-// The response analysis: W, E, margin and stability of a row under rows whose times stand in columns.
+// The response analysis: W, E, margin and stability of a row under rows whose times stand in columns, over rows that
+// block it for some ticks.
 ghost use mathlib.Core.Path.{_≡_};
 ghost use mathlib.Core.Bool.{true};
-ghost use Prim.Native.Nat.{suc, _+_, _*_, _≤_, _<_};
-ghost use lib.ListN.{length, take};
+ghost use Prim.Native.Nat.{suc, _+_, _-_, _*_, _≤_, _<_};
+ghost use lib.ListN.{length, take, drop};
+ghost use Rattle.basics.specs.Basics.{pick};
 ghost use Rattle.rows.specs.Rows.{maxTicks, fieldCount, inRange};
 ghost use Rattle.responses.specs.Interference.{ceiling, interference, leastFixed, largestFixed};
-ghost use Rattle.responses.specs.Figures.{marginAt, lateFigures};
+ghost use Rattle.responses.specs.Figures.{blocking, mayHold, marginAt, lateFigures};
 ghost use Rattle.rows.specs.inside.Numbers.{rowIn, rowsIn};
 ghost use Rattle.analysis.specs.inside.Columns.{loads, columnsMax, baseMax, Columns, withTimes, Filled};
-ghost use Rattle.analysis.specs.inside.Columns.{Fillable, UnderColumns};
-ghost use Rattle.analysis.specs.inside.Columns.{BlockingOfAny, FiguresIn};
+ghost use Rattle.analysis.specs.inside.Columns.{Held, Fillable, UnderColumns, FiguresIn};
+use basics::larger;
 use responses::Figures;
 use rows::BEST;
 use rows::FIELDS;
 use rows::PERIOD;
 use rows::Row;
 use rows::cost_at;
+use rows::hold_at;
 
 // Of a row that is late: nothing but that.
 fn late_figures() -> Figures
@@ -97,11 +100,42 @@ pub fn margin(row: Row, latest: u64, earliest: u64) -> i64
     row.beta as i64 - used as i64
 }
 
-// The blocking time of any rows below: none, while every job can be interrupted.
-pub fn no_blocking() -> u64
-    ensures { λ r. ⌜ BlockingOfAny r ⌝ }
+// The earliest response of a row whose latest is known, under the first n tasks of the columns: in a stretch of its own
+// none of them counts.
+fn earliest(row: Row, latest: u64, periods: &[u64], bests: &[u64], n: usize) -> u64
+    requires { ⌜ (inRange row ≡ true) × (latest ≤ maxTicks) × Columns n (now periods) (now bests)
+        × (row .best + interference 1 latest (loads n (now periods) (now bests)) ≤ latest) ⌝ }
+    ensures { λ r. ⌜ r ≡ pick (mayHold row) (row .best)
+        (largestFixed (row .best) latest (loads n (now (periods .entry)) (now (bests .entry)))) ⌝ }
 {
-    0
+    if 2 <= row.hold {
+        return row.best as u64;
+    }
+    largest_fixed(row.best as u64, latest, periods, bests, n)
+}
+
+// What a longest hold blocks for: all of it but its first tick.
+pub fn blocking_time(longest: u64) -> u64
+    ensures { λ r. ⌜ r ≡ longest - 1 ⌝ }
+{
+    if longest == 0 {
+        return 0;
+    }
+    longest - 1
+}
+
+// The blocking time of the rows at the positions from an index up to n.
+pub fn blocking_from(rows: &[u64], positions: &[usize], from: usize, n: usize) -> u64
+    requires { ⌜ (from ≤ n) × Held (now rows) (now positions) n ⌝ }
+    ensures { λ r. ⌜ r ≡ blocking (rowsIn (now (rows .entry)) (drop from (take n (now (positions .entry))))) ⌝ }
+{
+    let mut longest = 0;
+    let mut k = n;
+    while from < k {
+        k -= 1;
+        longest = larger(hold_at(rows, positions[k]), longest);
+    }
+    blocking_time(longest)
 }
 
 // The times of row i, the numbers of it that figures take, are put at index k of three columns of n numbers.
@@ -139,7 +173,7 @@ pub fn figures_under(row: Row, blocked: u64, columns: &[u64], n: usize, k: usize
         return late_figures();
     }
     let bests = &columns[n + n..];
-    let earliest = largest_fixed(row.best as u64, latest, columns, bests, k);
+    let earliest = earliest(row, latest, columns, bests, k);
     let margin = margin(row, latest, earliest);
     Figures {
         figured: true,

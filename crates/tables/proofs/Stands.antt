@@ -176,7 +176,7 @@ stand-follows P.End ranked count left position ws v e h w = absurd w
 key-long : (i : ℕ) → i < fieldCount → lineBytes ≤ suc (suc (length (rowLineAt i .key)))
 key-long =
     at-within (λ l. lineBytes ≤ suc (suc (length (l .key))))
-    (omega arith, (omega arith, (omega arith, (omega arith, (omega arith, (omega arith, tt))))))
+    (omega arith, (omega arith, (omega arith, (omega arith, (omega arith, (omega arith, (omega arith, tt)))))))
 
 pub record LineTaken (p : Part) (text : List ℕ) (at v next : ℕ) : Type 0 where
   pub taken : Taken p v

@@ -36,9 +36,8 @@ timely c =
     let s = c .before .before .before .before .before .before in
     found _ (s .pre) (least (c .before)) (omega (arith, c .if1 .left))
 
-early : (c : tie.After-largest-fixed)
-    → c .largest-fixed .result ≤ c .before .before .before .before .least-fixed .result
-early c = timely (c .before .before .before) .earliest-latest _ (c .largest-fixed .ensures)
+early : (c : tie.After-earliest) → c .earliest .result ≤ c .before .before .before .least-fixed .result
+early c = timely (c .before .before) .earliest-latest _ (c .earliest .ensures)
 
 mul-costs : tie.Need-mul-costs
 mul-costs c = search needs
@@ -103,43 +102,39 @@ part-bests-start c = search needs
 part-bests-end : tie.Need-part-bests-end
 part-bests-end c = search needs
 
-cast-largest-fixed : tie.Need-cast-largest-fixed
-cast-largest-fixed c = search needs
-
-largest-fixed-requires : tie.Need-largest-fixed-requires
-largest-fixed-requires c κs =
-    let s = c .before .before .before .before .before .before .before .before in
-    let f = timely (c .before .before) in
-    let l = times (s .args .row) (in-range-times (s .args .row) (s .pre .in-range)) in
-    (l .best-some, f .latest-max, best-columns (s .pre), f .best-fits)
+earliest-requires : tie.Need-earliest-requires
+earliest-requires c κs =
+    let s = c .before .before .before .before .before .before .before in
+    let f = timely (c .before) in
+    (s .pre .in-range, f .latest-max, best-columns (s .pre), f .best-fits)
 
 margin-requires : tie.Need-margin-requires
 margin-requires c κs =
-    let s = c .before .before .before .before .before .before .before .before .before in
-    (s .pre .in-range, timely (c .before .before .before) .latest-max, early c)
+    let s = c .before .before .before .before .before .before .before .before in
+    (s .pre .in-range, timely (c .before .before) .latest-max, early c)
 
 cast-t22 : tie.Need-cast-t22
-cast-t22 c = record { fits = omega (arith, timely (c .before .before .before .before) .latest-max) }
+cast-t22 c = record { fits = omega (arith, timely (c .before .before .before) .latest-max) }
 
 cast-t23 : tie.Need-cast-t23
-cast-t23 c = record { fits = omega (arith, timely (c .before .before .before .before) .latest-max, early (c .before)) }
+cast-t23 c = record { fits = omega (arith, timely (c .before .before .before) .latest-max, early (c .before)) }
 
-sub-t15 : tie.Need-sub-t15
-sub-t15 c = early (c .before)
+sub-t17 : tie.Need-sub-t17
+sub-t17 c = early (c .before)
 
 cast-t24 : tie.Need-cast-t24
-cast-t24 c = record { fits = omega (arith, timely (c .before .before .before .before) .latest-max) }
+cast-t24 c = record { fits = omega (arith, timely (c .before .before .before) .latest-max) }
 
 returns-2 : tie.Need-returns-2
 returns-2 c rows below f blocked =
-    let i = c .before .before .before .before in
+    let i = c .before .before .before in
     let s = i .before .before .before .before .before .before in
     let a = s .args in
     let w = i .before .least-fixed .result in
-    let e = c .before .largest-fixed .result in
+    let e = c .before .earliest .result in
     let m = toZ-ofZ {w = w64} {z = c .margin .result} (record { sfits = c .margin .ok }) in
     let latest = latest-found (a .row) below f blocked w (least (i .before)) in
-    let earliest = earliest-found (a .row) below f blocked w e latest (c .before .largest-fixed .ensures) in
+    let earliest = earliest-found (a .row) below f blocked w e latest (c .before .earliest .ensures) in
     ap (figuresAt w e) m
     ∙ timely-answer (a .row) (take (a .k) rows) below w e (c .margin .result) (omega (arith, i .if1 .left)) latest
     earliest (c .margin .ensures)
@@ -163,11 +158,10 @@ figures-under-spec =
     sub-bests
     part-bests-start
     part-bests-end
-    cast-largest-fixed
-    largest-fixed-requires
+    earliest-requires
     margin-requires
     cast-t22
     cast-t23
-    sub-t15
+    sub-t17
     cast-t24
     returns-2)

@@ -34,14 +34,14 @@ mul-put-times c =
 shared-slice-read-put-times : tie.Need-shared-slice-read-put-times Inv-loop μ-loop
 shared-slice-read-put-times c =
     let s = c .before .before .before .before .before .before in
-    omega (arith, s .pre .positions-held, c .before .loop-test .taken)
+    omega (arith, s .pre .held .positions-held, c .before .loop-test .taken)
 
 put-times-requires : tie.Need-put-times-requires Inv-loop μ-loop
 put-times-requires c κs =
     let s = c .before .before .before .before .before .before .before in
     let x = c .before .before .before .loop in
     let t = c .before .before .loop-test .taken in
-    (s .pre .rows-held (x .k) t, t, s .pre .few, x .inv .1 .room)
+    (s .pre .held .rows-held (x .k) t, t, s .pre .few, x .inv .1 .room)
 
 add-k : tie.Need-add-k Inv-loop μ-loop
 add-k c =
@@ -58,7 +58,8 @@ loop-again c =
     let k = c .before .before .before .before .before in
     let x = k .before .loop in
     let put = c .before .before .put-times in
-    let more = filled-more (a .rows .now) (a .positions .now) (a .n) (s .pre .positions-held) (x .k) (x .columns) _
+    let more = filled-more (a .rows .now) (a .positions .now) (a .n) (s .pre .held .positions-held) (x .k) (x .columns)
+    _
     (x .inv .1) (k .loop-test .taken) (put .ensures) in
     (put .kept .1 .1 .0 ∙ x .inv .0, rw (add-one (x .k)) more)
 

@@ -3,7 +3,7 @@ use mathlib.Core.Path.{ap, ap₂, sym}
 use Prim.Native.Nat.{ℕ, _+_, _*_}
 use native.Mathlib.Omega.{arith}
 use lib.ListN.{getD, set, length-set}
-use Rattle.rows.specs.Rows.{fieldCount, cost}
+use Rattle.rows.specs.Rows.{periodAt, fieldCount, cost}
 use Rattle.rows.specs.declared.Row.{Row}
 use Rattle.rows.specs.inside.Numbers.{rowIn}
 use Rattle.rows.proofs.RowNumbers.{row-from}
@@ -41,7 +41,7 @@ mul-columns-3 c = search needs
 slice-write-columns-2 : tie.Need-slice-write-columns-2
 slice-write-columns-2 c =
     let a = c .before .before .before .before .args in
-    omega (arith, length-set (a .columns .now) (a .k) (getD (a .rows .now) (6 * a .i + 1) 0))
+    omega (arith, length-set (a .columns .now) (a .k) (getD (a .rows .now) (fieldCount * a .i + periodAt) 0))
 
 add-columns-3 : tie.Need-add-columns-3
 add-columns-3 c = search needs
@@ -64,11 +64,11 @@ mul-columns-5 c = search needs
 slice-write-columns-3 : tie.Need-slice-write-columns-3
 slice-write-columns-3 c =
     let a = c .before .before .before .before .before .args in
-    let first = set (a .columns .now) (a .k) (getD (a .rows .now) (6 * a .i + 1) 0) in
+    let first = set (a .columns .now) (a .k) (getD (a .rows .now) (fieldCount * a .i + periodAt) 0) in
     omega (
       arith,
       length-set first (a .n + a .k) (c .before .cost-at .result),
-      length-set (a .columns .now) (a .k) (getD (a .rows .now) (6 * a .i + 1) 0),
+      length-set (a .columns .now) (a .k) (getD (a .rows .now) (fieldCount * a .i + periodAt) 0),
     )
 
 same-length : tie.Need-same-length

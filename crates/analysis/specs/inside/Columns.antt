@@ -51,12 +51,16 @@ pub record Filled (rows : List Row) (n k : ℕ) (columns : List ℕ) : Type 0 wh
 abbrev pub withTimes : List ℕ → ℕ → ℕ → Row → List ℕ
 withTimes columns n k r = set (set (set columns k (r .period)) (n + k) (cost r)) (n + n + k) (r .best)
 
--- the rows at n positions among the numbers of rows can be put into columns
+-- the numbers of rows hold those at n positions
+pub record Held (ns positions : List ℕ) (n : ℕ) : Type 0 where
+  pub positions-held : n ≤ length positions
+  pub rows-held : (j : ℕ) → j < n → fieldCount * suc (getD positions j 0) ≤ length ns
+
+-- these rows can be put into columns
 pub record Fillable (ns positions : List ℕ) (n : ℕ) (columns : List ℕ) : Type 0 where
   pub few : n ≤ columnsMax
   pub room : 3 * n ≤ length columns
-  pub positions-held : n ≤ length positions
-  pub rows-held : (j : ℕ) → j < n → fieldCount * suc (getD positions j 0) ≤ length ns
+  pub held : Held ns positions n
 
 -- a row in range, columns with k rows above it, whose times are in range, and the blocking time of the rows below it
 pub record UnderColumns (t : Row) (blocked : ℕ) (columns : List ℕ) (n k : ℕ) : Type 0 where
@@ -74,8 +78,3 @@ abbrev pub FiguresIn : Row → ℕ → List ℕ → ℕ → ℕ → Figures → 
 FiguresIn t blocked columns n k x =
     (rows below : List Row) → Filled rows n k columns → blocked ≡ blocking below
     → x ≡ figuresUnder t (take k rows) below
-
--- the blocking time of any rows below
-pub record BlockingOfAny (blocked : ℕ) : Type 0 where
-  pub blocked-is : (below : List Row) → blocked ≡ blocking below
-  pub blocked-max : blocked ≤ maxTicks

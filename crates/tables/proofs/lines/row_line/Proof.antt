@@ -1,13 +1,32 @@
 -- `tables::lines::row_line` meets its contract: each arm asks for the key, the range and the test at its position.
 use mathlib.Core.Path.{_≡_, _∙_}
+use Prim.Native.Nat.{ℕ, suc, _≤_, _<_}
+use native.Mathlib.Nat.{le-antisymm, le-of-suc-le-suc}
 use native.Mathlib.Omega.{arith}
 use borrow.Author.Needs.{needs}
 use Rattle.grammars.proofs.Answers.{no-test}
-use Rattle.rows.specs.Rows.{periodAt, worstAt, bestAt, holdAt}
+use Rattle.rows.specs.Rows.{taskAt, periodAt, worstAt, bestAt, alphaAt, betaAt, holdAt, fieldCount}
 use Rattle.rows.proofs.RowNumbers.{between-at}
 use Rattle.tables.specs.inside.Numbers.{rowStart}
 use Rattle.tables.proofs.lines.row_line.Statement.{statement}
 use Rattle.tables.proofs.lines.row_line.Tie as tie
+
+-- the last arm: no position of a row is left but that of its hold
+past : (p k : ℕ) → k ≤ p → (p ≡ k → ⊥) → suc k ≤ p
+past p k h n = omega (arith, n)
+
+none-else : (p : ℕ) → p < fieldCount
+    → (((((Unit {0} × (p ≡ taskAt → ⊥)) × (p ≡ periodAt → ⊥)) × (p ≡ worstAt → ⊥)) × (p ≡ bestAt → ⊥))
+    × (p ≡ alphaAt → ⊥)) × (p ≡ betaAt → ⊥)
+    → p ≡ holdAt
+none-else p few n =
+    let one = past p taskAt (omega arith) (n .0 .0 .0 .0 .0 .1) in
+    let two = past p periodAt one (n .0 .0 .0 .0 .1) in
+    let three = past p worstAt two (n .0 .0 .0 .1) in
+    let four = past p bestAt three (n .0 .0 .1) in
+    let five = past p alphaAt four (n .0 .1) in
+    let six = past p betaAt five (n .1) in
+    le-antisymm (le-of-suc-le-suc few) six
 
 returns : tie.Need-returns
 returns c = rw (c .before .before .before .match .keys1) (rw (c .before .line-at .ensures) at (c .new-task .ensures))
@@ -39,7 +58,7 @@ returns-7 : tie.Need-returns-7
 returns-7 c =
     let m = c .before .before .before .before in
     let a = m .before .before .before .args in
-    let last : a .position ≡ holdAt = omega arith in
+    let last = none-else (a .position) (m .before .before .before .pre .0 .0) (m .match .rest) in
     rw (last, between-at (rowStart (a .count)) (a .numbers .now) holdAt worstAt (omega arith))
     (rw (c .before .before .line-at7 .ensures) at (c .at-most3 .ensures))
 
@@ -68,6 +87,12 @@ row-line-spec =
     (λ c κs. search needs)
     (λ c. search needs)
     (λ c κs. search needs)
+    (λ c. search needs)
+    (λ c κs. search needs)
+    (λ c. search needs)
+    (λ c κs. search needs)
+    (λ c. search needs)
+    (λ c. search needs)
     (λ c. search needs)
     (λ c κs. search needs)
     returns

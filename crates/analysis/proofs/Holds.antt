@@ -1,0 +1,26 @@
+-- The longest hold of the rows at the positions from an index on: of none it is 0, and one row more counts with the rest.
+use mathlib.Core.Path.{_≡_, ap, _∙_}
+use mathlib.Core.List.{List}
+use Prim.Native.Nat.{ℕ, suc, _≤_, _<_}
+use native.Mathlib.Omega.{arith}
+use lib.ListN.{length, getD, take, drop, drop-of-length-le, length-take}
+use lib.Seq.{drop-cons, length-take-le, getD-take}
+use Rattle.basics.specs.Basics.{larger}
+use Rattle.rows.specs.inside.Numbers.{rowIn, rowsIn}
+use Rattle.responses.specs.Figures.{longestHold}
+
+module _ (ns ps : List ℕ) (n : ℕ) where
+  abbrev longestFrom : ℕ → ℕ
+  longestFrom k = longestHold (rowsIn ns (drop k (take n ps)))
+
+  pub holds-none : longestFrom n ≡ 0
+  holds-none =
+      ap (λ (qs : List ℕ). longestHold (rowsIn ns qs))
+      (drop-of-length-le (take n ps) {i = n} (omega (arith, length-take n ps)))
+
+  pub hold-more : (k : ℕ) → k < n → n ≤ length ps
+      → longestFrom k ≡ larger (rowIn ns (getD ps k 0) .hold) (longestFrom (suc k))
+  hold-more k l h =
+      ap (λ (qs : List ℕ). longestHold (rowsIn ns qs))
+      (drop-cons (take n ps) k 0 (omega (arith, length-take-le n ps h)))
+      ∙ ap (λ (p : ℕ). larger (rowIn ns p .hold) (longestFrom (suc k))) (getD-take n ps k 0 l)
