@@ -40,6 +40,7 @@ with-true false b c = refl
 pub record InLimits (t : Row) (above below : List Row) : Type 0 where
   pub in-range : inRange t ≡ true
   pub times-in-range : allRows timesInRange above ≡ true
+  pub below-in-range : allRows inRange below ≡ true
   pub few : length above + length below ≤ maxOthers
 
 module _ (t : Row) (above below : List Row) where
@@ -68,6 +69,7 @@ module _ (t : Row) (above below : List Row) where
       record {
         in-range = and-left (inRange t) (r && (s && few)) h;
         times-in-range = limits-times t above below h .1;
+        below-in-range = and-left s few (and-right r (s && few) rest);
         few = leb-true (length above + length below) maxOthers (and-right s few (and-right r (s && few) rest));
       }
 
@@ -97,7 +99,7 @@ say t above below us us′ ls ls′ x upper put lower put′ e = record {
   answer = is;
   by-formulas = λ h. let k = limits-times t above below h in figured t above below (k .0) (k .1);
   any-sequence = λ above′ below′ p q. is ∙ figures-permuted t p q;
-  not-by-below = λ below′ h. is ∙ figures-below t above below below′ h;
+  by-blocking = λ below′ b h. is ∙ figures-below t above below below′ b h;
 }
   where
     n : ℕ

@@ -7,9 +7,9 @@ ghost use Rattle.rows.specs.Rows.{maxTasks, fieldCount, inRange, allRows};
 ghost use Rattle.rows.specs.inside.Numbers.{rowsOf};
 ghost use Rattle.responses.specs.Figures.{noFigures, inLimits, figuresOf};
 ghost use Rattle.responses.specs.Claims.{FiguresSay};
+use analysis::blocking_from;
 use analysis::figures_under;
 use analysis::fill_columns;
-use analysis::no_blocking;
 use responses::Figures;
 use rows::MAX_TASKS;
 use rows::NUMBERS;
@@ -87,7 +87,8 @@ fn figures_between(
     let positions = positions();
     let mut columns = [0u64; 3 * MAX_TASKS];
     fill_columns(above, &positions, n, &mut columns);
-    figures_under(row, no_blocking(), &columns, n, n)
+    let blocked = blocking_from(below, &positions, 0, m);
+    figures_under(row, blocked, &columns, n, n)
 }
 
 // The figures of a row between any rows above it and below it.

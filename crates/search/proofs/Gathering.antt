@@ -18,18 +18,18 @@ use Rattle.rows.specs.declared.Row.{Row}
 use Rattle.rows.proofs.Limits.{head-passes, tail-passes}
 use Rattle.analysis.specs.inside.Columns.{withTimes, Filled}
 use Rattle.analysis.proofs.Filling.{filled-none, filled-over, filled-last}
-use Rattle.search.specs.inside.Sets.{keep, members}
+use Rattle.search.specs.inside.Sets.{keep, withBit, members}
 use Rattle.search.specs.inside.Search.{Gathered}
 use Rattle.search.proofs.Sets.{halved-after, before-next}
 
--- ---- the members of a set
-pub members-pass : (f : Row → Bool) (m : ℕ) (rs : List Row) → allRows f rs ≡ true → allRows f (members m rs) ≡ true
-members-pass f m [] h = refl
-members-pass f m (r ∷ rs) h =
-    let ih = members-pass f (m / 2) rs (tail-passes f r rs h) in
-    elim (ℕ-discrete (m % 2) 1) [
-      | yes e ↦ rw (eq-eqb (m % 2) 1 e) (and-both (f r) (allRows f (members (m / 2) rs)) (head-passes f r rs h) ih)
-      | no n ↦ rw (ne-eqb (m % 2) 1 n) ih
+-- ---- the members of a set, and the others
+pub some-pass : (f : Row → Bool) (b m : ℕ) (rs : List Row) → allRows f rs ≡ true → allRows f (withBit b m rs) ≡ true
+some-pass f b m [] h = refl
+some-pass f b m (r ∷ rs) h =
+    let ih = some-pass f b (m / 2) rs (tail-passes f r rs h) in
+    elim (ℕ-discrete (m % 2) b) [
+      | yes e ↦ rw (eq-eqb (m % 2) b e) (and-both (f r) (allRows f (withBit b (m / 2) rs)) (head-passes f r rs h) ih)
+      | no n ↦ rw (ne-eqb (m % 2) b n) ih
     ]
 
 -- ---- how far the gathering has come

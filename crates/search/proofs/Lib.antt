@@ -5,3 +5,4 @@ pub mod Record
 pub mod LentRows
 pub mod Chains
 pub mod Gathering
+pub mod Outside

@@ -1,22 +1,27 @@
 // The order of a table's tasks by the rule, found from the whole set down with a byte for each set.
 ghost use mathlib.Core.Path.{_≡_};
 ghost use mathlib.Core.List.{[], _++_};
-ghost use Prim.Native.Nat.{_*_, _/_, _%_, _^_, _≤_, _<_};
+ghost use Prim.Native.Nat.{suc, _*_, _/_, _%_, _^_, _≤_, _<_};
+ghost use lib.Dec.{eqb};
 ghost use lib.ListN.{length, drop};
-ghost use Rattle.rows.specs.Rows.{maxTasks};
+ghost use Rattle.basics.specs.Basics.{pick, larger};
+ghost use Rattle.rows.specs.Rows.{maxTasks, fieldCount};
 ghost use Rattle.rows.specs.inside.Arrays.{ranking};
-ghost use Rattle.rows.specs.inside.Numbers.{rowsOf};
-ghost use Rattle.search.specs.inside.Sets.{fits, Fresh, Settled};
+ghost use Rattle.rows.specs.inside.Numbers.{rowsOf, rowIn};
+ghost use Rattle.responses.specs.Figures.{blocking};
+ghost use Rattle.search.specs.inside.Sets.{others, fits, Fresh, Settled};
 ghost use Rattle.orders.specs.Stability.{stable};
 ghost use Rattle.search.specs.inside.Search.{Lent, Gathered, Searching, MayGo, LowestFound};
 ghost use Rattle.search.specs.inside.Search.{Chained, chainTasks, TableRows, Chooses};
+use analysis::blocking_time;
 use analysis::figures_under;
-use analysis::no_blocking;
 use analysis::put_times;
+use basics::larger;
 use rows::MAX_TASKS;
 use rows::NUMBERS;
 use rows::Order;
 use rows::Row;
+use rows::hold_at;
 use rows::put_rows;
 use rows::row_at;
 
@@ -70,20 +75,62 @@ fn gather(rows: &[u64], n: usize, m: usize, columns: &mut [u64]) -> usize
     count
 }
 
-// Whether row i of set m is stable as its lowest row, under the rest of the set.
-fn stable_under(rows: &[u64], n: usize, m: usize, i: usize, columns: &mut [u64]) -> bool
-    requires { ⌜ Lent n (now rows) × (i < n) × (m / 2 ^ i % 2 ≡ 1) × (3 * n ≤ length (now columns)) ⌝ }
+// The longest hold of some rows, and of row j too where set m has not got it.
+fn longest_with(rows: &[u64], m: usize, j: usize, longest: u64) -> u64
+    requires { ⌜ (j < maxTasks) × (fieldCount * suc j ≤ length (now rows)) ⌝ }
+    ensures { λ r. ⌜ r ≡ pick (eqb (m / 2 ^ j % 2) 0) (larger (rowIn (now (rows .entry)) j .hold) longest) longest ⌝ }
+{
+    if (m >> j) % 2 == 0 {
+        return larger(hold_at(rows, j), longest);
+    }
+    longest
+}
+
+// The blocking time of the rows outside set m, which are those below it.
+fn blocking_outside(rows: &[u64], n: usize, m: usize) -> u64
+    requires { ⌜ Lent n (now rows) ⌝ }
+    ensures { λ r. ⌜ r ≡ blocking (others m (rowsOf n (now (rows .entry)))) ⌝ }
+{
+    let mut longest = 0;
+    let mut j = n;
+    while 0 < j {
+        j -= 1;
+        longest = longest_with(rows, m, j, longest);
+    }
+    blocking_time(longest)
+}
+
+// Whether row i of set m is stable as its lowest row, under the rest of the set, over rows that block it for some ticks.
+fn stable_under(
+    rows: &[u64],
+    n: usize,
+    m: usize,
+    i: usize,
+    blocked: u64,
+    columns: &mut [u64],
+) -> bool
+    requires { ⌜ Lent n (now rows) × (i < n) × (m / 2 ^ i % 2 ≡ 1) × (3 * n ≤ length (now columns))
+        × (blocked ≡ blocking (others m (rowsOf n (now rows)))) ⌝ }
     ensures { λ r. ⌜ r ≡ fits stable (rowsOf n (now (rows .entry))) m i ⌝ }
 {
     let count = gather(rows, n, m - power(i), columns);
     let row = row_at(rows, i);
-    let figures = figures_under(row, no_blocking(), columns, n, count);
+    let figures = figures_under(row, blocked, columns, n, count);
     figures.stable
 }
 
 // Whether row i may go lowest in set m: it is in the set and stable there, and the rest isn't known to have no order.
-fn may_go(rows: &[u64], n: usize, m: usize, i: usize, sets: &[u8], columns: &mut [u64]) -> bool
-    requires { ⌜ Searching n (now rows) m (now sets) × (i < n) × (3 * n ≤ length (now columns)) ⌝ }
+fn may_go(
+    rows: &[u64],
+    n: usize,
+    m: usize,
+    i: usize,
+    blocked: u64,
+    sets: &[u8],
+    columns: &mut [u64],
+) -> bool
+    requires { ⌜ Searching n (now rows) m (now sets) × (i < n) × (3 * n ≤ length (now columns))
+        × (blocked ≡ blocking (others m (rowsOf n (now rows)))) ⌝ }
     ensures { λ r. ⌜ MayGo (rowsOf n (now (rows .entry))) m i r ⌝ }
 {
     if (m >> i) % 2 == 0 {
@@ -92,7 +139,7 @@ fn may_go(rows: &[u64], n: usize, m: usize, i: usize, sets: &[u8], columns: &mut
     if sets[m - power(i)] == NO_ORDER {
         return false;
     }
-    stable_under(rows, n, m, i, columns)
+    stable_under(rows, n, m, i, blocked, columns)
 }
 
 // The first row of the table that goes lowest in set m.
@@ -100,9 +147,10 @@ fn lowest(rows: &[u64], n: usize, m: usize, sets: &mut [u8], columns: &mut [u64]
     requires { ⌜ Searching n (now rows) m (now sets) × (1 ≤ m) × (3 * n ≤ length (now columns)) ⌝ }
     ensures { λ r. ⌜ LowestFound (rowsOf n (now (rows .entry))) m (now (sets .exit)) r ⌝ }
 {
+    let blocked = blocking_outside(rows, n, m);
     let mut i: usize = 0;
     while i < n {
-        if may_go(rows, n, m, i, sets, columns) {
+        if may_go(rows, n, m, i, blocked, sets, columns) {
             if settled(rows, n, m - power(i), sets, columns) {
                 return i as u8;
             }

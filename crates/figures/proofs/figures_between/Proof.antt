@@ -1,6 +1,6 @@
 -- In the limits of a table, the columns hold the rows above in their sequence, and the figures found in them are those
 -- of the row between these rows.
-use mathlib.Core.Path.{ap, _∙_, subst}
+use mathlib.Core.Path.{_≡_, ap, _∙_, subst}
 use mathlib.Core.List.{List}
 use Prim.Native.Nat.{_<_}
 use native.Mathlib.Omega.{arith}
@@ -9,7 +9,8 @@ use Rattle.rows.specs.Rows.{maxTasks}
 use Rattle.rows.specs.declared.Row.{Row}
 use Rattle.rows.specs.inside.Numbers.{rowsOf}
 use Rattle.rows.proofs.RowNumbers.{rows-length, rows-front}
-use Rattle.responses.specs.Figures.{figuresUnder}
+use Rattle.responses.specs.Figures.{blocking, figuresUnder}
+use Rattle.responses.proofs.Blocking.{blocking-max}
 use Rattle.analysis.specs.inside.Columns.{Filled}
 use Rattle.figures.proofs.Between.{InLimits, in-limits, answered, unanswered, in-sequence}
 use Rattle.figures.proofs.figures_between.Statement.{statement}
@@ -54,6 +55,9 @@ known c =
 few : (c : tie.Else1) → c .before .before .args .n < maxTasks
 few c = let a = c .before .before .args in omega (arith, known c .few, rows-length (a .n) (a .above .now))
 
+few-below : (c : tie.Else1) → c .before .before .args .m < maxTasks
+few-below c = let a = c .before .before .args in omega (arith, known c .few, rows-length (a .m) (a .below .now))
+
 fill-columns-requires : tie.Need-fill-columns-requires
 fill-columns-requires c κs =
     let p = c .before .before .before in
@@ -61,12 +65,36 @@ fill-columns-requires c κs =
     record {
       few = omega (arith, short);
       room = omega (arith, short);
-      positions-held = omega (arith, short);
-      rows-held = λ j h. omega (arith, short, h, p .positions .ensures j (omega (arith, short, h)));
+      held = record {
+        positions-held = omega (arith, short);
+        rows-held = λ j h. omega (arith, short, h, p .positions .ensures j (omega (arith, short, h)));
+      };
     }
 
-no-blocking-requires : tie.Need-no-blocking-requires
-no-blocking-requires c κs = search needs
+slice-aggregate-blocking-from : tie.Need-slice-aggregate-blocking-from
+slice-aggregate-blocking-from c = search needs
+
+blocking-from-requires : tie.Need-blocking-from-requires
+blocking-from-requires c κs =
+    let p = c .before .before .before .before .before .before .before in
+    let short = few-below (p .before) in
+    (
+      omega arith,
+      record {
+        positions-held = omega (arith, short);
+        rows-held = λ j h. omega (arith, short, h, p .positions .ensures j (omega (arith, short, h)));
+      },
+    )
+
+-- the rows below block for so long
+blocks : (c : tie.After-blocking-from) → let s = c .before .before .before .before .before .before .before .before .before .before .before in c .blocking-from .result ≡ blocking (lower s)
+blocks c =
+    let p = c .before .before .before .before .before .before .before .before in
+    let a = p .before .before .before .args in
+    let short = few-below (p .before) in
+    let same = in-sequence (a .below .now) (p .positions .result) (a .m) (omega (arith, short))
+    (λ i h. p .positions .ensures i (omega (arith, short, h))) in
+    c .blocking-from .ensures ∙ ap blocking same
 
 slice-aggregate-figures-under : tie.Need-slice-aggregate-figures-under
 slice-aggregate-figures-under c = search needs
@@ -85,28 +113,27 @@ filled c =
 
 figures-under-requires : tie.Need-figures-under-requires
 figures-under-requires c κs =
-    let q = c .before .before .before .before .before .before .before .before in
+    let q = c .before .before .before .before .before .before .before .before .before .before in
     let s = q .before .before in
-    let blocks = c .before .no-blocking .ensures in
+    let is = blocks (c .before) in
     record {
       in-range = known q .in-range;
       few = omega (arith, few q);
       rows = upper s;
-      filled = filled (c .before .before .before);
+      filled = filled (c .before .before .before .before .before);
       times-in-range = known q .times-in-range;
       below = lower s;
-      blocked-is = blocks .blocked-is (lower s);
-      blocked-max = blocks .blocked-max;
+      blocked-is = is;
+      blocked-max = omega (arith, is, blocking-max (lower s) (known q .below-in-range));
     }
 
 returns-2 : tie.Need-returns-2
 returns-2 c =
-    let q = c .before .before .before .before .before .before .before .before .before in
+    let q = c .before .before .before .before .before .before .before .before .before .before .before in
     let s = q .before .before in
     let a = s .args in
     let test = q .before .in-limits in
-    let found = c .figures-under .ensures (upper s) (lower s) (filled (c .before .before .before .before))
-    (c .before .before .no-blocking .ensures .blocked-is (lower s)) in
+    let found = c .figures-under .ensures (upper s) (lower s) (filled (c .before .before .before .before .before .before)) (blocks (c .before .before)) in
     let all = rows-front (a .n) (a .n) (a .above .now) (omega arith) in
     found
     ∙ ap (λ rows. figuresUnder (a .row) rows (lower s)) all
@@ -123,7 +150,8 @@ figures-between-spec =
     slice-aggregate-fill-columns
     slice-aggregate-fill-columns-2
     fill-columns-requires
-    no-blocking-requires
+    slice-aggregate-blocking-from
+    blocking-from-requires
     slice-aggregate-figures-under
     figures-under-requires
     returns-2)

@@ -26,6 +26,7 @@ use Rattle.search.proofs.+lowest+settled.Lts-lowest as lowest-lts
 use Rattle.search.proofs.settled.Reads as settled
 use Rattle.search.proofs.settled.Kinds as settled-kinds
 use Rattle.search.proofs.+lowest+settled.Lts-settled as settled-lts
+use Rattle.search.proofs.blocking_outside.Reads as blocking-outside-reads
 use Rattle.search.proofs.may_go.Reads as may-go-reads
 use Rattle.search.proofs.power.Reads as power-reads
 use Rattle.search.proofs.+lowest+settled.{statement}
@@ -39,7 +40,7 @@ abbrev μ-settled : Measures 3 settled-kinds.ps ℕ
 μ-settled κs a = 2 * a .1 .1 .0 + 1
 
 abbrev lowest-Inv-loop : lowest-lts.InvT-loop
-lowest-Inv-loop rows n m sets₀ columns₀ i₀ sets columns i =
+lowest-Inv-loop rows n m sets₀ columns₀ blocked i₀ sets columns i =
     (i ≤ n)
     × (orderAt stable (rowsOf n rows) m ≡ scan theOrder stable by-sets (rowsOf n rows) m i)
     × (length sets ≡ length sets₀)
@@ -47,7 +48,7 @@ lowest-Inv-loop rows n m sets₀ columns₀ i₀ sets columns i =
     × (length columns ≡ length columns₀)
 
 abbrev lowest-μ-loop : lowest-lts.MeasureT-loop
-lowest-μ-loop rows n m sets₀ columns₀ i₀ sets columns i = n - i
+lowest-μ-loop rows n m sets₀ columns₀ blocked i₀ sets columns i = n - i
 
 module _ (t : ℕ) where
   abbrev lowest-at : In 3 lowest-kinds.ps
@@ -64,6 +65,8 @@ module _ (t : ℕ) where
 
   abbrev lowest-calls : lowest-lts.Claims
   lowest-calls = (
+    blocking-outside-reads.Asked,
+    blocking-outside-reads.Learnt,
     may-go-reads.Asked,
     may-go-reads.Learnt,
     power-reads.Asked,
@@ -76,9 +79,13 @@ module _ (t : ℕ) where
   settled-calls = (lowest-below, lowest.Post)
 
   -- ---- lowest
+  lowest-blocking-outside-requires :
+      lowest-lts.Need-blocking-outside-requires lowest-calls lowest-at lowest.Post lowest-Inv-loop lowest-μ-loop
+  lowest-blocking-outside-requires c κs = c .before .before .before .pre .1 .0 .lent
+
   lowest-loop-holds : lowest-lts.Need-loop-holds lowest-calls lowest-at lowest.Post lowest-Inv-loop lowest-μ-loop
   lowest-loop-holds c =
-      let s = c .before .before .before in
+      let s = c .before .before .before .before in
       let a = s .args in
       let p = s .pre .1 in (
         omega arith,
@@ -92,23 +99,25 @@ module _ (t : ℕ) where
   lowest-may-go-requires :
       lowest-lts.Need-may-go-requires lowest-calls lowest-at lowest.Post lowest-Inv-loop lowest-μ-loop
   lowest-may-go-requires c κs =
-      let s = c .before .before .before .before .before .before .before in
+      let s = c .before .before .before .before .before .before .before .before in
       let p = s .pre .1 .0 in
       let x = c .before .before .before .loop in (
         record { lent = p .lent; set = p .set; recorded = x .inv .3 },
         c .before .before .loop-test .taken,
         omega (arith, s .pre .1 .2, x .inv .4),
+        c .before .before .before .before .blocking-outside .ensures,
       )
 
   lowest-power-requires :
       lowest-lts.Need-power-requires lowest-calls lowest-at lowest.Post lowest-Inv-loop lowest-μ-loop
   lowest-power-requires c κs =
-      let s = c .before .before .before .before .before .before .before .before .before .before .before in
+      let s = c .before .before .before .before .before .before .before .before .before .before .before .before in
       omega (arith, c .before .before .before .before .before .before .loop-test .taken, s .pre .1 .0 .lent .few)
 
   lowest-sub-settled : lowest-lts.Need-sub-settled lowest-calls lowest-at lowest.Post lowest-Inv-loop lowest-μ-loop
   lowest-sub-settled c =
-      let a = c .before .before .before .before .before .before .before .before .before .before .before .before .args in
+      let mid = c .before .before .before .before .before .before in
+      let a = mid .before .before .before .before .before .before .before .args in
       let bit = c .before .before .before .before .may-go .ensures .in-set (c .before .if1 .taken) in
       let i = c .before .before .before .before .before .before .before .before .loop .i in
       omega (arith, c .power .ensures, bit-le (a .m) i bit)
@@ -117,7 +126,7 @@ module _ (t : ℕ) where
       lowest-lts.Need-settled-requires lowest-calls lowest-at lowest.Post lowest-Inv-loop lowest-μ-loop
   lowest-settled-requires c κs =
       let mid = c .before .before .before .before .before .before .before in
-      let s = mid .before .before .before .before .before .before .before in
+      let s = mid .before .before .before .before .before .before .before .before in
       let a = s .args in
       let p = s .pre .1 .0 in
       let x = c .before .before .before .before .before .before .before .before .before .before .loop in
@@ -129,7 +138,7 @@ module _ (t : ℕ) where
         omega (arith, e, b, q, s .pre .0),
         (
           record { lent = p .lent; set = omega (arith, p .set); recorded = x .inv .3 },
-          omega (arith, s .pre .1 .2, may .kept .1 .1 .1 .1 .1 .0, x .inv .4),
+          omega (arith, s .pre .1 .2, may .kept .1 .1 .1 .1 .1 .1 .0, x .inv .4),
         ),
       )
 
@@ -137,7 +146,7 @@ module _ (t : ℕ) where
   lowest-cast-result c =
       let mid = c .before .before .before .before .before .before .before in
       let turn = mid .before .before .before .before .before .before .before .before in
-      let lent = turn .before .before .before .before .before .pre .1 .0 .lent in
+      let lent = turn .before .before .before .before .before .before .pre .1 .0 .lent in
       record { fits = omega (arith, lent .few, turn .loop-test .taken) }
 
   lowest-same-length : lowest-lts.Need-same-length lowest-calls lowest-at lowest.Post lowest-Inv-loop lowest-μ-loop
@@ -152,14 +161,14 @@ module _ (t : ℕ) where
       let s = c .before .before .before .before .before in
       let may = s .before .before .before .before .before .before .before in
       let x = may .before .before .before .before .loop in
-      s .settled .kept .1 .1 .1 .1 .0 ∙ (may .may-go .kept .1 .1 .1 .1 .1 .0 ∙ x .inv .4)
+      s .settled .kept .1 .1 .1 .1 .0 ∙ (may .may-go .kept .1 .1 .1 .1 .1 .1 .0 ∙ x .inv .4)
 
   -- the first row that goes
   lowest-returns : lowest-lts.Need-returns lowest-calls lowest-at lowest.Post lowest-Inv-loop lowest-μ-loop
   lowest-returns c =
       let mid = c .before .before .before .before .before .before .before in
       let turn = mid .before .before .before .before .before .before .before .before in
-      let s = turn .before .before .before .before .before in
+      let s = turn .before .before .before .before .before .before in
       let a = s .args in
       let x = turn .before .loop in
       let table = rowsOf (a .n) (a .rows .now) in
@@ -182,7 +191,7 @@ module _ (t : ℕ) where
   lowest-add-i : lowest-lts.Need-add-i lowest-calls lowest-at lowest.Post lowest-Inv-loop lowest-μ-loop
   lowest-add-i c =
       let turn = c .before .before .before .before .before .before in
-      let lent = turn .before .before .before .before .before .pre .1 .0 .lent in
+      let lent = turn .before .before .before .before .before .before .pre .1 .0 .lent in
       record { fits = omega (arith, lent .few, turn .loop-test .taken) }
 
   lowest-loop-less : lowest-lts.Need-loop-less lowest-calls lowest-at lowest.Post lowest-Inv-loop lowest-μ-loop
@@ -191,13 +200,13 @@ module _ (t : ℕ) where
 
   lowest-loop-again : lowest-lts.Need-loop-again lowest-calls lowest-at lowest.Post lowest-Inv-loop lowest-μ-loop
   lowest-loop-again c =
-      let s = c .before .before .before .before .before .before .before .before .before .before .before in
+      let s = c .before .before .before .before .before .before .before .before .before .before .before .before in
       let a = s .args in
       let x = c .before .before .before .before .before .before .before .loop in
       let table = rowsOf (a .n) (a .rows .now) in
       let test = c .before .before .before .before .before .before .loop-test .taken in
       let may = c .before .before .before .may-go .ensures in
-      let long = c .before .before .before .may-go .kept .1 .1 .1 .1 .1 .0 ∙ x .inv .4 in
+      let long = c .before .before .before .may-go .kept .1 .1 .1 .1 .1 .1 .0 ∙ x .inv .4 in
       let row = a-row (s .pre .1 .0 .lent) (x .i) test in
       let next : goes stable table (a .m) (x .i) ≡ false
       → orderAt stable table (a .m) ≡ scan theOrder stable by-sets table (a .m) (suc (x .i)) =
@@ -233,7 +242,7 @@ module _ (t : ℕ) where
   -- no row goes
   lowest-returns-2 : lowest-lts.Need-returns-2 lowest-calls lowest-at lowest.Post lowest-Inv-loop lowest-μ-loop
   lowest-returns-2 c =
-      let s = c .before .before .before .before .before in
+      let s = c .before .before .before .before .before .before in
       let a = s .args in
       let table = rowsOf (a .n) (a .rows .now) in
       let x = c .before .loop in
@@ -308,6 +317,7 @@ pub +lowest+settled-spec : {M : Type 1} → statement M
 +lowest+settled-spec =
     close μ-lowest μ-settled
     (λ t. lowest-lts.spec (lowest-calls t) (lowest-at t) lowest.Post lowest-Inv-loop lowest-μ-loop
+    (lowest-blocking-outside-requires t)
     (lowest-loop-holds t)
     (lowest-may-go-requires t)
     (lowest-power-requires t)

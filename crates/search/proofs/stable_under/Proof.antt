@@ -13,12 +13,13 @@ use Rattle.rows.proofs.Limits.{all-times}
 use Rattle.rows.proofs.RowNumbers.{rows-at}
 use Rattle.responses.specs.declared.Figures.{Figures}
 use Rattle.responses.specs.Figures.{isStable}
+use Rattle.responses.proofs.Blocking.{blocking-max}
 use Rattle.responses.proofs.Responses.{stable-is}
 use Rattle.search.specs.inside.Sets.{members, others}
 use Rattle.search.specs.inside.Search.{Gathered}
 use Rattle.search.proofs.Sets.{bit-le}
 use Rattle.search.proofs.LentRows.{row-held, ranged}
-use Rattle.search.proofs.Gathering.{members-pass}
+use Rattle.search.proofs.Gathering.{some-pass}
 use Rattle.search.proofs.stable_under.Statement.{statement}
 use Rattle.search.proofs.stable_under.Tie as tie
 
@@ -52,25 +53,22 @@ row-at-requires c κs =
     let s = c .before .before .before .before .before .before .before in
     (row-held (s .pre .0) (s .args .i) (s .pre .1), ranged (s .pre .0) (s .args .i) (s .pre .1))
 
-no-blocking-requires : tie.Need-no-blocking-requires
-no-blocking-requires c κs = search needs
-
 figures-under-requires : tie.Need-figures-under-requires
 figures-under-requires c κs =
-    let s = c .before .before .before .before .before .before .before .before .before .before in
-    let read = c .before .before in
+    let s = c .before .before .before .before .before .before .before .before .before in
+    let read = c .before in
     let above = members (rest s) (table s) in
     let below = others (s .args .m) (table s) in
-    let blocks = c .before .no-blocking .ensures in
     record {
       in-range = ap inRange (read .row-at .ensures) ∙ ranged (s .pre .0) (s .args .i) (s .pre .1);
       few = omega (arith, s .pre .0 .few);
       rows = above;
-      filled = found (c .before .before .before .before .before) .filled;
-      times-in-range = all-times above (members-pass inRange (rest s) (table s) (s .pre .0 .table .in-range));
+      filled = found (c .before .before .before .before) .filled;
+      times-in-range = all-times above (some-pass inRange 1 (rest s) (table s) (s .pre .0 .table .in-range));
       below = below;
-      blocked-is = blocks .blocked-is below;
-      blocked-max = blocks .blocked-max;
+      blocked-is = s .pre .4;
+      blocked-max = omega (arith, s .pre .4, blocking-max below (some-pass inRange 0 (s .args .m) (table s)
+          (s .pre .0 .table .in-range)));
     }
 
 same-length : tie.Need-same-length
@@ -78,14 +76,13 @@ same-length c = search needs
 
 returns : tie.Need-returns
 returns c =
-    let s = c .before .before .before .before .before .before .before .before .before .before .before in
-    let g = found (c .before .before .before .before .before .before) in
-    let count = c .before .before .before .before .before .before .gather .result in
-    let read = c .before .before .before in
+    let s = c .before .before .before .before .before .before .before .before .before .before in
+    let g = found (c .before .before .before .before .before) in
+    let count = c .before .before .before .before .before .gather .result in
+    let read = c .before .before in
     let above = members (rest s) (table s) in
     let below = others (s .args .m) (table s) in
-    let blocks = c .before .before .no-blocking .ensures in
-    let figures = c .figures-under .ensures above below (g .filled) (blocks .blocked-is below) in
+    let figures = c .figures-under .ensures above below (g .filled) (s .pre .4) in
     ap (λ (f : Figures). f .stable) figures
     ∙ stable-is (read .row-at .result) (take count above) below
     ∙ ap (λ (rs : List Row). isStable (read .row-at .result) rs below)
@@ -101,7 +98,6 @@ stable-under-spec =
     sub-gather
     gather-requires
     row-at-requires
-    no-blocking-requires
     figures-under-requires
     same-length
     returns)
