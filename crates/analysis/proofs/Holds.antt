@@ -1,7 +1,7 @@
 -- The longest hold of the rows at the positions from an index on: of none it is 0, and one row more counts with the rest.
-use mathlib.Core.Path.{_≡_, ap, _∙_}
-use mathlib.Core.List.{List}
-use Prim.Native.Nat.{ℕ, suc, _≤_, _<_}
+use mathlib.Core.Path.{_≡_, refl, ap, _∙_}
+use mathlib.Core.List.{List, [], _∷_}
+use Prim.Native.Nat.{ℕ, zero, suc, _≤_, _<_}
 use native.Mathlib.Omega.{arith}
 use lib.ListN.{length, getD, take, drop, drop-of-length-le, length-take}
 use lib.Seq.{drop-cons, length-take-le, getD-take}
@@ -24,3 +24,9 @@ module _ (ns ps : List ℕ) (n : ℕ) where
       ap (λ (qs : List ℕ). longestHold (rowsIn ns qs))
       (drop-cons (take n ps) k 0 (omega (arith, length-take-le n ps h)))
       ∙ ap (λ (p : ℕ). larger (rowIn ns p .hold) (longestFrom (suc k))) (getD-take n ps k 0 l)
+
+-- the rows from an index on are those at the positions from there on
+pub rows-rest : (ns : List ℕ) (k : ℕ) (ps : List ℕ) → drop k (rowsIn ns ps) ≡ rowsIn ns (drop k ps)
+rows-rest ns zero ps = refl
+rows-rest ns (suc k) [] = refl
+rows-rest ns (suc k) (p ∷ ps) = rows-rest ns k ps

@@ -14,11 +14,12 @@ use Rattle.text.specs.inside.Puts.{Put}
 use Rattle.text.proofs.Puts.{begins, next, ends}
 use Rattle.rows.specs.Rows.{inRange, allRows, noRow, rowAt}
 use Rattle.rows.specs.declared.Row.{Row}
-use Rattle.rows.proofs.Limits.{at-passes, front-passes, all-times}
+use Rattle.rows.proofs.Limits.{at-passes, front-passes, rest-passes, all-times}
+use Rattle.responses.proofs.Blocking.{blocking-max}
 use Rattle.responses.specs.declared.Figures.{Figures}
-use Rattle.responses.specs.Figures.{rowsAbove, rowsBelow, isLate, latest, earliest, margin}
+use Rattle.responses.specs.Figures.{rowsAbove, rowsBelow, blocking, isLate, latest, earliest, margin}
 use Rattle.responses.specs.Figures.{lateFigures, figuresAt, figuresUnder}
-use Rattle.analysis.specs.inside.Columns.{columnsMax, Filled, UnderColumns, FiguresIn, BlockingOfAny}
+use Rattle.analysis.specs.inside.Columns.{columnsMax, Filled, UnderColumns, FiguresIn}
 use Rattle.analysis.proofs.Columns.{filled-front}
 use Rattle.plans.specs.declared.Entry.{Entry}
 use Rattle.plans.specs.Entries.{entry, entries, noEntry, lateFrom, firstLate}
@@ -91,7 +92,7 @@ module _ {order : List Row} {n at : ℕ} {o : List ℕ} where
       -- the row of the turn, as the code fetched it
       module _ (r : Row) (r-is : r ≡ here) where
         -- it may be asked for its figures under the columns
-        pub under-columns : {columns : List ℕ} {b : ℕ} → Filled order n n columns → BlockingOfAny b
+        pub under-columns : {columns : List ℕ} {b : ℕ} → Filled order n n columns → b ≡ blocking (rowsBelow order i)
             → UnderColumns r b columns n i
         under-columns f b = record {
           in-range = ap inRange r-is ∙ here-in-range;
@@ -100,14 +101,16 @@ module _ {order : List Row} {n at : ℕ} {o : List ℕ} where
           filled = filled-front f i (omega arith);
           times-in-range = all-times order (t .in-range);
           below = rowsBelow order i;
-          blocked-is = b .blocked-is (rowsBelow order i);
-          blocked-max = b .blocked-max;
+          blocked-is = b;
+          blocked-max =
+              omega (arith, b, blocking-max (rowsBelow order i) (rest-passes inRange (suc i) order (t .in-range)));
         }
 
-        pub figures-found : {columns : List ℕ} {b : ℕ} (x : Figures) → Filled order n n columns → BlockingOfAny b
-            → FiguresIn r b columns n i x → x ≡ figuresUnder here (rowsAbove order i) (rowsBelow order i)
+        pub figures-found : {columns : List ℕ} {b : ℕ} (x : Figures) → Filled order n n columns
+            → b ≡ blocking (rowsBelow order i) → FiguresIn r b columns n i x
+            → x ≡ figuresUnder here (rowsAbove order i) (rowsBelow order i)
         figures-found x f b is =
-            is order (rowsBelow order i) (filled-front f i (omega arith)) (b .blocked-is (rowsBelow order i))
+            is order (rowsBelow order i) (filled-front f i (omega arith)) b
             ∙ ap (λ (q : Row). figuresUnder q (rowsAbove order i) (rowsBelow order i)) r-is
 
         module _ (x : Figures) (is : x ≡ figuresUnder here (rowsAbove order i) (rowsBelow order i)) where

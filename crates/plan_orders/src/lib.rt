@@ -10,9 +10,9 @@ ghost use Rattle.plans.specs.Plans.{rankRoom, roomFor, planRoom, mostRanks};
 ghost use Rattle.plans.specs.Outcomes.{ifInTime, Written};
 ghost use Rattle.plans.specs.inside.Prints.{toPrint};
 ghost use Rattle.plan_orders.specs.inside.Ranks.{Ordered, PutsRanks, PutsPlan, givenPlan};
+use analysis::blocking_from;
 use analysis::figures_under;
 use analysis::fill_columns;
-use analysis::no_blocking;
 use plan_lines::put_head;
 use plan_lines::put_rank;
 use plan_lines::put_refusal;
@@ -65,7 +65,8 @@ fn put_ranks(
     let mut i = 0;
     while i < n {
         let row = row_at(rows, positions[i]);
-        let figures = figures_under(row, no_blocking(), columns, n, i);
+        let blocked = blocking_from(rows, positions, i + 1, n);
+        let figures = figures_under(row, blocked, columns, n, i);
         if figures.late {
             let rank = i as u32 + 1;
             return RanksPut { late: rank, end };

@@ -156,15 +156,15 @@ entry-limits r above below hr ha l =
     let limit = limits r hr in
     let f = figured r above below (in-range-times r hr) (all-times above ha) in
     let w = f .latest-fixed l in
-    let e = f .earliest-fixed l in
+    let e : earliest r above below ≤ latest r above below = omega (arith, f .jitter-is l) in
     let most : latest r above below ≤ maxTicks = omega (arith, w .2, limit .period .le-high) in
     let steep = mul-le-mul {n₁ = r .alpha} {m₁ = jitter r above below} {n₂ = maxAlpha} {m₂ = maxTicks}
     (limit .alpha .le-high) (omega arith) in
     record {
       task-in = limit .task .le-high;
-      best-in = omega (arith, e .2);
+      best-in = omega (arith, e);
       worst-in = most;
       jitter-in = omega arith;
       margin-in =
-          difference-limit (r .beta) (spent r above below) maxBeta (limit .beta .le-high) (omega (arith, e .2));
+          difference-limit (r .beta) (spent r above below) maxBeta (limit .beta .le-high) (omega (arith, e));
     }

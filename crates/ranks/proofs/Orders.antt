@@ -46,8 +46,7 @@ module _ {ns : List ℕ} {n : ℕ} {order : Order} (t : Tasked ns n order) (ps q
   pub ordered : Ordered ns qs n
   ordered = record {
     few = omega (arith, t .few);
-    positions-held = room;
-    rows-held = λ j h. omega (arith, spot j h, t .held);
+    held = record { positions-held = room; rows-held = λ j h. omega (arith, spot j h, t .held) };
     in-range =
         ap (allRows inRange) (rows-in n ns (take n qs) below)
         ∙ at-all-pass inRange (rowsOf n ns) (take n qs)

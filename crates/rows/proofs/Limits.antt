@@ -5,7 +5,7 @@ use mathlib.Core.List.{List, [], _∷_, _++_}
 use Prim.Native.Nat.{ℕ, zero, suc, _≤_, _<_}
 use native.Mathlib.Omega.{arith}
 use lib.Dec.{leb}
-use lib.ListN.{length, getD, take}
+use lib.ListN.{length, getD, take, drop}
 use borrow.Author.Tests.{leb-true, le-leb}
 use Rattle.basics.specs.Basics.{within}
 use Rattle.basics.proofs.Tests.{and-left, and-right, and-both, Within, within-true}
@@ -147,3 +147,8 @@ front-passes f zero rs h = refl
 front-passes f (suc n) [] h = refl
 front-passes f (suc n) (r ∷ rs) h =
     and-both (f r) (allRows f (take n rs)) (head-passes f r rs h) (front-passes f n rs (tail-passes f r rs h))
+
+pub rest-passes : (f : Row → Bool) (n : ℕ) (rs : List Row) → allRows f rs ≡ true → allRows f (drop n rs) ≡ true
+rest-passes f zero rs h = h
+rest-passes f (suc n) [] h = refl
+rest-passes f (suc n) (r ∷ rs) h = rest-passes f n rs (tail-passes f r rs h)

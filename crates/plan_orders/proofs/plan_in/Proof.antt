@@ -16,7 +16,7 @@ abbrev order : tie.Start → List Row
 order s = rowsIn (s .args .rows .now) (take (s .args .n) (s .args .positions .now))
 
 counted : (s : tie.Start) → length (order s) ≡ s .args .n
-counted s = rows-long (s .args .rows .now) (s .args .positions .now) (s .args .n) (s .pre .0 .positions-held)
+counted s = rows-long (s .args .rows .now) (s .args .positions .now) (s .args .n) (s .pre .0 .held .positions-held)
 
 put-plan-requires : tie.Need-put-plan-requires
 put-plan-requires c κs = search needs

@@ -48,7 +48,7 @@ returns c =
     let a = s .args in
     let head = c .before .before .before .before .before .before .before .put-head in
     plan-there (a .board) (a .n) (order s) (omega arith) (s .pre .0 .few)
-    (rows-long (a .rows .now) (a .positions .now) (a .n) (s .pre .0 .positions-held))
+    (rows-long (a .rows .now) (a .positions .now) (a .n) (s .pre .0 .held .positions-held))
     (s .pre .0 .in-range) (s .pre .1 .0) (head .ensures) (c .before .before .put-ranks .ensures)
 
 pub put-plan-spec : {M : Type 1} → statement M

@@ -1,11 +1,11 @@
 -- The invariant: the ranks put and the late ranks so far are those of the rows passed (`Turning`).
 use mathlib.Core.Path.{_≡_, sym, ap, _∙_}
 use mathlib.Core.List.{List}
-use Prim.Native.Nat.{_+_, _-_}
+use Prim.Native.Nat.{ℕ, suc, _+_, _-_}
 use native.Mathlib.Omega.{arith}
 use native.Mathlib.Numerals.{add-one}
 use borrow.Author.Needs.{needs}
-use lib.ListN.{take}
+use lib.ListN.{take, drop}
 use lib.IntN.{ℤ}
 use mir.Syntax.{w64}
 use mir.Val.{toZ, ofZ}
@@ -13,8 +13,9 @@ use mir.Facts.{toZ-ofZ}
 use Rattle.rows.specs.Rows.{inRange, rowAt}
 use Rattle.rows.specs.declared.Row.{Row}
 use Rattle.rows.specs.inside.Numbers.{rowsIn}
-use Rattle.responses.specs.Figures.{rowsAbove, rowsBelow, figuresUnder}
+use Rattle.responses.specs.Figures.{rowsAbove, rowsBelow, blocking, figuresUnder}
 use Rattle.analysis.proofs.Filling.{rows-long, row-is}
+use Rattle.analysis.proofs.Holds.{rows-rest}
 use Rattle.plans.specs.declared.Entry.{Entry}
 use Rattle.plan_orders.proofs.Turns.{Turning, starts, here-in-range, under-columns, figures-found, found-late}
 use Rattle.plan_orders.proofs.Turns.{rank-fits, turned, finished}
@@ -48,8 +49,21 @@ fetched c =
     let k = fetching c in
     let s = start k in
     c .row-at .ensures
-    ∙ sym (row-is (s .args .rows .now) (s .args .positions .now) (s .args .n) (s .pre .0 .positions-held)
+    ∙ sym (row-is (s .args .rows .now) (s .args .positions .now) (s .args .n) (s .pre .0 .held .positions-held)
     (k .before .loop .i) (k .loop-test .taken))
+
+-- the rows below it block it for so long
+blocked : (c : tie.After-blocking-from Inv-loop μ-loop)
+    → let k = fetching (c .before) in
+    c .blocking-from .result ≡ blocking (rowsBelow (order (start k)) (k .before .loop .i))
+blocked c =
+    let k = fetching (c .before) in
+    let s = start k in
+    let i = k .before .loop .i in
+    c .blocking-from .ensures
+    ∙ ap (λ (j : ℕ). blocking (rowsIn (s .args .rows .now) (drop j (take (s .args .n) (s .args .positions .now)))))
+    (add-one i)
+    ∙ ap blocking (sym (rows-rest (s .args .rows .now) (suc i) (take (s .args .n) (s .args .positions .now))))
 
 -- its figures are those of the order's row between the others
 figured : (c : tie.After-figures-under Inv-loop μ-loop)
@@ -59,7 +73,7 @@ figured : (c : tie.After-figures-under Inv-loop μ-loop)
 figured c =
     let k = turn c in
     figures-found (k .before .loop .inv) (k .loop-test .taken) _ (fetched (c .before .before)) _ (start k .pre .1 .0)
-    (c .before .no-blocking .ensures) (c .figures-under .ensures)
+    (blocked (c .before)) (c .figures-under .ensures)
 
 -- the entry of a turn's row, with a margin
 abbrev entry-told : tie.After-struct-told Inv-loop μ-loop → ℤ → Entry
@@ -83,7 +97,7 @@ loop-holds : tie.Need-loop-holds Inv-loop μ-loop
 loop-holds c =
     let s = c .before .before .before .before in
     starts (s .pre .0 .few)
-    (rows-long (s .args .rows .now) (s .args .positions .now) (s .args .n) (s .pre .0 .positions-held))
+    (rows-long (s .args .rows .now) (s .args .positions .now) (s .args .n) (s .pre .0 .held .positions-held))
     (s .pre .0 .in-range) (s .pre .1 .1)
 
 mul-row-at : tie.Need-mul-row-at Inv-loop μ-loop
@@ -91,26 +105,31 @@ mul-row-at c = record { fits = omega (arith, start c .pre .0 .few, c .loop-test 
 
 shared-slice-read-row-at : tie.Need-shared-slice-read-row-at Inv-loop μ-loop
 shared-slice-read-row-at c =
-    let k = c .before in omega (arith, start k .pre .0 .positions-held, k .loop-test .taken)
+    let k = c .before in omega (arith, start k .pre .0 .held .positions-held, k .loop-test .taken)
 
 row-at-requires : tie.Need-row-at-requires Inv-loop μ-loop
 row-at-requires c κs =
     let k = c .before in
     let s = start k in
     let x = k .before .loop in (
-      s .pre .0 .rows-held (x .i) (k .loop-test .taken),
-      ap inRange (sym (row-is (s .args .rows .now) (s .args .positions .now) (s .args .n) (s .pre .0 .positions-held)
+      s .pre .0 .held .rows-held (x .i) (k .loop-test .taken),
+      ap inRange (sym (row-is (s .args .rows .now) (s .args .positions .now) (s .args .n) (s .pre .0 .held .positions-held)
           (x .i) (k .loop-test .taken))) ∙ here-in-range (x .inv) (k .loop-test .taken),
     )
 
-no-blocking-requires : tie.Need-no-blocking-requires Inv-loop μ-loop
-no-blocking-requires c κs = search needs
+add-blocking-from : tie.Need-add-blocking-from Inv-loop μ-loop
+add-blocking-from c =
+    let k = fetching c in record { fits = omega (arith, start k .pre .0 .few, k .loop-test .taken) }
+
+blocking-from-requires : tie.Need-blocking-from-requires Inv-loop μ-loop
+blocking-from-requires c κs =
+    let k = fetching c in (omega (arith, k .loop-test .taken), start k .pre .0 .held)
 
 figures-under-requires : tie.Need-figures-under-requires Inv-loop μ-loop
 figures-under-requires c κs =
     let k = fetching (c .before) in
     under-columns (k .before .loop .inv) (k .loop-test .taken) _ (fetched (c .before)) (start k .pre .1 .0)
-    (c .no-blocking .ensures)
+    (blocked c)
 
 cast-rank : tie.Need-cast-rank Inv-loop μ-loop
 cast-rank c =
@@ -179,7 +198,8 @@ put-ranks-spec =
     mul-row-at
     shared-slice-read-row-at
     row-at-requires
-    no-blocking-requires
+    add-blocking-from
+    blocking-from-requires
     figures-under-requires
     cast-rank
     add-rank
