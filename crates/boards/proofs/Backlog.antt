@@ -8,9 +8,8 @@ use native.Mathlib.Omega.{arith}
 use lib.Dec.{leb}
 use borrow.Author.Tests.{leb-true, leb-false}
 use Rattle.basics.proofs.Tests.{test-of}
-use Rattle.boards.specs.Boards.{Job}
+use Rattle.boards.specs.Boards.{Job, worked}
 use Rattle.boards.proofs.Releases.{needed, needed-grows}
-use Rattle.boards.proofs.Queues.{worked}
 
 -- job k is released at `at k` and needs `need k` ticks
 module _ (at need : ℕ → ℕ) where

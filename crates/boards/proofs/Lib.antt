@@ -4,9 +4,14 @@ pub mod Releases
 pub mod Service
 pub mod Queues
 pub mod Backlog
+pub mod Stretches
 pub mod Traces
 pub mod Ranks
 pub mod Windows
+pub mod Responses
 pub mod Bounds
+pub mod Turns
+pub mod Schedules
+pub mod Document01
 pub mod Runs
 pub mod Witnesses

@@ -1,5 +1,5 @@
--- A board's queues, rank by rank: a tick adds at most one job to each queue, and works on one, the first that has a
--- job. What it finishes is the oldest job of that queue, in the job's last tick.
+-- A board's queues, rank by rank: a tick adds at most one job to each queue, and works on one. What it finishes is the
+-- oldest job of that queue, in the job's last tick.
 use mathlib.Core.Path.{_≡_, refl, sym, ap, subst, _∙_}
 use mathlib.Core.Bool.{true, false, _||_, _&&_, or-assoc, or-false}
 use mathlib.Core.List.{List, [], _∷_, _++_}
@@ -8,41 +8,18 @@ use Prim.Native.Nat.{ℕ, zero, suc, _+_, _-_, _/_, _≤_, _<_}
 use native.Mathlib.Omega.{arith}
 use native.Mathlib.Nat.{add-zero, le-of-suc-le-suc, not-suc-le-zero, suc-inj}
 use lib.Dec.{eqb, leb, eqb·suc-suc}
-use lib.ListN.{length, getD}
+use lib.ListN.{length}
 use borrow.Author.Tests.{eqb-true, eq-eqb, leb-true, le-leb}
 use Rattle.basics.specs.Basics.{pick}
 use Rattle.basics.proofs.Tests.{test-of, true-not-false, and-left, and-right}
 use Rattle.rows.specs.Rows.{rowAt}
 use Rattle.rows.specs.declared.Row.{Row}
-use Rattle.boards.specs.Boards.{Job, Done, noJobs, releases, withReleases, afterWork, finishes, isDone}
-
--- rank j's queue
-abbrev pub queueAt : List (List Job) → ℕ → List Job
-queueAt qs j = getD qs j []
+use Rattle.boards.specs.Boards.{Job, Done, noJobs, releases, withReleases, isDone}
+use Rattle.boards.specs.Boards.{highest, queueAt, ends, worked, workedAt, finishing}
 
 -- a queue with a job
 abbrev pub HasJob : List Job → Type 0
 HasJob q = (x : Job) × (others : List Job) × (q ≡ x ∷ others)
-
--- the rank whose turn it is: the first with a job; with none, the number of ranks
-abbrev pub turn : List (List Job) → ℕ
-turn [] = 0
-turn ([] ∷ qs) = suc (turn qs)
-turn ((x ∷ q) ∷ qs) = 0
-
--- a queue after a tick of its oldest job; what that tick finishes
-abbrev pub worked : List Job → List Job
-worked [] = []
-worked (x ∷ q) = pick (leb (x .needs) 1) q (record { release = x .release; needs = x .needs - 1 } ∷ q)
-
-abbrev pub workedAt : ℕ → List (List Job) → List (List Job)
-workedAt m [] = []
-workedAt zero (q ∷ qs) = worked q ∷ qs
-workedAt (suc m) (q ∷ qs) = q ∷ workedAt m qs
-
-abbrev pub finishing : ℕ → ℕ → List Job → List Done
-finishing i t [] = []
-finishing i t (x ∷ q) = pick (leb (x .needs) 1) (record { rank = i; release = x .release; finish = suc t } ∷ []) []
 
 -- a queue with what its task releases at t
 abbrev pub newJob : (ℕ → ℕ) → Row → ℕ → ℕ → Job
@@ -52,10 +29,26 @@ abbrev pub withRelease : (ℕ → ℕ) → Row → ℕ → ℕ → List Job → 
 withRelease need r offset t q = pick (releases r offset t) (q ++ (newJob need r offset t ∷ [])) q
 
 -- a queue with a job is a rank's
-pub queue-there : (qs : List (List Job)) (j : ℕ) (x : Job) (q : List Job) → queueAt qs j ≡ x ∷ q → j < length qs
-queue-there [] j x q e = absurd (let z : _≡_ {A = ℕ} 0 1 = cc in omega arith)
-queue-there (p ∷ qs) zero x q e = omega arith
-queue-there (p ∷ qs) (suc j) x q e = omega (arith, queue-there qs j x q e)
+pub queue-there : (qs : List (List Job)) (j : ℕ) → HasJob (queueAt qs j) → j < length qs
+queue-there [] j h = absurd (let z : _≡_ {A = ℕ} 0 1 = cc (h .2) in omega arith)
+queue-there (q ∷ qs) zero h = omega arith
+queue-there (q ∷ qs) (suc j) h = omega (arith, queue-there qs j h)
+
+-- a queue has one still where its oldest goes on, and where a task releases
+pub not-ended : (q : List Job) → ends q ≡ false → HasJob q
+not-ended [] e = absurd (true-not-false true refl e)
+not-ended (x ∷ q) e = (x, q, refl)
+
+pub worked-has : (q : List Job) → ends q ≡ false → HasJob (worked q)
+worked-has [] e = absurd (true-not-false true refl e)
+worked-has (x ∷ q) e = rw e (record { release = x .release; needs = x .needs - 1 }, q, refl)
+
+pub released-has : (need : ℕ → ℕ) (r : Row) (offset t : ℕ) (q : List Job) → HasJob q
+    → HasJob (withRelease need r offset t q)
+released-has need r offset t q o = elim (test-of (releases r offset t)) [
+  | inl e ↦ rw (e, o .2) (o .0, o .1 ++ (newJob need r offset t ∷ []), refl)
+  | inr e ↦ rw e o
+]
 
 -- ---- no jobs
 pub length-none : (order : List Row) → length (noJobs order) ≡ length order
@@ -86,26 +79,21 @@ module _ (offset : ℕ → ℕ) (need : ℕ → ℕ → ℕ) where
       let s : i + suc j ≡ suc i + j = omega arith in
       rw s (released-at (suc i) t rs qs j (suc-inj e) (le-of-suc-le-suc l))
 
--- ---- turns
-pub turn-after : (qs : List (List Job)) (j : ℕ) → j < turn qs → queueAt qs j ≡ []
-turn-after [] j l = refl
-turn-after ([] ∷ qs) zero l = refl
-turn-after ([] ∷ qs) (suc j) l = turn-after qs j (le-of-suc-le-suc l)
-turn-after ((x ∷ q) ∷ qs) j l = absurd (not-suc-le-zero l)
+-- ---- the highest rank with a job
+pub highest-after : (qs : List (List Job)) (j : ℕ) → j < highest qs → queueAt qs j ≡ []
+highest-after [] j l = refl
+highest-after ([] ∷ qs) zero l = refl
+highest-after ([] ∷ qs) (suc j) l = highest-after qs j (le-of-suc-le-suc l)
+highest-after ((x ∷ q) ∷ qs) j l = absurd (not-suc-le-zero l)
 
-pub turn-at : (qs : List (List Job)) (j : ℕ) → turn qs ≡ j → j < length qs → HasJob (queueAt qs j)
-turn-at [] j e l = absurd (not-suc-le-zero l)
-turn-at ([] ∷ qs) zero e l = absurd (omega arith)
-turn-at ([] ∷ qs) (suc j) e l = turn-at qs j (suc-inj e) (le-of-suc-le-suc l)
-turn-at ((x ∷ q) ∷ qs) zero e l = (x, q, refl)
-turn-at ((x ∷ q) ∷ qs) (suc j) e l = absurd (omega arith)
+pub highest-at : (qs : List (List Job)) (j : ℕ) → highest qs ≡ j → j < length qs → HasJob (queueAt qs j)
+highest-at [] j e l = absurd (not-suc-le-zero l)
+highest-at ([] ∷ qs) zero e l = absurd (omega arith)
+highest-at ([] ∷ qs) (suc j) e l = highest-at qs j (suc-inj e) (le-of-suc-le-suc l)
+highest-at ((x ∷ q) ∷ qs) zero e l = (x, q, refl)
+highest-at ((x ∷ q) ∷ qs) (suc j) e l = absurd (omega arith)
 
--- ---- work: on the queue whose turn it is, and on no other
-pub work-is : (qs : List (List Job)) → afterWork qs ≡ workedAt (turn qs) qs
-work-is [] = refl
-work-is ([] ∷ qs) = ap (λ (x : List (List Job)). [] ∷ x) (work-is qs)
-work-is ((x ∷ q) ∷ qs) = refl
-
+-- ---- a tick of rank m: work on its queue, and on no other
 pub length-worked : (m : ℕ) (qs : List (List Job)) → length (workedAt m qs) ≡ length qs
 length-worked m [] = refl
 length-worked zero (q ∷ qs) = refl
@@ -124,13 +112,6 @@ worked-other (suc m) zero (q ∷ qs) e = refl
 worked-other (suc m) (suc j) (q ∷ qs) e = worked-other m j qs (rw eqb·suc-suc at e)
 
 -- ---- finishes
-pub finishes-is : (i t : ℕ) (qs : List (List Job)) → finishes i t qs ≡ finishing (i + turn qs) t (queueAt qs (turn qs))
-finishes-is i t [] = refl
-finishes-is i t ([] ∷ qs) =
-    let s : i + suc (turn qs) ≡ suc i + turn qs = omega arith in
-    rw s (finishes-is (suc i) t qs)
-finishes-is i t ((x ∷ q) ∷ qs) = rw add-zero
-
 pub done-append : (i r f : ℕ) (xs ys : List Done) → isDone i r f (xs ++ ys) ≡ (isDone i r f xs || isDone i r f ys)
 done-append i r f [] ys = refl
 done-append i r f (x ∷ xs) ys =

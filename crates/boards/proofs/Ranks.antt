@@ -1,9 +1,10 @@
--- The rows above a rank: interference, which adds up over a list of rows, is a sum over the ranks above.
+-- The rows above a rank and those below it: interference, which adds up over a list of rows, is a sum over the ranks
+-- above; and a bound on the holds of the rows below is one on those of every lower rank.
 use mathlib.Core.Path.{_≡_, refl, ap, _∙_}
 use mathlib.Core.List.{List, [], _∷_}
-use Prim.Native.Nat.{ℕ, zero, suc, _+_, _-_, _*_, _≤_}
+use Prim.Native.Nat.{ℕ, zero, suc, _+_, _-_, _*_, _≤_, _<_}
 use native.Mathlib.Nat.{not-suc-le-zero, le-of-suc-le-suc, sub-zero}
-use lib.ListN.{length}
+use lib.ListN.{length, drop}
 use Rattle.rows.specs.Rows.{rowAt, cost}
 use Rattle.rows.specs.declared.Row.{Row}
 use Rattle.responses.specs.Interference.{ceiling}
@@ -37,3 +38,12 @@ module _ (x : ℕ) where
   pub best-above : (i : ℕ) (order : List Row) → i ≤ length order
       → bestIn x (rowsAbove order i) ≡ sumTo i (λ j. bestPart (rowAt order j))
   best-above = sum-above bestPart (bestIn x) refl (λ r rs. refl)
+
+-- ---- the rows from rank n on
+pub hold-below : (n b : ℕ) (order : List Row)
+    → ((j : ℕ) → j < length (drop n order) → rowAt (drop n order) j .hold ≤ b)
+    → (m : ℕ) → n ≤ m → m < length order → rowAt order m .hold ≤ b
+hold-below zero b order h m a l = h m l
+hold-below (suc n) b [] h m a l = absurd (not-suc-le-zero l)
+hold-below (suc n) b (r ∷ rs) h zero a l = absurd (not-suc-le-zero a)
+hold-below (suc n) b (r ∷ rs) h (suc m) a l = hold-below n b rs h m (le-of-suc-le-suc a) (le-of-suc-le-suc l)

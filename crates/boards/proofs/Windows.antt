@@ -1,19 +1,17 @@
 -- The work that a window of ticks brings. Each job needs from its row's best to its cost, so a rank's work is bounded
--- by its releases in the window, both ways; and where a cost, a blocking time and the interference of w ticks fit w
--- ticks, the work that any window of w ticks brings leaves it the blocking time.
+-- by its releases in the window, both ways; that of the ranks above by their interference.
 use mathlib.Core.List.{List}
-use Prim.Native.Nat.{ℕ, suc, _+_, _*_, _≤_, _<_}
+use Prim.Native.Nat.{ℕ, _+_, _*_, _≤_, _<_}
 use native.Mathlib.Omega.{arith}
-use native.Mathlib.Nat.{le-trans, lt-of-lt-of-le, mul-le-mul-right}
+use native.Mathlib.Nat.{le-trans, lt-of-lt-of-le}
 use lib.ListN.{length}
 use Rattle.rows.specs.Rows.{rowAt, cost}
 use Rattle.rows.specs.declared.Row.{Row}
 use Rattle.rows.proofs.Limits.{Times}
 use Rattle.responses.specs.Interference.{ceiling}
 use Rattle.responses.specs.Figures.{rowsAbove, worstIn}
-use Rattle.responses.proofs.Sums.{ceiling-under}
 use Rattle.boards.specs.Claims.{LastsInRange}
-use Rattle.boards.proofs.Sums.{Above, sum-le, sum-add, sum-last}
+use Rattle.boards.proofs.Sums.{Above, sum-le, sum-add}
 use Rattle.boards.proofs.Releases.{released-most, released-least, needed-most, needed-least, needed-grows}
 use Rattle.boards.proofs.Service.{workAbove}
 use Rattle.boards.proofs.Traces.{releasedOf, workOf}
@@ -56,14 +54,3 @@ module _ (order : List Row) (offset : ℕ → ℕ) (need : ℕ → ℕ → ℕ)
       let each : Above i (λ j. work j (s + w) ≤ work j s + part j) = λ j b. window-most j s w (lt-of-lt-of-le b l) in
       let all = sum-le i (λ j. work j (s + w)) (λ j. work j s + part j) each in
       omega (arith, sum-add i (λ j. work j s) part, worst-above w i order l)
-
-  -- ---- of rank i and those above, in a window within a period of i, with b ticks to spare
-  pub window-fits : (i s w b : ℕ) → i < length order → w ≤ rowAt order i .period
-      → cost (rowAt order i) + b + worstIn w (rowsAbove order i) ≤ w
-      → workAbove work (suc i) (s + w) + b ≤ workAbove work (suc i) s + w
-  window-fits i s w b l short fits =
-      let r = rowAt order i in
-      let one = mul-le-mul-right (cost r) (ceiling-under 1 w (r .period) (periods i l) (omega arith)) in
-      let before = sum-last i (λ j. work j s) in
-      let after = sum-last i (λ j. work j (s + w)) in
-      omega (arith, window-above i s w (omega arith), window-most i s w l)

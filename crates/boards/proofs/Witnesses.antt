@@ -1,27 +1,42 @@
--- Runs that meet the conditions of the claims, by computing.
+-- Runs that meet the conditions of the claims, and runs past the figures that count no hold, by computing.
 use mathlib.Core.Path.{_≡_, refl}
 use mathlib.Core.Bool.{true, false}
 use mathlib.Core.List.{List, [], _∷_}
 use mathlib.Core.Logic.{_⊎_, inl, inr}
-use Prim.Native.Nat.{ℕ, zero, suc, _<_}
+use Prim.Native.Nat.{ℕ, zero, suc, _≤_, _<_}
 use native.Mathlib.Omega.{arith}
 use lib.ListN.{length}
 use Rattle.basics.proofs.Tests.{true-not-false}
 use Rattle.rows.specs.Rows.{timesInRange, allRows, rowAt, cost}
 use Rattle.rows.specs.declared.Row.{Row}
 use Rattle.rows.proofs.Limits.{times, at-passes}
-use Rattle.responses.specs.Extremes.{smallest}
-use Rattle.responses.specs.Figures.{blocking}
+use Rattle.responses.specs.Extremes.{smallest, largest}
+use Rattle.responses.specs.Figures.{rowsAbove, rowsBelow, blocking, isLate}
+use Rattle.responses.specs.Claims.{NoneHolds}
 use Rattle.boards.specs.Claims.{LastsInRange, NoneLate}
 use Rattle.boards.specs.Runs.{boardGoesTo}
-use Rattle.boards.specs.Witnesses.{exampleOrder, atOnce, lasting, RunsMet}
+use Rattle.boards.specs.Witnesses.{exampleOrder, heldOrder, atOnce, lasting, never, RunsMet, HoldsCount}
+
+-- of three ranks, each
+each : (P : ℕ → Type 0) → P 0 → P 1 → P 2 → (i : ℕ) → i < 3 → P i
+each P a b c zero l = a
+each P a b c (suc zero) l = b
+each P a b c (suc (suc zero)) l = c
+each P a b c (suc (suc (suc i))) l = absurd (omega arith)
+
+abbrev InTime : List Row → ℕ → Type 0
+InTime order i = isLate (rowAt order i) (rowsAbove order i) (rowsBelow order i) ≡ false
 
 in-time : NoneLate exampleOrder
 unfolding smallest cost blocking
-in-time zero l = refl
-in-time (suc zero) l = refl
-in-time (suc (suc zero)) l = refl
-in-time (suc (suc (suc i))) l = absurd (omega arith)
+in-time = each (InTime exampleOrder) refl refl refl
+
+in-time-held : NoneLate heldOrder
+unfolding smallest cost blocking
+in-time-held = each (InTime heldOrder) refl refl refl
+
+no-hold : NoneHolds exampleOrder
+no-hold = each (λ i. rowAt exampleOrder i .hold ≤ 1) (omega arith) (omega arith) (omega arith)
 
 either : (order : List Row) (need : ℕ → ℕ → ℕ) → allRows timesInRange order ≡ true
     → ((i k : ℕ) → (need i k ≡ rowAt order i .best) ⊎ (need i k ≡ cost (rowAt order i)))
@@ -35,17 +50,20 @@ either order need ok is i k l =
 
 between : LastsInRange exampleOrder (lasting (2 ∷ 6 ∷ 18 ∷ []))
 unfolding cost
-between zero k l = (omega arith, omega arith)
-between (suc zero) k l = (omega arith, omega arith)
-between (suc (suc zero)) k l = (omega arith, omega arith)
-between (suc (suc (suc i))) k l = absurd (omega arith)
+between i k l =
+    each (λ i. (rowAt exampleOrder i .best ≤ ticks i) × (ticks i ≤ cost (rowAt exampleOrder i)))
+    (omega arith, omega arith) (omega arith, omega arith) (omega arith, omega arith) i l
+  where
+    ticks : ℕ → ℕ
+    ticks i = lasting (2 ∷ 6 ∷ 18 ∷ []) i k
 
 idle : (i k : ℕ) → i < length exampleOrder
-    → boardGoesTo exampleOrder atOnce (lasting (2 ∷ 6 ∷ 17 ∷ [])) i k 226 ≡ true → ⊥
-idle zero k l e = true-not-false false e refl
-idle (suc zero) k l e = true-not-false false e refl
-idle (suc (suc zero)) k l e = true-not-false false e refl
-idle (suc (suc (suc i))) k l e = omega arith
+    → boardGoesTo exampleOrder atOnce (lasting (2 ∷ 6 ∷ 17 ∷ [])) never i k 226 ≡ true → ⊥
+idle i k l = each (λ i. boardGoesTo exampleOrder atOnce (lasting (2 ∷ 6 ∷ 17 ∷ [])) never i k 226 ≡ true → ⊥)
+  none none none i l
+  where
+    none : false ≡ true → ⊥
+    none e = true-not-false false e refl
 
 pub runs-met : RunsMet
 runs-met = record {
@@ -58,4 +76,18 @@ runs-met = record {
   finished-before = refl;
   idle-there = idle;
   highest-short = λ k. omega arith;
+  none-holds = no-hold;
+}
+
+pub holds-count : HoldsCount
+unfolding smallest largest cost blocking
+holds-count = record {
+  none-late = in-time-held;
+  latest-is = refl;
+  latest-without = refl;
+  latest-reached = refl;
+  earliest-is = refl;
+  earliest-by-equation = refl;
+  held-early = λ j l. omega arith;
+  earliest-reached = refl;
 }

@@ -1,34 +1,64 @@
--- The starred cases and the others hold, by computing.
-use mathlib.Core.Path.{refl}
+-- The starred cases, the others and those of holds are so, by computing.
+use mathlib.Core.Path.{_≡_, refl, sym, _∙_}
+use mathlib.Core.Bool.{true}
+use mathlib.Core.List.{List, [], _∷_}
+use Prim.Native.Nat.{ℕ}
+use native.Mathlib.Omega.{arith}
+use lib.IntN.{ℤ}
 use Rattle.text.specs.Text.{digits, decimal, signed, keyLine}
 use Rattle.text.specs.Lines.{numberOf, lineAt}
 use Rattle.grammars.specs.Forms.{formAt}
 use Rattle.grammars.specs.Grammars.{readFor}
 use Rattle.tables.specs.TableLines.{readTable}
 use Rattle.rows.specs.Rows.{cost}
+use Rattle.rows.specs.declared.Row.{Row}
 use Rattle.responses.specs.Extremes.{smallest, largest}
-use Rattle.responses.specs.Figures.{blocking}
+use Rattle.responses.specs.Figures.{blocking, isLate}
+use Rattle.responses.specs.Claims.{NoneHolds}
+use Rattle.responses.proofs.Blocking.{no-blocking}
+use Rattle.responses.proofs.Sequences.{by-blocking}
 use Rattle.orders.specs.Orders.{overSet}
 use Rattle.plans.specs.Plans.{rankText, headText, planText, refusalText}
 use Rattle.plans.specs.Outcomes.{fitted, ifInTime}
 use Rattle.demands.specs.Calls.{onTable, ifOrdered}
-use Rattle.demands.specs.Cases.{AllHold, starred, unstarred}
+use Rattle.demands.specs.Cases.{HasFigures, AllHold, row11, row12, row13, starred, unstarred, held}
+
+-- the rows below count by their blocking time, which is that of none
+none-blocks : (below : List Row) → NoneHolds below → blocking below ≡ blocking []
+none-blocks below none = no-blocking below none ∙ sym (no-blocking [] (λ i l. absurd (omega arith)))
+
+over : (t : Row) (above : List Row) {e w j : ℕ} {m : ℤ} → HasFigures t above [] e w j m
+    → (below : List Row) → NoneHolds below → HasFigures t above below e w j m
+over t above h below none =
+    let same = by-blocking t above below [] (none-blocks below none) in
+    (
+      same .late-same ∙ h .0,
+      same .earliest-same ∙ h .1,
+      same .latest-same ∙ h .2,
+      same .jitter-same ∙ h .3,
+      same .margin-same ∙ h .4,
+    )
+
+late-over : (t : Row) (above : List Row) → isLate t above [] ≡ true
+    → (below : List Row) → NoneHolds below → isLate t above below ≡ true
+late-over t above h below none =
+    by-blocking t above below [] (none-blocks below none) .late-same ∙ h
 
 pub starred-hold : AllHold starred
 unfolding digits decimal signed keyLine numberOf lineAt formAt readFor readTable
     cost blocking smallest largest overSet rankText headText planText fitted onTable ifOrdered
 starred-hold = (
-  λ below. (refl, refl, refl, refl, refl),
+  over (row13 57000) [] (refl, refl, refl, refl, refl),
   (
-    λ below. (refl, refl, refl, refl, refl),
+    over (row13 57000) (row12 8000 ∷ []) (refl, refl, refl, refl, refl),
     (
-      λ below. (refl, refl, refl, refl, refl),
+      over (row13 57000) (row11 8000 ∷ []) (refl, refl, refl, refl, refl),
       (
-        λ below. (refl, refl, refl, refl, refl),
+        over (row13 57000) (row11 8000 ∷ row12 8000 ∷ []) (refl, refl, refl, refl, refl),
         (
-          λ below. refl,
+          late-over (row12 8000) (row13 57000 ∷ []) refl,
           (
-            λ below. (refl, refl, refl, refl, refl),
+            over (row12 8000) (row11 8000 ∷ []) (refl, refl, refl, refl, refl),
             (refl, (refl, (refl, (refl, (refl, (refl, (refl, (refl, tt)))))))),
           ),
         ),
@@ -41,3 +71,17 @@ pub unstarred-hold : AllHold unstarred
 unfolding digits decimal signed keyLine numberOf lineAt formAt readFor readTable
     cost blocking smallest largest overSet rankText headText planText refusalText fitted ifInTime onTable ifOrdered
 unstarred-hold = (refl, (refl, (refl, (refl, (refl, (refl, (refl, tt)))))))
+
+pub held-hold : AllHold held
+unfolding digits decimal signed keyLine numberOf lineAt formAt readFor readTable
+    cost blocking smallest largest overSet rankText headText planText fitted onTable ifOrdered
+held-hold = (
+  (refl, refl, refl, refl, refl),
+  (
+    (refl, refl, refl, refl, refl),
+    (
+      (refl, refl, refl, refl, refl),
+      ((refl, refl, refl, refl, refl), (refl, (refl, (refl, (refl, tt))))),
+    ),
+  ),
+)

@@ -1,18 +1,19 @@
 -- An order of rows in range in which no task is late: its plan's entries are the figures of its rows between the rows
 -- above and below them, by the formulas, and every board keeps them.
 use mathlib.Core.Path.{_≡_, ap, _∙_}
-use mathlib.Core.Bool.{true}
-use mathlib.Core.List.{List, [], Perm, Perm·refl}
-use Prim.Native.Nat.{ℕ, _<_}
+use mathlib.Core.Bool.{Bool, true}
+use mathlib.Core.List.{List, [], Perm}
+use Prim.Native.Nat.{ℕ, suc, _<_}
 use native.Mathlib.Omega.{arith}
 use lib.ListN.{length}
 use Rattle.rows.specs.Rows.{inRange, timesInRange, allRows, rowAt}
 use Rattle.rows.specs.declared.Row.{Row}
 use Rattle.rows.proofs.Limits.{all-times, at-passes, front-passes}
 use Rattle.responses.specs.Figures.{rowsAbove, rowsBelow}
-use Rattle.responses.specs.Claims.{Figured}
-use Rattle.responses.proofs.Responses.{figured}
-use Rattle.responses.proofs.Sequences.{by-set, not-by-below}
+use Rattle.responses.specs.Claims.{Figured, AsDocument01, NoneHolds}
+use Rattle.responses.proofs.Responses.{figured, without-holds}
+use Rattle.responses.proofs.Sequences.{by-set}
+use Rattle.responses.proofs.Blocking.{rest-holds}
 use Rattle.boards.specs.Claims.{LastsInRange, Kept, latestAt, earliestAt, NoneLate}
 use Rattle.boards.proofs.Bounds as Boards
 use Rattle.boards.proofs.Runs.{board-runs}
@@ -34,10 +35,10 @@ module _ (order : List Row) (ok : allRows inRange order ≡ true) (in-time : Non
       (front-passes timesInRange i order times-ok)
 
   -- what the board keeps is what the entries say
-  kept : (offset : ℕ → ℕ) (need : ℕ → ℕ → ℕ) → LastsInRange order need
-      → Kept order offset need (λ i. entryAt order i .worst) (λ i. entryAt order i .best)
-  kept offset need lasts =
-      let k = Boards.kept order offset need times-ok in-time lasts in
+  kept : (offset : ℕ → ℕ) (need : ℕ → ℕ → ℕ) (keeps : ℕ → Bool) → LastsInRange order need
+      → Kept order offset need keeps (λ i. entryAt order i .worst) (λ i. entryAt order i .best)
+  kept offset need keeps lasts =
+      let k = Boards.kept order offset need keeps times-ok in-time lasts in
       record {
         in-time = λ i n h.
             let t = k .in-time i n h in
@@ -49,22 +50,27 @@ module _ (order : List Row) (ok : allRows inRange order ≡ true) (in-time : Non
             omega (arith, k .not-early i r f h started done, b);
       }
 
-  by-above : (i : ℕ) (above′ below′ : List Row) → i < length order → Perm (rowsAbove order i) above′
+  by-sets : (i : ℕ) (above′ below′ : List Row) → i < length order
+      → Perm (rowsAbove order i) above′ → Perm (rowsBelow order i) below′
       → entryAt order i ≡ entry (rowAt order i) above′ below′
-  by-above i above′ below′ h p =
+  by-sets i above′ below′ h p q =
       let t = rowAt order i in
       let above = rowsAbove order i in
       let below = rowsBelow order i in
-      entry-is i h
-      ∙ entry-same t above above′ below below (by-set t above above′ below below p (Perm·refl below))
-      ∙ entry-same t above′ above′ below below′ (not-by-below t above′ below below′)
+      entry-is i h ∙ entry-same t above above′ below below′ (by-set t above above′ below below′ p q)
+
+  as-before : NoneHolds order → (i : ℕ) → i < length order
+      → AsDocument01 (rowAt order i) (rowsAbove order i) (rowsBelow order i)
+  as-before none i h =
+      without-holds (rowAt order i) (rowsAbove order i) (rowsBelow order i) (none i h) (rest-holds order (suc i) none)
 
   pub promised : Promised order
   promised = record {
     as-many = entries-length [] order;
     entry-is = entry-is;
     by-formulas = by-formulas;
-    by-above = by-above;
-    by-rules = λ offset need lasts. board-runs order offset need times-ok lasts;
+    by-sets = by-sets;
+    without-holds = as-before;
+    by-rules = λ offset need keeps lasts. board-runs order offset need keeps times-ok lasts;
     kept = kept;
   }

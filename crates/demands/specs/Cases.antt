@@ -1,5 +1,5 @@
--- Document 01's starred cases, in one list under one proposition about the definitions; and its other cases, as the
--- programs print them.
+-- Document 01's starred cases, each row with a hold of 0, in one list under one proposition about the definitions; its
+-- other cases, as the programs print them; and cases of holds.
 use mathlib.Core.Path.{_≡_}
 use mathlib.Core.Bool.{true, false}
 use mathlib.Core.List.{List, [], _∷_, _++_}
@@ -11,17 +11,19 @@ use Rattle.text.specs.Text.{lined}
 use Rattle.rows.specs.Rows.{row, tasksOf}
 use Rattle.rows.specs.declared.Row.{Row}
 use Rattle.responses.specs.Figures.{latest, isLate, earliest, jitter, margin}
+use Rattle.responses.specs.Claims.{NoneHolds}
 use Rattle.orders.specs.Stability.{chosenOrder}
 use Rattle.plans.specs.Plans.{planRoom}
 use Rattle.plans.specs.Outcomes.{writes, refuses}
 use Rattle.demands.specs.Calls.{planned, plannerPrints, reviewerPrints}
 
--- a row under rows above it, whatever is below it, and its E, W, jitter and margin; a late row; a table's rows and the
--- tasks of its order; a text and its whole plan; a text and its refusal; a text and what the planner's or the
--- reviewer's program prints
+-- a row under rows above it, over any rows that hold nothing, and its E, W, jitter and margin; a late row; a row between
+-- rows above it and below it; a table's rows and the tasks of its order; a text and its whole plan; a text and its
+-- refusal; a text and what the planner's or the reviewer's program prints
 pub data Case : Type 0 where
   figures : Row → List Row → ℕ → ℕ → ℕ → ℤ → Case
   late : Row → List Row → Case
+  between : Row → List Row → List Row → ℕ → ℕ → ℕ → ℤ → Case
   order : List Row → List ℕ → Case
   plan : List ℕ → List ℕ → Case
   refusal : List ℕ → ℕ → ℕ → Case
@@ -32,14 +34,18 @@ abbrev pub tasksIn : Option (List Row) → Option (List ℕ)
 tasksIn none = none
 tasksIn (some os) = some (tasksOf os)
 
-abbrev pub Holds : Case → Type 0
-Holds (figures t above e w j m) =
-    (below : List Row) → NoneHolds below
-    → (isLate t above below ≡ false)
+-- a row that is not late, and its figures
+abbrev pub HasFigures : Row → List Row → List Row → ℕ → ℕ → ℕ → ℤ → Type 0
+HasFigures t above below e w j m =
+    (isLate t above below ≡ false)
     × (earliest t above below ≡ e)
     × (latest t above below ≡ w)
     × (jitter t above below ≡ j)
     × (margin t above below ≡ m)
+
+abbrev pub Holds : Case → Type 0
+Holds (figures t above e w j m) = (below : List Row) → NoneHolds below → HasFigures t above below e w j m
+Holds (between t above below e w j m) = HasFigures t above below e w j m
 Holds (late t above) = (below : List Row) → NoneHolds below → isLate t above below ≡ true
 Holds (order rows tasks) = tasksIn (chosenOrder rows) ≡ some tasks
 Holds (plan text output) = planned text planRoom ≡ writes output
@@ -130,4 +136,37 @@ unstarred =
     ∷ "rank=1" ∷ "task=11" ∷ "best=6" ∷ "worst=6" ∷ "jitter=0" ∷ "margin=2000"
     ∷ "rank=2" ∷ "task=13" ∷ "best=17" ∷ "worst=31" ∷ "jitter=14" ∷ "margin=-2000"
     ∷ []))
+    ∷ []
+
+-- ---- holds
+-- the paper's task 13 with a hold
+abbrev pub holding13 : ℕ → Row
+holding13 hold = row 13 200 19 17 3000 57000 hold
+
+-- a short loop over a long one that may hold the bus for 3 ticks, with the beta of the first and a last line
+abbrev pub bus : String → String → List ℕ
+bus beta last = lined (
+    "board=7" ∷ "tasks=2"
+    ∷ "task=1" ∷ "period=10" ∷ "worst=2" ∷ "best=2" ∷ "alpha=1000" ∷ beta ∷ "hold=0"
+    ∷ "task=2" ∷ "period=20" ∷ "worst=5" ∷ "best=3" ∷ "alpha=1000" ∷ "beta=20000" ∷ last
+    ∷ [])
+
+abbrev pub held : List Case
+held =
+    -- the largest hold below less 1, whatever the task's own hold and those above; a hold of 1 blocks nobody
+    between (row11 8000) (row12 8000 ∷ []) (holding13 5 ∷ []) 6 12 6 (negsuc 3999)
+    ∷ between (row11 8000) (row12 8000 ∷ []) (holding13 1 ∷ []) 6 8 2 (pos 0)
+    ∷ between (holding13 1) (row11 8000 ∷ row12 8000 ∷ []) [] 25 35 10 (pos 2000)
+    -- a task that may hold for 2 ticks has its best as E
+    ∷ between (holding13 2) (row11 8000 ∷ row12 8000 ∷ []) [] 17 35 18 (negsuc 13999)
+    -- a margin of 2000 for the task above, which needs 4000 of beta; without one no order is left
+    ∷ plan (bus "beta=6000" "hold=3")
+    (lined (
+    "plan=1" ∷ "board=7" ∷ "tasks=2"
+    ∷ "rank=1" ∷ "task=1" ∷ "best=2" ∷ "worst=4" ∷ "jitter=2" ∷ "margin=2000"
+    ∷ "rank=2" ∷ "task=2" ∷ "best=3" ∷ "worst=7" ∷ "jitter=4" ∷ "margin=13000"
+    ∷ []))
+    ∷ refusal (bus "beta=3999" "hold=3") 8 0
+    ∷ refusal (bus "beta=6000" "hold=6") 4 16
+    ∷ refusal (bus "beta=6000" "rank=1") 1 16
     ∷ []

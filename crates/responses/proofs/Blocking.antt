@@ -7,7 +7,7 @@ use mathlib.Core.List.{List, [], _∷_}
 use Prim.Native.Nat.{ℕ, zero, suc, _+_, _-_, _≤_, _<_}
 use native.Mathlib.Nat.{le-trans}
 use native.Mathlib.Omega.{arith}
-use lib.ListN.{length}
+use lib.ListN.{length, drop}
 use Rattle.basics.specs.Basics.{larger}
 use Rattle.basics.proofs.Numbers.{larger-left, larger-right, larger-either, larger-most}
 use Rattle.rows.specs.Rows.{maxTicks, inRange, allRows, rowAt}
@@ -50,6 +50,12 @@ blocks rs = record {
 
 pub no-blocking : (rs : List Row) → NoneHolds rs → blocking rs ≡ 0
 no-blocking rs h = omega (arith, longest-most 1 rs h, blocking-is rs)
+
+-- some rows hold nothing, and so do those from an index on
+pub rest-holds : (rs : List Row) (n : ℕ) → NoneHolds rs → NoneHolds (drop n rs)
+rest-holds rs zero h = h
+rest-holds [] (suc n) h = λ i l. absurd (omega arith)
+rest-holds (r ∷ rs) (suc n) h = rest-holds rs n (λ i l. h (suc i) (omega arith))
 
 holds-ranged : (rs : List Row) → allRows inRange rs ≡ true → longestHold rs ≤ maxTicks
 holds-ranged [] h = omega arith
