@@ -1,10 +1,11 @@
-// Document 01's cases, as texts: what has to be answered stands beside each, and the whole buffer is compared.
+// Document 01's cases and some of holds, as texts: what has to be answered stands beside each, and the whole buffer is
+// compared.
 use trials::Answer;
 use trials::SPACE;
 ghost use Rattle.io.specs.Counts.{Counts};
 
-// The document's table up to the last beta, and its plan.
-const EXAMPLE: [u8; 171] = *b"board=7
+// The document's table up to the last beta, with a hold of 0 in each row, and its plan.
+const EXAMPLE: [u8; 185] = *b"board=7
 tasks=3
 task=11
 period=24
@@ -12,12 +13,14 @@ worst=6
 best=6
 alpha=1000
 beta=8000
+hold=0
 task=12
 period=18
 worst=2
 best=2
 alpha=1000
 beta=8000
+hold=0
 task=13
 period=200
 worst=19
@@ -128,40 +131,40 @@ fn example_refuses(name: &[u8], review: bool, rest: &[u8], number: u8, place: u3
 }
 
 fn planner_cases() {
-    example_plans(b"the document's example", false, b"beta=57000\n");
-    example_refuses(b"beta of 13 at 54999", false, b"beta=54999\n", 8, 0);
-    example_refuses(b"no line feed at the end", false, b"beta=57000", 1, 20);
-    example_refuses(b"a line too many", false, b"beta=57000\nrank=12\n", 1, 21);
+    example_plans(b"the document's example", false, b"beta=57000\nhold=0\n");
+    example_refuses(b"beta of 13 at 54999", false, b"beta=54999\nhold=0\n", 8, 0);
+    example_refuses(b"no line feed at the end", false, b"beta=57000\nhold=0", 1, 23);
+    example_refuses(b"a line too many", false, b"beta=57000\nhold=0\nrank=12\n", 1, 24);
 }
 
 fn reviewer_cases() {
     example_plans(
         b"order 12, 11, 13",
         true,
-        b"beta=57000\nrank=12\nrank=11\nrank=13\n",
+        b"beta=57000\nhold=0\nrank=12\nrank=11\nrank=13\n",
     );
     example_refuses(
         b"order 11, 13, 12",
         true,
-        b"beta=57000\nrank=11\nrank=13\nrank=12\n",
+        b"beta=57000\nhold=0\nrank=11\nrank=13\nrank=12\n",
         7,
         3,
     );
     example_refuses(
         b"rank of no task",
         true,
-        b"beta=57000\nrank=12\nrank=14\nrank=13\n",
+        b"beta=57000\nhold=0\nrank=12\nrank=14\nrank=13\n",
         6,
-        22,
+        25,
     );
     example_refuses(
         b"rank named twice",
         true,
-        b"beta=57000\nrank=12\nrank=13\nrank=12\n",
+        b"beta=57000\nhold=0\nrank=12\nrank=13\nrank=12\n",
         6,
-        23,
+        26,
     );
-    example_refuses(b"ranks missing", true, b"beta=57000\n", 1, 21);
+    example_refuses(b"ranks missing", true, b"beta=57000\nhold=0\n", 1, 24);
 }
 
 fn line_cases() {
@@ -175,14 +178,14 @@ fn row_plans() {
     plans(
         b"worst = period = 10",
         false,
-        b"board=7\ntasks=1\ntask=5\nperiod=10\nworst=10\nbest=10\nalpha=1000\nbeta=10000\n",
+        b"board=7\ntasks=1\ntask=5\nperiod=10\nworst=10\nbest=10\nalpha=1000\nbeta=10000\nhold=0\n",
         b"plan=1\nboard=7\ntasks=1\nrank=1\ntask=5\nbest=10\nworst=10\njitter=0\nmargin=0\n",
         72,
     );
     plans(
         b"worst = period = 1000000",
         false,
-        b"board=7\ntasks=1\ntask=5\nperiod=1000000\nworst=1000000\nbest=1\nalpha=1000\nbeta=1000000001\n",
+        b"board=7\ntasks=1\ntask=5\nperiod=1000000\nworst=1000000\nbest=1\nalpha=1000\nbeta=1000000001\nhold=0\n",
         b"plan=1\nboard=7\ntasks=1\nrank=1\ntask=5\nbest=1\nworst=1000000\njitter=999999\nmargin=1\n",
         81,
     );
@@ -213,8 +216,40 @@ fn row_refusals() {
     refuses(
         b"a task number used before",
         false,
-        b"board=7\ntasks=2\ntask=5\nperiod=10\nworst=9\nbest=1\nalpha=1000\nbeta=0\ntask=5\n",
+        b"board=7\ntasks=2\ntask=5\nperiod=10\nworst=9\nbest=1\nalpha=1000\nbeta=0\nhold=0\ntask=5\n",
         5,
+        10,
+    );
+}
+
+// The same row up to its beta, with other holds.
+fn hold_cases() {
+    plans(
+        b"hold = worst = 10",
+        false,
+        b"board=7\ntasks=1\ntask=5\nperiod=10\nworst=10\nbest=10\nalpha=1000\nbeta=10000\nhold=10\n",
+        b"plan=1\nboard=7\ntasks=1\nrank=1\ntask=5\nbest=10\nworst=10\njitter=0\nmargin=0\n",
+        72,
+    );
+    refuses(
+        b"hold = worst + 1",
+        false,
+        b"board=7\ntasks=1\ntask=5\nperiod=10\nworst=10\nbest=10\nalpha=1000\nbeta=10000\nhold=11\n",
+        4,
+        9,
+    );
+    refuses(
+        b"hold = 1000001",
+        false,
+        b"board=7\ntasks=1\ntask=5\nperiod=10\nworst=10\nbest=10\nalpha=1000\nbeta=10000\nhold=1000001\n",
+        3,
+        9,
+    );
+    refuses(
+        b"no hold",
+        false,
+        b"board=7\ntasks=1\ntask=5\nperiod=10\nworst=10\nbest=10\nalpha=1000\nbeta=10000\n",
+        1,
         9,
     );
 }
@@ -225,4 +260,5 @@ fn main() {
     line_cases();
     row_plans();
     row_refusals();
+    hold_cases();
 }
