@@ -179,18 +179,31 @@ fn work(rows: &[Row]) -> u64 {
 
 fn typical(dice: &mut Dice, tasks: usize) -> Vec<Row> {
     let family = dice.pick(&tables::FAMILIES);
+    tables::rows_without_holds(dice, family, tasks, false)
+}
+
+fn holding(dice: &mut Dice, tasks: usize) -> Vec<Row> {
+    let family = dice.pick(&tables::FAMILIES);
     tables::rows(dice, family, tasks, false)
 }
 
-fn slow(dice: &mut Dice, tasks: usize) -> Vec<Row> {
-    let mut slowest = typical(dice, tasks);
+fn slowest_drawn(dice: &mut Dice, draw: Draw, tasks: usize) -> Vec<Row> {
+    let mut slowest = draw(dice, tasks);
     for _ in 1..DRAWN_FOR_A_SLOW_ONE {
-        let rows = typical(dice, tasks);
+        let rows = draw(dice, tasks);
         if work(&rows) > work(&slowest) {
             slowest = rows;
         }
     }
     slowest
+}
+
+fn slow(dice: &mut Dice, tasks: usize) -> Vec<Row> {
+    slowest_drawn(dice, typical, tasks)
+}
+
+fn slow_holding(dice: &mut Dice, tasks: usize) -> Vec<Row> {
+    slowest_drawn(dice, holding, tasks)
 }
 
 type Draw = fn(&mut Dice, usize) -> Vec<Row>;
@@ -299,10 +312,7 @@ fn near(dice: &mut Dice, number: u64, low: u64, high: u64) -> u64 {
 
 /// A beta that is no limit, or that the row just misses below some of the others.
 fn some_beta(dice: &mut Dice, rows: &[Row], index: usize) -> u64 {
-    let set = dice.next();
-    let above = (0..rows.len()).filter(|&other| other != index && set >> other & 1 == 1);
-    let above: Vec<&Row> = above.map(|other| &rows[other]).collect();
-    match tables::boundary(&rows[index], &above) {
+    match tables::boundary_at_random(dice, rows, index) {
         Some(beta) if dice.once_in(2) => beta - 1,
         _ => 200_000_000_000,
     }
@@ -334,8 +344,15 @@ fn step_from(dice: &mut Dice, rows: &[Row]) -> Vec<Row> {
 /// latest response creeps; long tasks that all fit below them, so that every set of these is
 /// tried; and, last in the table, a task that is never stable, so that all of it is in vain.
 fn creeping() -> Vec<Row> {
-    let loose =
-        |period| Row { task: 0, period, worst: 1, best: 1, alpha: 1_000, beta: 200_000_000_000 };
+    let loose = |period| Row {
+        task: 0,
+        period,
+        worst: 1,
+        best: 1,
+        alpha: 1_000,
+        beta: 200_000_000_000,
+        hold: 0,
+    };
     let mut rows = [1_000_000; 7].into_iter().chain([43, 7, 3, 2]).map(loose).collect::<Vec<_>>();
     rows.push(Row { beta: 0, ..rows[0] });
     rows.iter_mut().zip(1..).for_each(|(row, task)| row.task = task);
@@ -399,6 +416,16 @@ fn options() -> Option<Options> {
     Some(options)
 }
 
+/// The planner on tables whose rows may hold.
+fn print_holding(dice: &mut Dice, options: &Options) -> Result<(), Different> {
+    let parts: [(&str, Draw); 2] = [("typical", holding), ("slow", slow_holding)];
+    for (name, draw) in parts {
+        let texts = texts_of(&draw_tables(dice, draw, options.tables), table_text);
+        print_times(&format!("planner, {name} tables with holds"), &PLAN, &texts, options.rounds)?;
+    }
+    Ok(())
+}
+
 fn run(options: &Options) -> Result<(), Different> {
     let mut dice = Dice::new(options.seed);
     let typical = draw_tables(&mut dice, typical, options.tables);
@@ -415,6 +442,7 @@ fn run(options: &Options) -> Result<(), Different> {
     print_full_boards("with much to search", &mut dice, MUCH_WORK, options.rounds)?;
     // Dice of its own, so that the tables of the other parts stay what they were.
     print_cranes(&mut Dice::new(options.seed ^ 1 << 32), options.tables / 4 + 1, options.rounds)?;
+    print_holding(&mut Dice::new(options.seed ^ 2 << 32), options)?;
     if options.climb > 0 {
         print_slowest(&mut dice, options.climb, options.rounds)?;
     }

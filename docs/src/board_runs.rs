@@ -1,6 +1,6 @@
 //! Plans of the library on boards: that no job passes a line, and how close jobs came.
 
-use crate::boards::{self, Lengths, Releases, Seen, Task};
+use crate::boards::{self, Choice, Keeps, Lengths, Releases, Seen, Task};
 use crate::calls::{self, AMPLE};
 use crate::dice::Dice;
 use crate::model::Row;
@@ -30,41 +30,81 @@ impl Gaps {
 
     fn print(&self, line: &str) {
         let Gaps { exactly, one_tick, more, widest } = self;
-        print!(
-            "  {line} line, by task: {exactly} reached it exactly, {one_tick} came within 1 tick"
-        );
+        print!("  {line}: {exactly} reached it exactly, {one_tick} came within 1 tick");
         println!(", {more} stayed farther off, {widest} ticks at most");
     }
+}
+
+/// A task that did not come as far as the rules allow.
+struct Missed {
+    what: &'static str,
+    rank: usize,
+    ticks: u64,
+    table: String,
 }
 
 #[derive(Default)]
 struct Report {
     runs: u64,
+    holding: u64,
     total: Seen,
     to_worst: Gaps,
     to_best: Gaps,
+    /// Of the tasks with a hold of 2 or more, whose `best` is the row's: to that line, and to the
+    /// shortest response that the rules allow.
+    to_best_holding: Gaps,
+    to_shortest: Gaps,
+    missed: Option<Missed>,
 }
 
 impl Report {
     /// Adds one plan's tasks, each with all that was seen of it.
-    fn add(&mut self, tasks: &[Task], all: &[Seen]) {
-        for (task, seen) in tasks.iter().zip(all) {
+    fn add(&mut self, text: &[u8], tasks: &[Task], all: &[Seen]) {
+        self.holding += tasks.iter().any(|task| task.hold >= 2) as u64;
+        for (rank, (task, seen)) in tasks.iter().zip(all).enumerate() {
             absorb(&mut self.total, seen);
-            self.to_worst.add(task.worst - seen.largest);
-            if let Some(smallest) = seen.smallest {
-                self.to_best.add(smallest - task.best);
+            let gap = task.worst - seen.largest;
+            self.to_worst.add(gap);
+            self.note("worst line", rank, gap, text);
+            let Some(smallest) = seen.smallest else {
+                continue;
+            };
+            let gap = smallest.abs_diff(boards::shortest(tasks, rank));
+            self.note("shortest response", rank, gap, text);
+            self.to_best.add(smallest - task.best);
+            if task.hold >= 2 {
+                self.to_best_holding.add(smallest - task.best);
+                self.to_shortest.add(gap);
             }
         }
     }
 
+    /// Remembers the first task that did not come as far as the rules allow.
+    fn note(&mut self, what: &'static str, rank: usize, ticks: u64, text: &[u8]) {
+        if ticks > 0 && self.missed.is_none() {
+            let table = text.escape_ascii().to_string();
+            self.missed = Some(Missed { what, rank: rank + 1, ticks, table });
+        }
+    }
+
     fn print(&self) {
-        let Seen { jobs, at_worst, settled, at_best, .. } = self.total;
+        let Seen { jobs, at_worst, settled, at_best, kept, .. } = self.total;
         println!("  {jobs} jobs, none past its worst line, {at_worst} exactly on it");
         println!(
             "  {settled} jobs held to their best line, none before it, {at_best} exactly on it"
         );
-        self.to_worst.print("worst");
-        self.to_best.print("best");
+        self.to_worst.print("worst line, by task");
+        self.to_best.print("best line, by task");
+        println!(
+            "  {} of the plans with a hold of 2 or more, {kept} ticks kept from a higher rank",
+            self.holding
+        );
+        self.to_best_holding.print("best line, by task with such a hold");
+        self.to_shortest.print("shortest response that its stretches allow, by such a task");
+        if let Some(Missed { what, rank, ticks, table }) = &self.missed {
+            println!("  first not reached: {what} of rank {rank}, by {ticks} ticks, table:");
+            println!("  \"{table}\"");
+        }
     }
 }
 
@@ -73,6 +113,7 @@ fn absorb(total: &mut Seen, seen: &Seen) {
     total.settled += seen.settled;
     total.at_worst += seen.at_worst;
     total.at_best += seen.at_best;
+    total.kept += seen.kept;
     total.largest = total.largest.max(seen.largest);
     total.smallest = [total.smallest, seen.smallest].into_iter().flatten().min();
 }
@@ -88,23 +129,38 @@ fn tasks_of_plan(text: &[u8], rows: &[Row]) -> Option<Vec<Task>> {
     let ranks = calls::ranks_in(buffer.get(..answer.length as usize)?, rows)?;
     let task = |rank: calls::Rank| {
         let row = &rows[rank.index];
-        let (least, most) = (row.best, row.worst);
-        Task { period: row.period, least, most, best: rank.best, worst: rank.worst }
+        let Row { period, worst: most, best: least, hold, .. } = *row;
+        Task { period, least, most, hold, best: rank.best, worst: rank.worst }
     };
     Some(ranks.into_iter().map(task).collect())
 }
 
-/// Every choice of first releases with every choice of lengths; the aligned ones only with the
-/// lengths that they are made for.
-fn choices(tasks: usize) -> Vec<(Releases, Lengths)> {
+/// Every choice of first releases with every choice of lengths and, where something may hold, of
+/// stretches; those made for a rank only with the lengths and stretches that they are made for.
+fn choices(tasks: &[Task]) -> Vec<Choice> {
     use Lengths::{Alternating, Best, Drifting, Random, Worst};
+    let holding: Vec<usize> = (0..tasks.len()).filter(|&rank| tasks[rank].hold >= 2).collect();
+    let some: &[Keeps] = match holding.as_slice() {
+        [] => &[Keeps::Never],
+        _ => &[Keeps::Never, Keeps::Always, Keeps::Random],
+    };
     let mut choices = Vec::new();
-    for releases in [Releases::Zero, Releases::Random, Releases::Drifting] {
-        choices.extend(
-            [Worst, Best, Alternating, Random, Drifting].map(|lengths| (releases, lengths)),
-        );
+    for &keeps in some {
+        for releases in [Releases::Zero, Releases::Random, Releases::Drifting] {
+            let lengths = [Worst, Best, Alternating, Random, Drifting];
+            choices.extend(lengths.map(|lengths| Choice { releases, lengths, keeps }));
+        }
     }
-    choices.extend((0..tasks).map(|rank| (Releases::Aligned(rank), Best)));
+    choices.extend((0..tasks.len()).map(|rank| Choice {
+        releases: Releases::Aligned(rank),
+        lengths: Best,
+        keeps: Keeps::Ending(rank),
+    }));
+    choices.extend(holding.into_iter().map(|rank| Choice {
+        releases: Releases::Behind(rank),
+        lengths: Worst,
+        keeps: Keeps::Only(rank),
+    }));
     choices
 }
 
@@ -118,16 +174,17 @@ fn run_plan(
     let longest = tasks.iter().map(|task| task.period).max().unwrap_or(0);
     let ticks = (12 * longest).min(MOST_TICKS).max(4 * longest);
     let mut all = vec![Seen::default(); tasks.len()];
-    for (releases, lengths) in choices(tasks.len()) {
-        let first = boards::first_releases(dice, releases, tasks);
-        let seen = boards::run(dice, tasks, &first, lengths, ticks).map_err(|violation| {
-            let run = format!("first releases {first:?}, lengths {lengths:?}");
+    for choice in choices(tasks) {
+        let first = boards::first_releases(dice, choice.releases, tasks);
+        let seen = boards::run(dice, tasks, &first, choice, ticks).map_err(|violation| {
+            let Choice { lengths, keeps, .. } = choice;
+            let run = format!("first releases {first:?}, lengths {lengths:?}, kept {keeps:?}");
             format!("BROKEN LINE: {violation:?}, {run}, table:\n  \"{}\"\n", text.escape_ascii())
         })?;
         all.iter_mut().zip(&seen).for_each(|(total, seen)| absorb(total, seen));
         report.runs += 1;
     }
-    report.add(tasks, &all);
+    report.add(text, tasks, &all);
     Ok(())
 }
 

@@ -1,5 +1,5 @@
-//! Holds the proved planner, reviewer and crane to the model of document 01, and the plans to
-//! the board. See `docs/TESTING.md`.
+//! Holds the proved planner, reviewer and crane to the model of documents 01 and 02, and the plans
+//! to the board. See `docs/TESTING.md`.
 //!
 //! Built with `--cfg model_only` it needs no library: `plain.rs` stands in for it.
 
@@ -133,8 +133,8 @@ fn compare_table(
 /// Lowers the beta of one task of an order to its boundary or just below.
 fn lower_a_beta(dice: &mut Dice, rows: &mut [Row], order: &[usize]) {
     let rank = dice.below(order.len());
-    let above: Vec<&Row> = order[..rank].iter().map(|&index| &rows[index]).collect();
-    let boundary = tables::boundary(&rows[order[rank]], &above);
+    let ranked: Vec<&Row> = order.iter().map(|&index| &rows[index]).collect();
+    let boundary = tables::boundary(ranked[rank], &ranked[..rank], &ranked[rank + 1..]);
     rows[order[rank]].beta = boundary.map_or(0, |beta| beta - dice.between(0, 1));
 }
 

@@ -1,5 +1,5 @@
-//! The planner and the reviewer of document 01 and the crane of request 1, written from those
-//! papers alone.
+//! The planner and the reviewer of document 01 with the holds of request 2, and the crane of
+//! request 1, written from those papers alone.
 //!
 //! Nothing here is clever, and nothing follows the product: lines are an indexed list, figures
 //! are found by walking the points where a sum can change, and orders by trying every
@@ -26,6 +26,7 @@ pub struct Row {
     pub best: u64,
     pub alpha: u64,
     pub beta: u64,
+    pub hold: u64,
 }
 
 #[derive(Clone, Copy, Debug, PartialEq)]
@@ -120,7 +121,9 @@ fn row_at(lines: &[&[u8]], place: usize, before: &[Row]) -> Result<Row, Refusal>
     refuse_if(best > worst, 4, place + 3)?;
     let alpha = number_at(lines, place + 4, "alpha", 1_000, 100_000)?;
     let beta = number_at(lines, place + 5, "beta", 0, 200_000_000_000)?;
-    Ok(Row { task, period, worst, best, alpha, beta })
+    let hold = number_at(lines, place + 6, "hold", 0, 1_000_000)?;
+    refuse_if(hold > worst, 4, place + 6)?;
+    Ok(Row { task, period, worst, best, alpha, beta, hold })
 }
 
 /// The table at the start of the text, and how many lines it takes.
@@ -129,10 +132,10 @@ fn table_at_start(lines: &[&[u8]]) -> Result<(Table, usize), Refusal> {
     let tasks = number_at(lines, 2, "tasks", 1, 12)? as usize;
     let mut rows = Vec::new();
     for index in 0..tasks {
-        let row = row_at(lines, 3 + 6 * index, &rows)?;
+        let row = row_at(lines, 3 + 7 * index, &rows)?;
         rows.push(row);
     }
-    Ok((Table { board, rows }, 2 + 6 * tasks))
+    Ok((Table { board, rows }, 2 + 7 * tasks))
 }
 
 /// Refusal 1 at the first line too many.
@@ -165,14 +168,26 @@ fn read_ranked(text: &[u8]) -> Result<(Table, Vec<usize>), Refusal> {
 
 // ---- Figures ----------------------------------------------------------------------------
 
-/// The latest response of a row below `above`, or none if it is late.
+/// The ticks that a row waits for what is below it: the largest hold there, less 1. The tick less
+/// is the one in which the stretch begins.
+fn blocking(below: &[&Row]) -> u64 {
+    let largest = below.iter().map(|under| under.hold).max().unwrap_or(0);
+    if largest > 0 {
+        largest - 1
+    } else {
+        0
+    }
+}
+
+/// The latest response of a row between `above` and `below`, or none if it is late.
 ///
 /// The right side of the equation changes only just after a multiple of a period above, so it
-/// has one value from there up to the next such point, that point included. The first stretch
-/// whose value does not lie past the stretch's end holds the smallest solution.
-pub fn latest(row: &Row, above: &[&Row]) -> Option<u64> {
+/// has one value from there up to the next such point, that point included. The first span
+/// whose value does not lie past the span's end holds the smallest solution.
+pub fn latest(row: &Row, above: &[&Row], below: &[&Row]) -> Option<u64> {
     let mut points: Vec<u64> = above.iter().map(|over| over.period).collect();
-    let mut demand = row.worst + above.iter().map(|over| over.worst).sum::<u64>();
+    let once = above.iter().map(|over| over.worst).sum::<u64>();
+    let mut demand = row.worst + blocking(below) + once;
     while demand <= row.period {
         let end = points.iter().copied().min().unwrap_or(row.period);
         if demand <= end {
@@ -188,9 +203,13 @@ pub fn latest(row: &Row, above: &[&Row]) -> Option<u64> {
     None
 }
 
-/// The earliest response of a row whose latest is `latest`: the stretches on which the right
-/// side has one value are walked downward, and the first that holds its own value has it.
+/// The earliest response of a row whose latest is `latest`: the best time where the row's own hold
+/// is 2 or more; otherwise the spans on which the right side has one value are walked downward, and
+/// the first that has its own value in it gives it.
 pub fn earliest(row: &Row, above: &[&Row], latest: u64) -> u64 {
+    if row.hold >= 2 {
+        return row.best;
+    }
     let mut whole: Vec<u64> = above.iter().map(|over| latest.div_ceil(over.period) - 1).collect();
     loop {
         let begins = whole.iter().zip(above).map(|(count, over)| count * over.period);
@@ -207,9 +226,9 @@ pub fn earliest(row: &Row, above: &[&Row], latest: u64) -> u64 {
     }
 }
 
-/// All figures of a row below `above`, or none if it is late.
-pub fn figures(row: &Row, above: &[&Row]) -> Option<Figures> {
-    let worst = latest(row, above)?;
+/// All figures of a row between `above` and `below`, or none if it is late.
+pub fn figures(row: &Row, above: &[&Row], below: &[&Row]) -> Option<Figures> {
+    let worst = latest(row, above, below)?;
     let best = earliest(row, above, worst);
     let jitter = worst - best;
     let cost = 1_000 * best + row.alpha * jitter;
@@ -224,8 +243,10 @@ fn rows_in(rows: &[Row], set: u16) -> Vec<&Row> {
     named.map(|(_, row)| row).collect()
 }
 
+/// Whether a row is stable below a set; all the others are then below it.
 fn is_stable(rows: &[Row], index: usize, above: u16) -> bool {
-    figures(&rows[index], &rows_in(rows, above)).is_some_and(|figures| figures.margin >= 0)
+    let (over, under) = (rows_in(rows, above), rows_in(rows, !(above | 1 << index)));
+    figures(&rows[index], &over, &under).is_some_and(|figures| figures.margin >= 0)
 }
 
 /// Steps to the next permutation in the sequence of dictionaries; false after the last.
@@ -294,12 +315,11 @@ pub fn chosen_order(rows: &[Row]) -> Option<Vec<usize>> {
 
 /// The figures of an order, highest rank first, or refusal 7 at its first late rank.
 fn figures_of_order(rows: &[Row], order: &[usize]) -> Result<Vec<Figures>, Refusal> {
+    let ranked: Vec<&Row> = order.iter().map(|&index| &rows[index]).collect();
     let mut all = Vec::new();
-    let mut above = Vec::new();
-    for &index in order {
-        let late = Refusal { number: 7, place: all.len() as u64 + 1 };
-        all.push(figures(&rows[index], &above).ok_or(late)?);
-        above.push(&rows[index]);
+    for (rank, &row) in ranked.iter().enumerate() {
+        let late = Refusal { number: 7, place: rank as u64 + 1 };
+        all.push(figures(row, &ranked[..rank], &ranked[rank + 1..]).ok_or(late)?);
     }
     Ok(all)
 }
@@ -381,9 +401,9 @@ mod tests {
     use crate::dice::Dice;
 
     const TABLE: &str = "board=7\ntasks=3\n\
-        task=11\nperiod=24\nworst=6\nbest=6\nalpha=1000\nbeta=8000\n\
-        task=12\nperiod=18\nworst=2\nbest=2\nalpha=1000\nbeta=8000\n\
-        task=13\nperiod=200\nworst=19\nbest=17\nalpha=3000\nbeta=57000\n";
+        task=11\nperiod=24\nworst=6\nbest=6\nalpha=1000\nbeta=8000\nhold=0\n\
+        task=12\nperiod=18\nworst=2\nbest=2\nalpha=1000\nbeta=8000\nhold=0\n\
+        task=13\nperiod=200\nworst=19\nbest=17\nalpha=3000\nbeta=57000\nhold=0\n";
 
     const PLAN: &str = "plan=1\nboard=7\ntasks=3\n\
         rank=1\ntask=12\nbest=2\nworst=2\njitter=0\nmargin=6000\n\
@@ -394,11 +414,23 @@ mod tests {
         read_table(TABLE.as_bytes()).unwrap().rows
     }
 
-    /// E, W, jitter and margin of a row of the example below others of it.
+    /// E, W, jitter and margin of a row of the example below others of it, the rest below it.
     fn figured(index: usize, above: &[usize]) -> Option<(u64, u64, u64, i64)> {
-        let rows = rows();
+        figured_with([0, 0, 0], index, above)
+    }
+
+    /// The same where the rows have these holds.
+    fn figured_with(
+        holds: [u64; 3],
+        index: usize,
+        above: &[usize],
+    ) -> Option<(u64, u64, u64, i64)> {
+        let mut rows = rows();
+        rows.iter_mut().zip(holds).for_each(|(row, hold)| row.hold = hold);
+        let below = (0..3).filter(|other| *other != index && !above.contains(other));
+        let below: Vec<&Row> = below.map(|index| &rows[index]).collect();
         let above: Vec<&Row> = above.iter().map(|&index| &rows[index]).collect();
-        figures(&rows[index], &above).map(|f| (f.best, f.worst, f.jitter, f.margin))
+        figures(&rows[index], &above, &below).map(|f| (f.best, f.worst, f.jitter, f.margin))
     }
 
     fn refused(number: u64, place: u64) -> Outcome {
@@ -453,14 +485,19 @@ mod tests {
 
     #[test]
     fn one_task_at_its_line() {
-        let one = |beta| {
+        let one = |beta, hold| {
             let text = format!(
-                "board=1\ntasks=1\ntask=1\nperiod=10\nworst=10\nbest=10\nalpha=1000\nbeta={beta}\n"
+                "board=1\ntasks=1\ntask=1\nperiod=10\nworst=10\nbest=10\nalpha=1000\nbeta={beta}\n\
+                hold={hold}\n"
             );
             planned(text.as_bytes())
         };
-        assert!(one(10000).is_ok());
-        assert_eq!(one(9999), refused(8, 0));
+        // Its own hold is no part of its latest response.
+        for hold in [0, 1, 2, 10] {
+            assert!(one(10000, hold).is_ok());
+            assert_eq!(one(9999, hold), refused(8, 0));
+        }
+        assert_eq!(one(10000, 11), refused(4, 9));
     }
 
     #[test]
@@ -472,7 +509,7 @@ mod tests {
         assert_eq!(planned(b"board=07\n"), refused(2, 1));
         assert_eq!(planned(b"board=7\ntasks=13\n"), refused(3, 2));
         assert!(read_table(changed(&[("worst=2", "worst=18")]).as_bytes()).is_ok());
-        assert_eq!(planned(changed(&[("worst=2", "worst=19")]).as_bytes()), refused(4, 11));
+        assert_eq!(planned(changed(&[("worst=2", "worst=19")]).as_bytes()), refused(4, 12));
         assert_eq!(printed(planned, TABLE_TAKES, b""), b"plan=0\nrefusal=1\nline=1\n");
     }
 
@@ -487,9 +524,10 @@ mod tests {
         };
         refuses("board=7", "board7", 1, 1);
         refuses("board=7\n", "board=7", 2, 1);
-        refuses("beta=57000\n", "beta=57000", 1, 20);
-        refuses("beta=57000\n", "beta=57000\n\n", 1, 21);
-        refuses("beta=57000\n", "beta=57000\nrank=11\n", 1, 21);
+        refuses("beta=57000\n", "beta=57000", 2, 22);
+        refuses("beta=57000\nhold=0\n", "beta=57000\nhold=0", 1, 23);
+        refuses("beta=57000\nhold=0\n", "beta=57000\nhold=0\n\n", 1, 24);
+        refuses("beta=57000\nhold=0\n", "beta=57000\nhold=0\nrank=11\n", 1, 24);
         refuses("board=7", "board=", 2, 1);
         refuses("board=7", "board=+7", 2, 1);
         refuses("board=7", "board=7\r", 2, 1);
@@ -498,7 +536,7 @@ mod tests {
         refuses("board=7", "board=0", 3, 1);
         refuses("tasks=3", "tasks=0", 3, 2);
         refuses("best=6", "best=7", 4, 6);
-        refuses("task=12", "task=11", 5, 9);
+        refuses("task=12", "task=11", 5, 10);
         refuses("alpha=1000", "alpha=999", 3, 7);
         refuses("beta=8000", "beta=200000000001", 3, 8);
         refuses("worst=6", "worst=1000001", 3, 5);
@@ -507,11 +545,11 @@ mod tests {
     #[test]
     fn rank_lines_named_twice_or_unknown() {
         let review = |ranks: &str| reviewed(format!("{TABLE}{ranks}").as_bytes());
-        assert_eq!(review("rank=11\nrank=11\nrank=13\n"), refused(6, 22));
-        assert_eq!(review("rank=14\nrank=11\nrank=13\n"), refused(6, 21));
-        assert_eq!(review("rank=65536\n"), refused(3, 21));
-        assert_eq!(review("rank=11\nrank=12\n"), refused(1, 23));
-        assert_eq!(review("rank=11\nrank=12\nrank=13\nrank=13\n"), refused(1, 24));
+        assert_eq!(review("rank=11\nrank=11\nrank=13\n"), refused(6, 25));
+        assert_eq!(review("rank=14\nrank=11\nrank=13\n"), refused(6, 24));
+        assert_eq!(review("rank=65536\n"), refused(3, 24));
+        assert_eq!(review("rank=11\nrank=12\n"), refused(1, 26));
+        assert_eq!(review("rank=11\nrank=12\nrank=13\nrank=13\n"), refused(1, 27));
     }
 
     #[test]
@@ -532,22 +570,23 @@ mod tests {
     fn a_program_takes_no_more_than_its_bytes() {
         let mut input = TABLE.as_bytes().to_vec();
         input.resize(TABLE_TAKES, b'x');
-        assert_eq!(printed(planned, TABLE_TAKES, &input), b"plan=0\nrefusal=1\nline=21\n");
+        assert_eq!(printed(planned, TABLE_TAKES, &input), b"plan=0\nrefusal=1\nline=24\n");
         // A first line cut off by the limit has no line feed.
         let long = [&[b'x'; TABLE_TAKES], TABLE.as_bytes()].concat();
         assert_eq!(printed(planned, TABLE_TAKES, &long), b"plan=0\nrefusal=1\nline=1\n");
     }
 
     /// The definitions of W and E tried number by number.
-    fn figures_by_trying(row: &Row, above: &[&Row]) -> Option<(u64, u64)> {
-        let high =
-            |w: u64| row.worst + above.iter().map(|r| w.div_ceil(r.period) * r.worst).sum::<u64>();
+    fn figures_by_trying(row: &Row, above: &[&Row], below: &[&Row]) -> Option<(u64, u64)> {
+        let wait = below.iter().map(|r| r.hold).filter(|&hold| hold > 0).max().map_or(0, |h| h - 1);
+        let over = |w: u64| above.iter().map(|r| w.div_ceil(r.period) * r.worst).sum::<u64>();
+        let high = |w: u64| row.worst + wait + over(w);
         let low = |e: u64| {
             row.best + above.iter().map(|r| (e.div_ceil(r.period) - 1) * r.best).sum::<u64>()
         };
         let worst = (1..=row.period).find(|&w| w == high(w))?;
-        let best = (1..=worst).rev().find(|&e| e == low(e))?;
-        Some((best, worst))
+        let solved = (1..=worst).rev().find(|&e| e == low(e))?;
+        Some((if row.hold < 2 { solved } else { row.best }, worst))
     }
 
     fn small_rows(dice: &mut Dice, count: usize) -> Vec<Row> {
@@ -557,7 +596,8 @@ mod tests {
             let best = dice.between(1, worst);
             let alpha = dice.pick(&[1000, 1500, 4000]);
             let beta = dice.between(1000, 1000 * 2 * period);
-            Row { task: index as u64 + 1, period, worst, best, alpha, beta }
+            let hold = dice.pick(&[0, 0, 1, 2, worst]).min(worst);
+            Row { task: index as u64 + 1, period, worst, best, alpha, beta, hold }
         };
         (0..count).map(&mut row).collect()
     }
@@ -567,9 +607,10 @@ mod tests {
         let mut dice = Dice::new(1);
         for round in 0..20_000 {
             let rows = small_rows(&mut dice, 1 + round % 6);
-            let above: Vec<&Row> = rows[1..].iter().collect();
-            let found = figures(&rows[0], &above).map(|f| (f.best, f.worst));
-            assert_eq!(found, figures_by_trying(&rows[0], &above), "{rows:?}");
+            let others: Vec<&Row> = rows[1..].iter().collect();
+            let (above, below) = others.split_at(dice.below(rows.len()));
+            let found = figures(&rows[0], above, below).map(|f| (f.best, f.worst));
+            assert_eq!(found, figures_by_trying(&rows[0], above, below), "{rows:?}");
         }
     }
 
@@ -584,6 +625,118 @@ mod tests {
             accepted += order.is_some() as usize;
         }
         assert!(accepted > 500 && accepted < 3_500, "{accepted} of 4000 have an order");
+    }
+
+    // ---- Holds --------------------------------------------------------------------------
+
+    /// The example with holds of its rows, in the table's sequence.
+    fn held(holds: [u64; 3]) -> String {
+        let holds = holds.map(|hold| format!("hold={hold}\n"));
+        let parts: Vec<&str> = TABLE.split("hold=0\n").collect();
+        parts.iter().zip(&holds).flat_map(|(part, hold)| [part, hold.as_str()]).collect()
+    }
+
+    #[test]
+    fn the_largest_hold_below_less_one_is_added_once() {
+        // Task 12 with all others below it.
+        assert_eq!(figured_with([0, 0, 1], 1, &[]), Some((2, 2, 0, 6000)));
+        assert_eq!(figured_with([0, 0, 2], 1, &[]), Some((2, 3, 1, 5000)));
+        assert_eq!(figured_with([3, 0, 5], 1, &[]), Some((2, 6, 4, 2000)));
+        assert_eq!(figured_with([5, 0, 3], 1, &[]), Some((2, 6, 4, 2000)));
+        assert_eq!(figured_with([0, 0, 17], 1, &[]), Some((2, 18, 16, -10000)));
+        assert_eq!(figured_with([0, 0, 18], 1, &[]), None);
+        // Task 11 below 12: the wait reaches past a release of 12, which counts once more.
+        assert_eq!(figured_with([0, 0, 2], 0, &[1]), Some((6, 9, 3, -1000)));
+        assert_eq!(figured_with([0, 0, 11], 0, &[1]), Some((6, 18, 12, -10000)));
+        assert_eq!(figured_with([0, 0, 12], 0, &[1]), Some((6, 21, 15, -13000)));
+        assert_eq!(figured_with([0, 0, 15], 0, &[1]), Some((6, 24, 18, -16000)));
+        assert_eq!(figured_with([0, 0, 16], 0, &[1]), None);
+        assert_eq!(figured_with([6, 0, 0], 2, &[1]), Some((19, 28, 9, 11000)));
+    }
+
+    #[test]
+    fn holds_above_and_its_own_are_no_wait() {
+        assert_eq!(figured_with([6, 2, 0], 2, &[0, 1]), Some((25, 35, 10, 2000)));
+        assert_eq!(figured_with([6, 2, 0], 0, &[1]), Some((6, 8, 2, 0)));
+        assert_eq!(figured_with([6, 2, 0], 1, &[0]), Some((2, 8, 6, 0)));
+        assert_eq!(figured_with([6, 2, 0], 1, &[]), Some((2, 7, 5, 1000)));
+        assert_eq!(figured_with([6, 2, 0], 0, &[]), Some((6, 7, 1, 1000)));
+    }
+
+    #[test]
+    fn a_hold_of_two_makes_the_best_time_the_earliest_response() {
+        assert_eq!(figured_with([0, 0, 0], 2, &[0, 1]), Some((25, 35, 10, 2000)));
+        assert_eq!(figured_with([0, 0, 1], 2, &[0, 1]), Some((25, 35, 10, 2000)));
+        assert_eq!(figured_with([0, 0, 2], 2, &[0, 1]), Some((17, 35, 18, -14000)));
+        assert_eq!(figured_with([0, 0, 19], 2, &[0, 1]), Some((17, 35, 18, -14000)));
+        assert_eq!(figured_with([2, 2, 1], 2, &[1]), Some((19, 24, 5, 23000)));
+        assert_eq!(figured_with([2, 2, 2], 2, &[1]), Some((17, 24, 7, 19000)));
+    }
+
+    #[test]
+    fn plans_of_the_example_with_holds() {
+        assert_eq!(held([0, 0, 0]), TABLE);
+        let plan = |holds| planned(held(holds).as_bytes());
+        assert_eq!(plan([1, 1, 1]), Ok(PLAN.into()));
+        assert_eq!(plan([0, 2, 1]), Ok(PLAN.into()));
+        let (soon, waits) = ("worst=2\njitter=0\nmargin=6000", "worst=7\njitter=5\nmargin=1000");
+        assert_eq!(plan([6, 2, 1]), Ok(PLAN.replace(soon, waits).into()));
+        assert_eq!(plan([0, 0, 2]), refused(8, 0));
+        // Task 12 above 11, which holds six ticks, just reaches a beta of 7000.
+        let beta = |beta| held([6, 2, 0]).replace("beta=8000\nhold=2", &format!("{beta}\nhold=2"));
+        assert_eq!(tasks_of(planned(beta("beta=7000").as_bytes())), ["12", "11", "13"]);
+        assert_eq!(planned(beta("beta=6999").as_bytes()), refused(8, 0));
+        // What 11 loses by going below 12 it does not lose by a hold of 12 below it.
+        let tight = held([0, 2, 0]).replacen("beta=8000", "beta=7999", 1);
+        assert_eq!(tasks_of(planned(tight.as_bytes())), ["11", "12", "13"]);
+    }
+
+    #[test]
+    fn the_reviewer_counts_the_ranks_below() {
+        let review = |holds, ranks: &str| reviewed((held(holds) + ranks).as_bytes());
+        let figures = "plan=1\nboard=7\ntasks=3\n\
+            rank=1\ntask=12\nbest=2\nworst=3\njitter=1\nmargin=5000\n\
+            rank=2\ntask=11\nbest=6\nworst=9\njitter=3\nmargin=-1000\n\
+            rank=3\ntask=13\nbest=17\nworst=35\njitter=18\nmargin=-14000\n";
+        let ranks = "rank=12\nrank=11\nrank=13\n";
+        assert_eq!(review([0, 0, 2], ranks), Ok(figures.into()));
+        assert!(review([0, 0, 15], ranks).is_ok());
+        assert_eq!(review([0, 0, 16], ranks), refused(7, 2));
+        assert_eq!(review([0, 0, 18], ranks), refused(7, 1));
+        assert_eq!(review([0, 0, 18], "rank=13\nrank=12\nrank=11\n"), refused(7, 2));
+    }
+
+    #[test]
+    fn the_line_of_the_hold() {
+        let refuses = |from: &str, to: &str, number, place| {
+            let text = changed(&[(from, to)]);
+            assert_eq!(planned(text.as_bytes()), refused(number, place), "{from} {to}");
+        };
+        let last = "beta=57000\nhold=0\n";
+        assert!(read_table(held([6, 2, 19]).as_bytes()).is_ok());
+        refuses("hold=0", "hold=7", 4, 9);
+        refuses(last, "beta=57000\nhold=20\n", 4, 23);
+        refuses("hold=0", "hold=1000000", 4, 9);
+        refuses("hold=0", "hold=1000001", 3, 9);
+        refuses("hold=0", "hold=999999999999", 3, 9);
+        refuses("hold=0", "hold=1000000000000", 2, 9);
+        for number in ["", "00", "06", "-1", "-0", "+6", "6 ", "6\r", "x", "=6"] {
+            refuses("hold=0", &format!("hold={number}"), 2, 9);
+        }
+        for line in ["Hold=0", "hold", "hold0", "holds=0", "hold =0", " hold=0", "", "beta=0"] {
+            refuses("hold=0", line, 1, 9);
+        }
+        refuses("hold=0\n", "", 1, 9);
+        refuses(last, "beta=57000\n", 1, 23);
+        refuses("hold=0\n", "hold=0\nhold=0\n", 1, 10);
+        refuses(last, "beta=57000\nhold=0\nhold=0\n", 1, 24);
+        refuses("beta=8000\nhold=0\n", "hold=0\nbeta=8000\n", 1, 8);
+        let old = TABLE.replace("hold=0\n", "");
+        assert_eq!(planned(old.as_bytes()), refused(1, 9));
+        let largest = "board=1\ntasks=1\ntask=1\nperiod=1000000\nworst=1000000\nbest=1\n\
+            alpha=1000\nbeta=0\nhold=";
+        assert!(read_table(format!("{largest}1000000\n").as_bytes()).is_ok());
+        assert_eq!(planned(format!("{largest}1000001\n").as_bytes()), refused(3, 9));
     }
 
     // ---- The crane ----------------------------------------------------------------------
@@ -634,7 +787,7 @@ mod tests {
         let unended = TABLE.strip_suffix('\n').unwrap();
         for between in ["", "\r", "\0", " ", "\u{b}", "\u{c}", "\u{2028}"] {
             let melted = format!("{unended}{between}{TABLE}");
-            assert_eq!(crane_says(&melted), refusal_says(2, 20));
+            assert_eq!(crane_says(&melted), refusal_says(2, 23));
         }
     }
 
@@ -643,7 +796,7 @@ mod tests {
         for line in ["board", "board7", "Board=7", " board=7", "\rboard=7", "board =7", "boards=7"]
         {
             let text = format!("{TABLE}{line}\n{TABLE}");
-            assert_eq!(crane_says(&text), refusal_says(1, 21) + PLAN);
+            assert_eq!(crane_says(&text), refusal_says(1, 24) + PLAN);
         }
     }
 
@@ -659,7 +812,7 @@ mod tests {
         assert_eq!(crane_says(&format!("{TABLE}board=")), format!("{PLAN}{}", refusal_says(1, 1)));
         assert_eq!(crane_says("\nboard="), refusal_says(1, 1).repeat(2));
         for end in ["b", "boa", "board"] {
-            assert_eq!(crane_says(&format!("{TABLE}{end}")), refusal_says(1, 21));
+            assert_eq!(crane_says(&format!("{TABLE}{end}")), refusal_says(1, 24));
         }
     }
 
@@ -677,7 +830,7 @@ mod tests {
         assert_eq!(craned(format!("{}board=", crane("", 32)).as_bytes()), refused(10, 0));
         assert_eq!(
             crane_says(&format!("{}boa", crane("", 32))),
-            PLAN.repeat(31) + &refusal_says(1, 21)
+            PLAN.repeat(31) + &refusal_says(1, 24)
         );
     }
 
@@ -686,11 +839,11 @@ mod tests {
         let broken = changed(&[("worst=2", "worst=19")]);
         assert_eq!(
             crane_says(&format!("{TABLE}{broken}{TABLE}")),
-            format!("{PLAN}{}{PLAN}", refusal_says(4, 11))
+            format!("{PLAN}{}{PLAN}", refusal_says(4, 12))
         );
         let unstable = changed(&[("57000", "54999")]);
         let twice = changed(&[("task=12", "task=11")]);
-        let pieces = [(unstable, 8, 0), (twice, 5, 9), (format!("{TABLE}rank=11\n"), 1, 21)];
+        let pieces = [(unstable, 8, 0), (twice, 5, 10), (format!("{TABLE}rank=11\n"), 1, 24)];
         for (piece, number, place) in pieces {
             let answer = refusal_says(number, place);
             assert_eq!(crane_says(&format!("{piece}{TABLE}")), format!("{answer}{PLAN}"));

@@ -3,6 +3,7 @@
 //!
 //! Sets of rows are bit masks. One byte a set says whether it has a stable order and which row is
 //! then the lowest; the search starts from the whole set, so only sets that matter are visited.
+//! What the lowest row of a set waits for is below it, and so outside the set: one number a set.
 
 use crate::model::{Answer, Refusal, Row};
 
@@ -49,7 +50,9 @@ impl Reader<'_> {
         self.refuse_if(best > worst, 4)?;
         let alpha = self.number(b"alpha=", 1_000, 100_000)?;
         let beta = self.number(b"beta=", 0, 200_000_000_000)?;
-        Ok(Row { task, period, worst, best, alpha, beta })
+        let hold = self.number(b"hold=", 0, 1_000_000)?;
+        self.refuse_if(hold > worst, 4)?;
+        Ok(Row { task, period, worst, best, alpha, beta, hold })
     }
 
     fn table(&mut self) -> Result<(u64, Vec<Row>), Refusal> {
@@ -151,11 +154,11 @@ impl<const COUNTED: bool> Above<COUNTED> {
         }
     }
 
-    fn latest(&mut self, row: &Row) -> Option<u64> {
+    fn latest(&mut self, row: &Row, wait: u64) -> Option<u64> {
         let mut time = row.worst;
         loop {
             self.count_a_sum();
-            let mut next = row.worst;
+            let mut next = row.worst + wait;
             for (period, worst) in self.period[..self.count].iter().zip(&self.worst) {
                 next += time.div_ceil(*period) * worst;
             }
@@ -184,12 +187,18 @@ impl<const COUNTED: bool> Above<COUNTED> {
         }
     }
 
-    fn figures(&mut self, row: &Row) -> Option<Figures> {
-        let worst = self.latest(row)?;
-        let best = self.earliest(row, worst);
+    /// The figures of a row that waits so long for what is below it.
+    fn figures(&mut self, row: &Row, wait: u64) -> Option<Figures> {
+        let worst = self.latest(row, wait)?;
+        let best = if row.hold < 2 { self.earliest(row, worst) } else { row.best };
         let cost = 1_000 * best + row.alpha * (worst - best);
         Some(Figures { best, worst, margin: row.beta as i64 - cost as i64 })
     }
+}
+
+/// What a row waits for the rows below it.
+fn wait_for<'a>(below: impl Iterator<Item = &'a Row>) -> u64 {
+    below.fold(0, |largest, row| row.hold.max(largest)).saturating_sub(1)
 }
 
 // ---- The search -------------------------------------------------------------------------
@@ -209,19 +218,21 @@ impl<const COUNTED: bool> Search<'_, COUNTED> {
     }
 
     fn find_lowest(&mut self, set: usize) -> u8 {
+        let outside = self.rows.iter().enumerate().filter(|(index, _)| set >> index & 1 == 0);
+        let wait = wait_for(outside.map(|(_, row)| row));
         for index in 0..self.rows.len() {
             let rest = set & !(1 << index);
             let may_go = rest != set && self.lowest[rest] != NONE;
-            if may_go && self.is_stable(index, rest) && self.has_order(rest) {
+            if may_go && self.is_stable(index, rest, wait) && self.has_order(rest) {
                 return index as u8;
             }
         }
         NONE
     }
 
-    fn is_stable(&mut self, index: usize, rest: usize) -> bool {
+    fn is_stable(&mut self, index: usize, rest: usize, wait: u64) -> bool {
         self.above.fill(self.rows, rest);
-        self.above.figures(&self.rows[index]).is_some_and(|figures| figures.margin >= 0)
+        self.above.figures(&self.rows[index], wait).is_some_and(|figures| figures.margin >= 0)
     }
 
     /// The order, highest rank first, read off the table of sets from the lowest up.
@@ -269,9 +280,10 @@ fn plan_text(board: u64, rows: &[Row], order: &[usize]) -> Result<Vec<u8>, Refus
     push_line(&mut text, b"board=", board);
     push_line(&mut text, b"tasks=", rows.len() as u64);
     let mut above = Above::<false>::new();
-    for (&index, rank) in order.iter().zip(1..) {
-        let row = &rows[index];
-        let figures = above.figures(row).ok_or(Refusal { number: 7, place: rank })?;
+    for (at, &index) in order.iter().enumerate() {
+        let (row, rank) = (&rows[index], at as u64 + 1);
+        let wait = wait_for(order[at + 1..].iter().map(|&index| &rows[index]));
+        let figures = above.figures(row, wait).ok_or(Refusal { number: 7, place: rank })?;
         push_line(&mut text, b"rank=", rank);
         push_line(&mut text, b"task=", row.task);
         push_line(&mut text, b"best=", figures.best);

@@ -1,21 +1,21 @@
 #!/usr/bin/env python3
 """The stored texts of the test program table_cases, and what each must read as.
 
-The answers come from the model below, a plain parser by splitting, written from document 01 alone; nothing of the
-proved reader is used. Run it from anywhere:
+The answers come from the model below, a plain parser by splitting, written from document 01 and request 2 alone;
+nothing of the proved reader is used. Run it from anywhere:
 
     python3 docs/src/table_cases.py --write
 
 It then writes crates/table_cases/stdin and stdout. In stdin each text stands after two lines, `length=`
 with its number of bytes and `ranked=` with 1 where rank lines are expected and 0 where not. In stdout each text has a
-line: the refusal's number and its line, or 0 and 0, then the board, the six numbers of each row, and the ranks. The
+line: the refusal's number and its line, or 0 and 0, then the board, the seven numbers of each row, and the ranks. The
 last line says how many texts there are. `--list` prints each case's name with its answer, and writes nothing.
 """
 import re
 import sys
 from pathlib import Path
 
-# ---- the model: document 01, "The table and the plan" and "Turned down because of the input"
+# ---- the model: document 01, "The table and the plan" and "Turned down because of the input"; document 02, request 2
 
 RANGES = {
     "board": (1, 65_535),
@@ -26,9 +26,11 @@ RANGES = {
     "best": (1, 1_000_000),
     "alpha": (1_000, 100_000),
     "beta": (0, 200_000_000_000),
+    "hold": (0, 1_000_000),
     "rank": (1, 65_535),
 }
-ROW_KEYS = ["task", "period", "worst", "best", "alpha", "beta"]
+ROW_KEYS = ["task", "period", "worst", "best", "alpha", "beta", "hold"]
+AT_MOST = {"worst": "period", "best": "worst", "hold": "worst"}  # refusal 4 above it
 NUMBER = re.compile(rb"0|[1-9][0-9]{0,11}")
 
 
@@ -62,7 +64,7 @@ def read(text, ranked):
         row = {}
         for key in ROW_KEYS:
             value = number(key)
-            if key == "worst" and value > row["period"] or key == "best" and value > row["worst"]:
+            if key in AT_MOST and value > row[AT_MOST[key]]:
                 raise Refused(4, taken)
             if key == "task" and any(value == other["task"] for other in rows):
                 raise Refused(5, taken)
@@ -104,10 +106,10 @@ def lined(lines):
 
 
 def table(rows, ranks=(), board=7, tasks=None):
-    """The lines of a table: six numbers to a row."""
+    """The lines of a table: seven numbers to a row, the last 0 where six are given."""
     lines = [b"board=%d" % board, b"tasks=%d" % (len(rows) if tasks is None else tasks)]
     for row in rows:
-        lines += [b"%s=%d" % (key.encode(), value) for key, value in zip(ROW_KEYS, row)]
+        lines += [b"%s=%d" % (key.encode(), value) for key, value in zip(ROW_KEYS, (*row, 0))]
     return lines + [b"rank=%d" % rank for rank in ranks]
 
 
@@ -218,7 +220,7 @@ case("a byte after twelve ranks", lined(table(TWELVE, ORDER)) + b"r", True)
 
 # line ends and other bytes
 case("CR LF throughout", lined(table(ONE)).replace(b"\n", b"\r\n"))
-case("CR LF at the last line", lined(table(ONE)[:-1]) + b"beta=0\r\n")
+case("CR LF at the last line", lined(table(ONE)[:-1]) + b"hold=0\r\n")
 case("CR alone", lined(table(ONE)).replace(b"\n", b"\r"))
 case("an empty line first", b"\n" + lined(table(ONE)))
 case("an empty line between", lined(changed(table(ONE), 3, b"\ntask=5")))
@@ -243,21 +245,53 @@ for key in (b"tas=5", b"task", b"task5", b"tasks=5", b"rank=5", b"Task=5", b"tak
 case("'task=1' for tasks=1", lined(changed(table(ONE), 2, b"task=1")))
 case("'ranks=5' for rank=5", lined(table(ONE) + [b"ranks=5"]), True)
 case("'task=5' for rank=5", lined(table(ONE) + [b"task=5"]), True)
-case("best before worst", lined(table(ONE)[:4] + [b"best=7", b"worst=8", b"alpha=1000", b"beta=0"]))
-case("alpha for best", lined(table(ONE)[:5] + [b"alpha=1000", b"beta=0"]))
+case("best before worst", lined(table(ONE)[:4] + [b"best=7", b"worst=8", b"alpha=1000", b"beta=0", b"hold=0"]))
+case("alpha for best", lined(table(ONE)[:5] + [b"alpha=1000", b"beta=0", b"hold=0"]))
 
-# numbers that are nearly right, on the first line and on the last
+# numbers that are nearly right, on the first line, on the beta and on the last line
 for number in (b"+7", b"-7", b"-0", b"00", b"0", b"7 ", b" 7", b"7.0", b"7e1", b"0x7", b"7_0", b"7,0", b"=7", b"7=7",
                b"a", b"/", b":", b"100000000000", b"999999999999", b"1000000000000", b"0000000000007",
                b"000000000007", b"18446744073709551623", b"7" * 40):
     case(f"board={number.decode()}", lined(changed(table(ONE), 1, b"board=" + number)))
     case(f"beta={number.decode()}", lined(changed(table(ONE), 8, b"beta=" + number)))
+    case(f"hold={number.decode()}", lined(changed(table(ONE), 9, b"hold=" + number)))
 
 # the first fault ends the reading
 case("no key and no number: 1", lined(changed(table(ONE), 3, b"tusk=x")))
 case("no number and no range: 2", lined(changed(table(ONE), 3, b"task=00000")))
 case("two lines out of range: the first", lined(table([(5, 0, 8, 7, 0, 0)])))
 case("a wrong number and no last feed: the number", lined(changed(table(ONE), 4, b"period=x"))[:-1])
+
+# the line of the hold, request 2
+for hold in (0, 1, 2, 999_999, 1_000_000, 1_000_001):
+    case(f"hold {hold} where worst is the highest", lined(table([(5, 1_000_000, 1_000_000, 1, 1000, 0, hold)])))
+    case(f"hold {hold} where worst is 2", lined(table([(5, 9, 2, 1, 1000, 0, hold)])))
+case("hold = worst = best", lined(table([(5, 9, 7, 7, 1000, 0, 7)])))
+case("hold above best, within worst", lined(table([(5, 9, 8, 7, 1000, 0, 8)])))
+case("hold = worst + 1, within the period", lined(table([(5, 10, 8, 7, 1000, 0, 9)])))
+case("hold = period = worst + 1", lined(table([(5, 9, 8, 7, 1000, 0, 9)])))
+case("hold above its own worst, not above another's", lined(table([(5, 9, 8, 7, 1000, 0, 9)] + TWO[1:])))
+case("hold above another's worst, not above its own", lined(table(ONE + [(6, 90, 80, 70, 2000, 100, 80)])))
+for i, row in enumerate(FOUR):
+    held = [other + (other[2],) for other in FOUR[:i]]
+    case(f"hold = worst up to row {i + 1}", lined(table(held + [row + (row[2],)])))
+    case(f"hold > worst in row {i + 1}", lined(table(held + [row + (row[2] + 1,)], tasks=4)))
+    case(f"hold above its range in row {i + 1}", lined(table(held + [row + (1_000_001,)], tasks=4)))
+HELD = [row + (row[2] - i,) for i, row in enumerate(TWELVE)]
+case("twelve rows that hold, and twelve ranks", lined(table(HELD, ORDER)), True)
+case("the twelfth hold > worst", lined(table(TWELVE[:11] + [TWELVE[11] + (512,)], ORDER)), True)
+case("the table of document 01 as it stood, without a hold", lined(line for line in table(PAPER) if line != b"hold=0"))
+case("the last hold is missing, a rank stands there", lined(table(ONE)[:-1] + [b"rank=5"]), True)
+case("the hold of the first row is missing", lined(table(TWO)[:8] + table(TWO)[9:]))
+case("the hold twice", lined(table(TWO)[:9] + [b"hold=0"] + table(TWO)[9:]))
+case("the last hold twice", lined(table(ONE) + [b"hold=0"]))
+case("hold before beta", lined(table(ONE)[:7] + [b"hold=0", b"beta=0"]))
+case("hold after best", lined(table(ONE)[:6] + [b"hold=0", b"alpha=1000", b"beta=0"]))
+case("beta for hold", lined(changed(table(ONE), 9, b"beta=0")))
+for key in (b"Hold=0", b"hold", b"hold0", b"holds=0", b"hol=0", b"hold =0", b" hold=0", b"hold:0", b"", b"=0"):
+    case(f"{key.decode()!r} for hold=0", lined(changed(table(ONE), 9, key)))
+case("hold=1000000 with best above worst before it: the first fault", lined(table([(5, 9, 7, 8, 1000, 0, 1_000_000)])))
+case("hold > worst and a task used before: the hold's line comes first", lined(table([(5, 9, 8, 7, 1000, 0, 9)] * 2)))
 
 
 # ---- the two files

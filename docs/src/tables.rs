@@ -1,5 +1,5 @@
-//! Random tables of tasks: several families of periods, loads up to the whole processor, and
-//! betas that stand exactly on a margin of 0 or one beside it.
+//! Random tables of tasks: several families of periods, loads up to the whole processor, holds of
+//! many kinds, and betas that stand exactly on a margin of 0 or one beside it.
 
 use crate::dice::Dice;
 use crate::model::{self, Row};
@@ -96,10 +96,36 @@ fn task_numbers(dice: &mut Dice, count: usize) -> Vec<u64> {
     numbers
 }
 
-/// The beta at which a row's margin below `above` is 0; none if it is late there.
-pub fn boundary(row: &Row, above: &[&Row]) -> Option<u64> {
+/// A hold of some kind that the worst time allows.
+fn hold(dice: &mut Dice, worst: u64) -> u64 {
+    match dice.below(8) {
+        0 => 0,
+        1 => 1,
+        2 => worst.min(2),
+        3 => worst,
+        4 => worst - 1,
+        5 => dice.between(0, worst),
+        _ => dice.any_size(worst.min(8)),
+    }
+}
+
+/// Holds of a table: in one row only, small in all, the whole of each job, or mixed.
+fn set_holds(dice: &mut Dice, rows: &mut [Row]) {
+    let (kind, only) = (dice.below(6), dice.below(rows.len()));
+    for (index, row) in rows.iter_mut().enumerate() {
+        row.hold = match kind {
+            0 if index != only => 0,
+            1 => dice.between(0, 2).min(row.worst),
+            2 => row.worst,
+            _ => hold(dice, row.worst),
+        };
+    }
+}
+
+/// The beta at which a row's margin between `above` and `below` is 0; none if it is late there.
+pub fn boundary(row: &Row, above: &[&Row], below: &[&Row]) -> Option<u64> {
     let free = Row { beta: 0, ..*row };
-    model::figures(&free, above).map(|figures| figures.margin.unsigned_abs())
+    model::figures(&free, above, below).map(|figures| figures.margin.unsigned_abs())
 }
 
 /// The boundary itself most of the time, else a little above it.
@@ -123,26 +149,33 @@ fn set_betas_by_order(dice: &mut Dice, rows: &mut [Row]) {
     if !dice.once_in(4) {
         order.sort_by_key(|&index| rows[index].period);
     }
-    let ranked: Vec<Row> = order.iter().map(|&index| rows[index]).collect();
+    let copies = rows.to_vec();
+    let ranked: Vec<&Row> = order.iter().map(|&index| &copies[index]).collect();
     for (rank, &index) in order.iter().enumerate() {
-        let above: Vec<&Row> = ranked[..rank].iter().collect();
-        rows[index].beta = at_least(dice, boundary(&ranked[rank], &above));
+        let boundary = boundary(ranked[rank], &ranked[..rank], &ranked[rank + 1..]);
+        rows[index].beta = at_least(dice, boundary);
     }
+}
+
+/// The boundary of a row below some set of the other rows, the rest of them below it.
+pub fn boundary_at_random(dice: &mut Dice, rows: &[Row], index: usize) -> Option<u64> {
+    let set = dice.next();
+    let others = (0..rows.len()).filter(|&other| other != index);
+    let (above, below): (Vec<usize>, Vec<usize>) = others.partition(|other| set >> other & 1 == 1);
+    let named = |set: Vec<usize>| set.into_iter().map(|other| &rows[other]).collect::<Vec<_>>();
+    boundary(&rows[index], &named(above), &named(below))
 }
 
 /// Each beta at the boundary below some set of the other rows.
 fn set_betas_by_sets(dice: &mut Dice, rows: &mut [Row]) {
     let others = rows.to_vec();
-    for index in 0..rows.len() {
-        let set = dice.next();
-        let above = |&(other, _): &(usize, &Row)| other != index && set >> other & 1 == 1;
-        let above: Vec<&Row> =
-            others.iter().enumerate().filter(above).map(|(_, row)| row).collect();
-        rows[index].beta = at_least(dice, boundary(&others[index], &above));
+    for (index, row) in rows.iter_mut().enumerate() {
+        let boundary = boundary_at_random(dice, &others, index);
+        row.beta = at_least(dice, boundary);
     }
 }
 
-/// Rows whose betas are no limit.
+/// Rows whose betas are no limit, and without holds.
 fn loose_rows(dice: &mut Dice, family: Family, count: usize) -> Vec<Row> {
     let mut periods = periods(dice, family, count);
     dice.shuffle(&mut periods);
@@ -156,6 +189,7 @@ fn loose_rows(dice: &mut Dice, family: Family, count: usize) -> Vec<Row> {
         best: best(dice, worst),
         alpha: alpha(dice),
         beta: MOST_BETA,
+        hold: 0,
     };
     columns.map(row).collect()
 }
@@ -166,9 +200,10 @@ fn some_task_gains(rows: &[Row]) -> bool {
     ranked.sort_by_key(|row| row.period);
     let gains = |rank: usize, gone: usize| {
         let fewer = [&ranked[..gone], &ranked[gone + 1..rank]].concat();
-        let cost = boundary(ranked[rank], &ranked[..rank]);
+        let below = &ranked[rank + 1..];
+        let cost = boundary(ranked[rank], &ranked[..rank], below);
         cost.is_some_and(|cost| {
-            boundary(ranked[rank], &fewer).is_some_and(|without| cost < without)
+            boundary(ranked[rank], &fewer, below).is_some_and(|without| cost < without)
         })
     };
     (1..ranked.len()).any(|rank| (0..rank).any(|gone| gains(rank, gone)))
@@ -187,8 +222,7 @@ fn set_betas(dice: &mut Dice, rows: &mut [Row]) {
     }
 }
 
-/// Rows of a table; with `loose` betas an order is stable as soon as no task in it is late.
-pub fn rows(dice: &mut Dice, family: Family, count: usize, loose: bool) -> Vec<Row> {
+fn drawn(dice: &mut Dice, family: Family, count: usize) -> Vec<Row> {
     let mut rows = loose_rows(dice, family, count);
     if family == Crossing {
         let mut draws = 1;
@@ -197,6 +231,26 @@ pub fn rows(dice: &mut Dice, family: Family, count: usize, loose: bool) -> Vec<R
             draws += 1;
         }
     }
+    rows
+}
+
+/// Rows of a table of document 01; with `loose` betas an order is stable as soon as no task in it
+/// is late.
+pub fn rows_without_holds(dice: &mut Dice, family: Family, count: usize, loose: bool) -> Vec<Row> {
+    let mut rows = drawn(dice, family, count);
+    if !loose {
+        set_betas(dice, &mut rows);
+    }
+    rows
+}
+
+/// The same, with holds in three tables of four.
+pub fn rows(dice: &mut Dice, family: Family, count: usize, loose: bool) -> Vec<Row> {
+    if dice.once_in(4) {
+        return rows_without_holds(dice, family, count, loose);
+    }
+    let mut rows = drawn(dice, family, count);
+    set_holds(dice, &mut rows);
     if !loose {
         set_betas(dice, &mut rows);
     }
@@ -206,9 +260,9 @@ pub fn rows(dice: &mut Dice, family: Family, count: usize, loose: bool) -> Vec<R
 /// The table as text.
 pub fn text(board: u64, rows: &[Row]) -> Vec<u8> {
     let mut text = format!("board={board}\ntasks={}\n", rows.len());
-    for Row { task, period, worst, best, alpha, beta } in rows {
+    for Row { task, period, worst, best, alpha, beta, hold } in rows {
         text += &format!("task={task}\nperiod={period}\nworst={worst}\n");
-        text += &format!("best={best}\nalpha={alpha}\nbeta={beta}\n");
+        text += &format!("best={best}\nalpha={alpha}\nbeta={beta}\nhold={hold}\n");
     }
     text.into_bytes()
 }

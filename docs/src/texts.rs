@@ -10,13 +10,23 @@ const EDGES: &str = "0 1 2 12 13 999 1000 65535 65536 99999 100000 100001 999999
     200000000000 200000000001 999999999999 1000000000000 0000000000001 4294967297 \
     18446744073709551617 00 01";
 
-const KEYS: [&str; 12] = [
-    "board", "tasks", "task", "period", "worst", "best", "alpha", "beta", "rank", "Board", "plan",
-    "",
+const KEYS: [&str; 14] = [
+    "board", "tasks", "task", "period", "worst", "best", "alpha", "beta", "hold", "rank", "Board",
+    "Hold", "plan", "",
 ];
 
-const TAILS: [&[u8]; 9] =
-    [b"\n", b"x", b"\0", b"rank=1\n", b"task=1\n", b"board=7\n", b"rank=1", b"\r\n", b"\xff\xfe"];
+const TAILS: [&[u8]; 10] = [
+    b"\n",
+    b"x",
+    b"\0",
+    b"rank=1\n",
+    b"task=1\n",
+    b"hold=0\n",
+    b"board=7\n",
+    b"rank=1",
+    b"\r\n",
+    b"\xff\xfe",
+];
 
 const BEFORE_NUMBER: [&[u8]; 7] = [b"0", b"+", b"-", b" ", b"=", b"0x", b"\xc2\xa0"];
 const AFTER_NUMBER: [&[u8]; 9] =
@@ -93,7 +103,13 @@ fn set_a_number_from_another(dice: &mut Dice, lines: &mut [Vec<u8>]) {
         let at = dice.below(lines.len());
         (at, at.saturating_sub(1))
     };
-    let (Some((key, _)), Some((_, number))) = (parts(&lines[at]), parts(&lines[from])) else {
+    copy_a_number(dice, lines, at, at - from);
+}
+
+/// Puts the number of the line so many lines before it, plus 0 or 1, on a line.
+fn copy_a_number(dice: &mut Dice, lines: &mut [Vec<u8>], at: usize, back: usize) {
+    let (key, number) = (parts(&lines[at]), parts(&lines[at.saturating_sub(back)]));
+    let (Some((key, _)), Some((_, number))) = (key, number) else {
         return;
     };
     let Ok(number) = String::from_utf8_lossy(number).parse::<u64>() else {
@@ -101,6 +117,27 @@ fn set_a_number_from_another(dice: &mut Dice, lines: &mut [Vec<u8>]) {
     };
     let number = number.saturating_add(dice.between(0, 1));
     lines[at] = joined(key, number.to_string().as_bytes());
+}
+
+/// The line of a hold: at its limits, at the worst time or one past it, from a line of another key,
+/// before its beta, twice, or gone, of one row or of all as in a table from before the holds.
+fn damage_a_hold(dice: &mut Dice, lines: &mut Vec<Vec<u8>>) {
+    let holds = (0..lines.len()).filter(|&at| lines[at].starts_with(b"hold="));
+    let holds: Vec<usize> = holds.collect();
+    if holds.is_empty() {
+        return;
+    }
+    let at = dice.pick(&holds);
+    match dice.below(10) {
+        0 => lines[at] = dice.pick(&["hold=1000000\n", "hold=1000001\n"]).into(),
+        1..=3 => copy_a_number(dice, lines, at, 4),
+        4 => copy_a_number(dice, lines, at, 1),
+        5 => copy_a_number(dice, lines, at, 5),
+        6 => lines.swap(at, at.saturating_sub(1)),
+        7 => lines.insert(at, lines[at].clone()),
+        8 => drop(lines.remove(at)),
+        _ => lines.retain(|line| !line.starts_with(b"hold=")),
+    }
 }
 
 /// Takes a number away, or puts something before or after it.
@@ -170,7 +207,7 @@ fn remove_a_byte(dice: &mut Dice, text: &mut Vec<u8>) {
 
 /// Damages the text in one way.
 pub fn damage(dice: &mut Dice, text: &mut Vec<u8>) {
-    match dice.below(16) {
+    match dice.below(17) {
         0 => text.truncate(dice.below(text.len() + 1)),
         1 | 2 => change_a_byte(dice, text),
         3 => insert_a_byte(dice, text),
@@ -186,6 +223,7 @@ pub fn damage(dice: &mut Dice, text: &mut Vec<u8>) {
             0 => end_lines_with_cr(dice, lines),
             _ => change_a_key(dice, lines),
         }),
+        15 => with_lines(text, |lines| damage_a_hold(dice, lines)),
         _ => text.extend_from_slice(dice.pick(&TAILS)),
     }
 }
