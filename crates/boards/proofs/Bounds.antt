@@ -50,7 +50,7 @@ module _ (order : List Row) (offset : ℕ → ℕ) (need : ℕ → ℕ → ℕ) 
             let w = x .latest-fixed (timely i l) in
             let e = x .earliest-fixed h (timely i l) in
             kept-early order offset need keeps rows lasts i r f (earliestAt order i) (t .period) l h (e .1)
-            (le-trans (e .2) (w .2)) (le-of-eq (e .0)) started done)
+            (le-trans (e .2) (w .2)) (le-of-eq (e .0)) (λ j b. omega (arith, started j b)) done)
         | inr h ↦ rw (x .earliest-held h) (kept-own order offset need keeps rows lasts i r f l done)
       ]
 

@@ -1,21 +1,19 @@
 -- With every hold 0 or 1 no stretch has a second tick, so every tick goes by rank, and the run is that of document 01's
 -- board.
 use mathlib.Core.Path.{_≡_, refl, sym, ap, ap₂, _∙_}
-use mathlib.Core.Bool.{Bool, true, false, _&&_}
+use mathlib.Core.Bool.{Bool}
 use mathlib.Core.List.{List, [], _∷_, _++_}
 use mathlib.Core.Logic.{inl, inr}
 use Prim.Native.Nat.{ℕ, zero, suc, _+_}
 use native.Mathlib.Omega.{arith}
 use native.Mathlib.Nat.{add-zero, zero-add}
-use lib.Dec.{leb}
-use Rattle.basics.specs.Basics.{pick}
 use Rattle.basics.proofs.Tests.{le-or-lt}
 use Rattle.rows.specs.declared.Row.{Row}
 use Rattle.responses.specs.Claims.{NoneHolds}
 use Rattle.boards.specs.Boards.{Job, withReleases, highest, queueAt, workedAt, finishing}
 use Rattle.boards.specs.Document01.{afterWork, finishes, pendingThen, finishedThen, SameBoard}
-use Rattle.boards.proofs.Queues.{queue-there, not-ended}
-use Rattle.boards.proofs.Stretches.{holdOf, boardBefore, queuesIn, runsIn, ranks-in, runs-new, left-after}
+use Rattle.boards.proofs.Queues.{queue-there, goes-on}
+use Rattle.boards.proofs.Stretches.{boardBefore, queuesIn, runsIn, ranks-in, runs-new, off, left-new, not-ended}
 
 -- ---- a tick of document 01's board is one of the highest rank with a job
 work-is : (qs : List (List Job)) → afterWork qs ≡ workedAt (highest qs) qs
@@ -31,10 +29,6 @@ finishes-is i t ([] ∷ qs) =
     rw s (finishes-is (suc i) t qs)
 finishes-is i t ((x ∷ q) ∷ qs) = rw add-zero
 
-off-of : (k : Bool) (n : ℕ) → n ≡ 0 → (k && leb 1 n) ≡ false
-off-of true n e = rw e
-off-of false n e = refl
-
 module _ (order : List Row) (offset : ℕ → ℕ) (need : ℕ → ℕ → ℕ) (keeps : ℕ → Bool) (short : NoneHolds order) where
   -- ---- no stretch has a tick left
   none-left : (t : ℕ) → boardBefore order offset need keeps t .left ≡ 0
@@ -43,18 +37,15 @@ module _ (order : List Row) (offset : ℕ → ℕ) (need : ℕ → ℕ → ℕ) 
     | inl h ↦ (
         let m = runsIn order offset need keeps t in
         let qs = queuesIn order offset need keeps t in
-        let n = left-after order offset need keeps t h in
-        let before = boardBefore order offset need keeps t .left in
-        let new = ap (λ (b : Bool). pick b before (holdOf order m)) (off-of (keeps t) before (none-left t)) in
-        let under = queue-there qs m (not-ended (queueAt qs m) (n .0)) in
-        absurd (omega (arith, n .1 ∙ new, short m (omega (arith, ranks-in order offset need keeps t)))))
+        let e = not-ended order offset need keeps t h in
+        let under = queue-there qs m (goes-on (queueAt qs m) e) in
+        let one = short m (omega (arith, ranks-in order offset need keeps t)) in
+        absurd (omega (arith, left-new order offset need keeps t e (off order offset need keeps t (none-left t)))))
     | inr h ↦ omega (arith, h)
   ]
 
   by-rank : (t : ℕ) → runsIn order offset need keeps t ≡ highest (queuesIn order offset need keeps t)
-  by-rank t =
-      let before = boardBefore order offset need keeps t .left in
-      runs-new order offset need keeps t (off-of (keeps t) before (none-left t))
+  by-rank t = runs-new order offset need keeps t (off order offset need keeps t (none-left t))
 
   -- ---- tick by tick, the same jobs are pending and the same are finished
   pending-same : (t : ℕ) → boardBefore order offset need keeps t .pending ≡ pendingThen order offset need t

@@ -1,4 +1,5 @@
--- The board theorem: a run of an order in which no task is late keeps each rank's responses.
+-- The board theorem: a run of an order in which no task is late keeps each rank's responses. And every run is the one
+-- schedule by the rules.
 pub mod Sums
 pub mod Releases
 pub mod Service

@@ -1,13 +1,13 @@
 -- A board's queues, rank by rank: a tick adds at most one job to each queue, and works on one. What it finishes is the
 -- oldest job of that queue, in the job's last tick.
 use mathlib.Core.Path.{_≡_, refl, sym, ap, subst, _∙_}
-use mathlib.Core.Bool.{true, false, _||_, _&&_, or-assoc, or-false}
+use mathlib.Core.Bool.{Bool, true, false, _||_, _&&_, or-assoc, or-false}
 use mathlib.Core.List.{List, [], _∷_, _++_}
 use mathlib.Core.Logic.{inl, inr}
 use Prim.Native.Nat.{ℕ, zero, suc, _+_, _-_, _/_, _≤_, _<_}
 use native.Mathlib.Omega.{arith}
 use native.Mathlib.Nat.{add-zero, le-of-suc-le-suc, not-suc-le-zero, suc-inj}
-use lib.Dec.{eqb, leb, eqb·suc-suc}
+use lib.Dec.{eqb, eqb·suc-suc}
 use lib.ListN.{length}
 use borrow.Author.Tests.{eqb-true, eq-eqb, leb-true, le-leb}
 use Rattle.basics.specs.Basics.{pick}
@@ -35,9 +35,9 @@ queue-there (q ∷ qs) zero h = omega arith
 queue-there (q ∷ qs) (suc j) h = omega (arith, queue-there qs j h)
 
 -- a queue has one still where its oldest goes on, and where a task releases
-pub not-ended : (q : List Job) → ends q ≡ false → HasJob q
-not-ended [] e = absurd (true-not-false true refl e)
-not-ended (x ∷ q) e = (x, q, refl)
+pub goes-on : (q : List Job) → ends q ≡ false → HasJob q
+goes-on [] e = absurd (true-not-false true refl e)
+goes-on (x ∷ q) e = (x, q, refl)
 
 pub worked-has : (q : List Job) → ends q ≡ false → HasJob (worked q)
 worked-has [] e = absurd (true-not-false true refl e)
@@ -94,11 +94,6 @@ highest-at ((x ∷ q) ∷ qs) zero e l = (x, q, refl)
 highest-at ((x ∷ q) ∷ qs) (suc j) e l = absurd (omega arith)
 
 -- ---- a tick of rank m: work on its queue, and on no other
-pub length-worked : (m : ℕ) (qs : List (List Job)) → length (workedAt m qs) ≡ length qs
-length-worked m [] = refl
-length-worked zero (q ∷ qs) = refl
-length-worked (suc m) (q ∷ qs) = ap suc (length-worked m qs)
-
 pub worked-same : (m : ℕ) (qs : List (List Job)) → queueAt (workedAt m qs) m ≡ worked (queueAt qs m)
 worked-same m [] = refl
 worked-same zero (q ∷ qs) = refl
@@ -110,6 +105,11 @@ worked-other zero zero (q ∷ qs) e = absurd (true-not-false true refl e)
 worked-other zero (suc j) (q ∷ qs) e = refl
 worked-other (suc m) zero (q ∷ qs) e = refl
 worked-other (suc m) (suc j) (q ∷ qs) e = worked-other m j qs (rw eqb·suc-suc at e)
+
+pub length-worked : (m : ℕ) (qs : List (List Job)) → length (workedAt m qs) ≡ length qs
+length-worked m [] = refl
+length-worked zero (q ∷ qs) = refl
+length-worked (suc m) (q ∷ qs) = ap suc (length-worked m qs)
 
 -- ---- finishes
 pub done-append : (i r f : ℕ) (xs ys : List Done) → isDone i r f (xs ++ ys) ≡ (isDone i r f xs || isDone i r f ys)
@@ -128,24 +128,32 @@ pub record Ends (i r f m t : ℕ) (q : List Job) : Type 0 where
   pub finish-is : f ≡ suc t
   pub last : job .needs ≤ 1
 
+one-done : (i r f : ℕ) (b : Bool) (d : Done) → isDone i r f (pick b (d ∷ []) []) ≡ true
+    → (b ≡ true) × (i ≡ d .rank) × (r ≡ d .release) × (f ≡ d .finish)
+one-done i r f true d e =
+    let at-once = eqb r (d .release) && eqb f (d .finish) in
+    let all : (eqb i (d .rank) && at-once) ≡ true = sym (or-false (eqb i (d .rank) && at-once)) ∙ e in
+    let after : at-once ≡ true = and-right (eqb i (d .rank)) at-once all in (
+      refl,
+      eqb-true i (d .rank) (and-left (eqb i (d .rank)) at-once all),
+      eqb-true r (d .release) (and-left (eqb r (d .release)) (eqb f (d .finish)) after),
+      eqb-true f (d .finish) (and-right (eqb r (d .release)) (eqb f (d .finish)) after),
+    )
+one-done i r f false d e = absurd (true-not-false false e refl)
+
 done-ends : (i r f m t : ℕ) (q : List Job) → isDone i r f (finishing m t q) ≡ true → Ends i r f m t q
 done-ends i r f m t [] e = absurd (true-not-false false e refl)
-done-ends i r f m t (x ∷ q) e = elim (test-of (leb (x .needs) 1)) [
-  | inl l ↦ (
-      let at-once = eqb r (x .release) && eqb f (suc t) in
-      let all : (eqb i m && at-once) ≡ true = sym (or-false (eqb i m && at-once)) ∙ (rw l at e) in
-      let after : at-once ≡ true = and-right (eqb i m) at-once all in
-      record {
-        job = x;
-        others = q;
-        is = refl;
-        rank-is = eqb-true i m (and-left (eqb i m) at-once all);
-        release-is = eqb-true r (x .release) (and-left (eqb r (x .release)) (eqb f (suc t)) after);
-        finish-is = eqb-true f (suc t) (and-right (eqb r (x .release)) (eqb f (suc t)) after);
-        last = leb-true (x .needs) 1 l;
-      })
-  | inr l ↦ absurd (true-not-false false (rw l at e) refl)
-]
+done-ends i r f m t (x ∷ q) e =
+    let d = one-done i r f (ends (x ∷ q)) (record { rank = m; release = x .release; finish = suc t }) e in
+    record {
+      job = x;
+      others = q;
+      is = refl;
+      rank-is = d .1;
+      release-is = d .2;
+      finish-is = d .3;
+      last = leb-true (x .needs) 1 (d .0);
+    }
 
 -- of a board's queues, in a tick of rank m
 pub ends-tick : (qs : List (List Job)) (m i r f t : ℕ) → isDone i r f (finishing m t (queueAt qs m)) ≡ true

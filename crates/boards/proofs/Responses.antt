@@ -29,7 +29,7 @@ use Rattle.boards.proofs.Stretches.{runsIn, beganIn, holdOf}
 use Rattle.boards.proofs.Traces.{releaseOf, releasedOf, workOf, trace, unserved, served-after}
 use Rattle.boards.proofs.Traces.{finish-of, of-finish, finish-once}
 use Rattle.boards.proofs.Ranks.{bestPart, best-above, hold-below}
-use Rattle.boards.proofs.Windows.{periods, needs, window-most, window-least, window-above}
+use Rattle.boards.proofs.Windows.{periods, needs, needs-best, window-most, window-least, window-above}
 
 module _ (order : List Row) (offset : ℕ → ℕ) (need : ℕ → ℕ → ℕ) (keeps : ℕ → Bool)
     (ok : (j : ℕ) → j < length order → Times (rowAt order j)) (lasts : LastsInRange order need) where
@@ -54,7 +54,7 @@ module _ (order : List Row) (offset : ℕ → ℕ) (need : ℕ → ℕ → ℕ) 
   abbrev need-some : (j k : ℕ) → j < length order → 1 ≤ need j k
   need-some = needs order offset need ok lasts
 
-  pub run : Run (length order) holds runs began work
+  run : Run (length order) holds runs began work
   run = trace order offset need keeps period-some need-some
 
   unserved-till : (j k t : ℕ) → j < length order → t ≤ release j k → service runs j t ≤ needed (need j) k
@@ -69,7 +69,7 @@ module _ (order : List Row) (offset : ℕ → ℕ) (need : ℕ → ℕ → ℕ) 
     abbrev blocked : ℕ
     blocked = blocking (rowsBelow order i)
 
-    -- all ticks but the block go to rank i and those above
+    -- all ticks but the blocking time go to rank i and those above
     busy-for : (d : ℕ) → z .tick + d ≤ limit
         → workAbove work i (z .tick) + work i (z .tick) + d ≤ serviceAbove runs (suc i) (z .tick + d) + blocked
     busy-for d h =
@@ -77,8 +77,8 @@ module _ (order : List Row) (offset : ℕ → ℕ) (need : ℕ → ℕ → ℕ) 
         let b = busy (length order) holds runs began work run (suc i) blocked limit l lower z d h in
         omega (arith, z .under, sum-last i (λ j. work j (z .tick)))
 
-    -- so the next q + 1 jobs of rank i are done in x ticks that they, the block and those above fit
-    pub done-after : (q x : ℕ) → suc q * cost (rowAt order i) + blocked + worstIn x (rowsAbove order i) ≤ x
+    -- so the next q + 1 jobs of rank i are done in x ticks that they, the blocking time and those above fit
+    done-after : (q x : ℕ) → suc q * cost (rowAt order i) + blocked + worstIn x (rowsAbove order i) ≤ x
         → z .tick + x ≤ limit → needed (need i) (releasedOf order offset i (z .tick) + suc q) ≤ service runs i limit
     done-after q x fits in-time =
         let s = z .tick in
@@ -93,7 +93,7 @@ module _ (order : List Row) (offset : ℕ → ℕ) (need : ℕ → ℕ → ℕ) 
         omega (arith, busy-for x in-time, service-grows runs i u limit in-time, sum-service runs (suc i) u)
 
     -- and such x ticks, within the periods of those jobs, would bring another quiet tick
-    pub no-more : (q x : ℕ) → suc q * cost (rowAt order i) + blocked + worstIn x (rowsAbove order i) ≤ x
+    no-more : (q x : ℕ) → suc q * cost (rowAt order i) + blocked + worstIn x (rowsAbove order i) ≤ x
         → 1 ≤ x → x ≤ suc q * rowAt order i .period → z .tick + x ≤ limit → ⊥
     no-more q x fits some ends in-time =
         let s = z .tick in
@@ -132,7 +132,7 @@ module _ (order : List Row) (offset : ℕ → ℕ) (need : ℕ → ℕ → ℕ) 
           absurd (omega (arith, service-grows runs i s limit a)))
     ]
 
-    pub completed : needed (need i) (suc k) ≤ service runs i limit
+    completed : needed (need i) (suc k) ≤ service runs i limit
     completed = elim (le-or-lt (needed (need i) (suc k)) (service runs i limit)) [
       | inl h ↦ h
       | inr h ↦ (
@@ -170,7 +170,7 @@ module _ (order : List Row) (offset : ℕ → ℕ) (need : ℕ → ℕ → ℕ) 
           finish-of order offset need keeps period-some need-some i (x .0) k l (x .2) (x .3),
         )
 
-  -- ---- not early: for any e up to d, where all above have started d before the release
+  -- ---- not early
   -- a job takes its own ticks, whoever runs
   pub kept-own : (i r f : ℕ) → i < length order → Finishes order offset need keeps i r f
       → r + rowAt order i .best ≤ f
@@ -181,8 +181,10 @@ module _ (order : List Row) (offset : ℕ → ℕ) (need : ℕ → ℕ → ℕ) 
       let after = done-released i k (suc (n .tick)) l (le-of-eq (sym (n .complete))) in
       let whole : first + (suc (n .tick) - first) ≡ suc (n .tick) = omega arith in
       let most = rw whole at (service-most runs i first (suc (n .tick) - first)) in
-      omega (arith, n .release-is, n .after, n .complete, unserved-till i k first l (le-refl first), lasts i k l .0)
+      let own = needs-best order offset need ok lasts i k l in
+      omega (arith, n .release-is, n .after, n .complete, unserved-till i k first l (le-refl first))
 
+  -- of a task that runs by rank only, for any e up to d, where all above have started d before the release
   module _ (i k t e d : ℕ) (l : i < length order) (turn : runs t ≡ i) (alone : rowAt order i .hold ≤ 1)
       (complete : service runs i (suc t) ≡ needed (need i) (suc k)) (pos : 1 ≤ e) (lead : e ≤ d)
       (fits : e ≤ rowAt order i .best + bestIn e (rowsAbove order i))
@@ -210,7 +212,8 @@ module _ (order : List Row) (offset : ℕ → ℕ) (need : ℕ → ℕ → ℕ) 
         let part : ℕ → ℕ = λ j. bestPart e (rowAt order j) in
         let used = room (length order) holds runs began work run i t start l turn alone before part brings in
         let own = unserved-till i k start l (omega arith) in
-        omega (arith, released, lasts i k l .0, best-above e i order (omega arith))
+        let shortest = needs-best order offset need ok lasts i k l in
+        omega (arith, released, best-above e i order (omega arith))
 
     not-before : release i k + e ≤ suc t
     not-before = elim (le-or-lt (release i k + e) (suc t)) [ inl h ↦ h | inr h ↦ absurd (no-room h) ]

@@ -1,16 +1,15 @@
--- Every run by the documents' rules: a stretch goes on by the rules exactly where the board goes on with its job, for the
--- board has left of it what its row's hold is more than the ticks that it has had. All other ticks go by rank.
+-- Every run by the documents' rules: a stretch goes on by the rules exactly where the board goes on with its job, for
+-- the board has left of it what its row's hold is more than the ticks that it has had. All other ticks go by rank.
 use mathlib.Core.Path.{_≡_, refl, sym, ap, subst, _∙_}
 use mathlib.Core.Bool.{Bool, true, false}
 use mathlib.Core.List.{List}
-use mathlib.Core.Logic.{_⊎_, inl, inr}
+use mathlib.Core.Logic.{inl, inr}
 use Prim.Native.Nat.{ℕ, zero, suc, _+_, _-_, _≤_, _<_}
 use native.Mathlib.Omega.{arith}
 use native.Mathlib.Nat.{add-zero, add-suc, lt-trans}
 use lib.Dec.{leb}
 use lib.ListN.{length}
 use borrow.Author.Tests.{le-leb}
-use Rattle.basics.specs.Basics.{pick}
 use Rattle.basics.proofs.Tests.{test-of, true-not-false, false-of, le-or-lt, and-left, and-both}
 use Rattle.rows.specs.Rows.{timesInRange, allRows, rowAt}
 use Rattle.rows.specs.declared.Row.{Row}
@@ -21,15 +20,15 @@ use Rattle.boards.specs.Claims.{LastsInRange, Finishes}
 use Rattle.boards.specs.Runs.{mayGoOn, stretch, GoesOn, ByRank, ByRules, boardGoesTo, BoardRuns}
 use Rattle.boards.proofs.Releases.{needed, needed-grows}
 use Rattle.boards.proofs.Service.{service, service-step, service-grows, service-most, Run, own-tick}
-use Rattle.boards.proofs.Stretches.{holdOf, boardBefore, onIn, runsIn, beganIn, leftIn, runs-on, off-first}
-use Rattle.boards.proofs.Stretches.{began-new, left-some, left-next, left-after, rank-on}
+use Rattle.boards.proofs.Stretches.{holdOf, boardBefore, onIn, runsIn, beganIn, runs-on, off}
+use Rattle.boards.proofs.Stretches.{began-new, left-some, left-on, left-new, not-ended, rank-on}
 use Rattle.boards.proofs.Traces.{releaseOf, workOf, trace, unserved, finished-rank, finish-of, of-finish}
 use Rattle.boards.proofs.Ranks.{hold-below}
 use Rattle.boards.proofs.Windows.{periods, needs}
 use Rattle.boards.proofs.Turns.{Turn, one-turn, some-turn, takes-of, turn-of, ends-not, not-ends}
-use Rattle.boards.proofs.Turns.{Pends, due, not-done, pending-of, LastTick, finish-if, finish-then}
+use Rattle.boards.proofs.Turns.{Pends, due, not-done, pending-of, finish-if, finish-then}
 use Rattle.boards.proofs.Turns.{in-full, in-sequence, not-before}
-use Rattle.boards.proofs.Schedules.{MayGoOn, goes-on-of, of-goes-on, held-most, one-schedule}
+use Rattle.boards.proofs.Schedules.{goes-on-of, of-goes-on, held-most, one-schedule}
 use Rattle.boards.proofs.Document01.{same-board}
 
 module _ (order : List Row) (offset : ℕ → ℕ) (need : ℕ → ℕ → ℕ) (keeps : ℕ → Bool)
@@ -92,18 +91,16 @@ module _ (order : List Row) (offset : ℕ → ℕ) (need : ℕ → ℕ → ℕ) 
       → (1 ≤ stretched i k (suc t)) × (left (suc t) ≡ holdOf order i - stretched i k (suc t))
   after-tick i k t s l n h =
       let goes = takes-of order offset need keeps periods needs i k t l n in
-      let next = left-next order offset need keeps t (ends-not order offset need keeps periods needs i k t l n h) in
-      let hold = ap (holdOf order) (n .ran) in
+      let open-still = ends-not order offset need keeps periods needs i k t l n h in
       elim (test-of (on t)) [
         | inl e ↦ (
-            let more = on-then i k t s l n e in
-            let before = ap (λ (b : Bool). pick b (left t) (holdOf order (runs t))) e in
-            rw (goes, more) (omega arith, omega (arith, next, before, s .left-is i k l n e .1)))
+            let next = left-on order offset need keeps t open-still e in
+            rw (goes, on-then i k t s l n e) (omega arith, omega (arith, next, s .left-is i k l n e .1)))
         | inr e ↦ (
+            let next = left-new order offset need keeps t open-still e in
             let none : OnByRules i k t → ⊥ = λ g. true-not-false (on t) (s .on-if i k l g .0) e in
             let new = false-of (mayGoOn order offset need keeps takes i k t (stretched i k t)) none in
-            let before = ap (λ (b : Bool). pick b (left t) (holdOf order (runs t))) e in
-            rw (goes, new) (omega arith, omega (arith, next, before, hold)))
+            rw (goes, new) (omega arith, omega (arith, next, ap (holdOf order) (n .ran))))
       ]
 
   -- a stretch that goes on is that of the job of the tick before
@@ -111,8 +108,9 @@ module _ (order : List Row) (offset : ℕ → ℕ) (need : ℕ → ℕ → ℕ) 
   same-turn i k t l n e =
       let ran : runs t ≡ i = sym (runs-on order offset need keeps (suc t) e) ∙ n .ran in
       let o = some-turn order offset need keeps periods needs i t l ran in
-      let some = left-after order offset need keeps t (left-some order offset need keeps (suc t) e) in
-      let open-still = not-ends order offset need keeps periods needs i (o .0) t l (o .1) (some .0) in
+      let some = left-some order offset need keeps (suc t) e in
+      let more = not-ended order offset need keeps t some in
+      let open-still = not-ends order offset need keeps periods needs i (o .0) t l (o .1) more in
       let begun = o .1 .begun in
       let then : Takes i (o .0) (suc t) = record {
         ran = n .ran;
@@ -129,14 +127,13 @@ module _ (order : List Row) (offset : ℕ → ℕ) (need : ℕ → ℕ → ℕ) 
 
   stretches : (t : ℕ) → Stretches t
   stretches zero = record {
-    left-is = λ i k l n e. absurd (true-not-false (on 0) e (off-first order offset need keeps));
+    left-is = λ i k l n e. absurd (true-not-false (on 0) e (off order offset need keeps 0 refl));
     on-if = λ i k l g. absurd (omega (arith, goes-on-of order offset need keeps takes i k 0 0 g .begun));
   }
   stretches (suc t) =
       let s = stretches t in
       record {
-        left-is = λ i k l n e.
-            after-tick i k t s l (same-turn i k t l n e) (n .unfinished);
+        left-is = λ i k l n e. after-tick i k t s l (same-turn i k t l n e) (n .unfinished);
         on-if = λ i k l g.
             let m = goes-on-of order offset need keeps takes i k (suc t) (stretched i k (suc t)) g in
             let n = turn-of order offset need keeps periods needs i k t l (taken i k t (m .begun)) in
@@ -169,7 +166,7 @@ module _ (order : List Row) (offset : ℕ → ℕ) (need : ℕ → ℕ → ℕ) 
       let new = began-new order offset need keeps t e in
       record {
         pending = pending-of order offset need keeps periods needs i k t l n;
-        none-above = λ j m h p. above-done j m t (lt-trans h l) (omega (arith, n .ran)) new p;
+        none-above = λ j m h p. above-done j m t (omega (arith, h, l)) (omega (arith, n .ran, h)) new p;
         none-older = λ m h p.
             let more = not-done order offset need keeps periods needs i m t l (p .1) in
             omega (arith, needed-grows (need i) (suc m) k h, n .begun);

@@ -6,7 +6,7 @@ use mathlib.Core.List.{List}
 use mathlib.Core.Logic.{inl, inr}
 use Prim.Native.Nat.{ℕ, zero, suc, _+_, _≤_, _<_}
 use native.Mathlib.Omega.{arith}
-use native.Mathlib.Nat.{le-trans, lt-trans}
+use native.Mathlib.Nat.{le-trans}
 use lib.Dec.{leb, ltb}
 use lib.ListN.{length}
 use borrow.Author.Tests.{leb-true, le-leb, ltb-true, lt-ltb}
@@ -98,7 +98,7 @@ module _ (order : List Row) (offset : ℕ → ℕ) (need : ℕ → ℕ → ℕ) 
       let b = turned f g t a in
       record {
         pending = pending-alike f g t a i k l (p .pending);
-        none-above = λ j m h q. p .none-above j m h (pending-alike g f t b j m (lt-trans h l) q);
+        none-above = λ j m h q. p .none-above j m h (pending-alike g f t b j m (omega (arith, h, l)) q);
         none-older = λ m h q. p .none-older m h (pending-alike g f t b i m l q);
       }
 

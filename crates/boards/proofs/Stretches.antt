@@ -1,7 +1,7 @@
 -- A board's ticks: the rank of each, and the tick in which its stretch began. Its queues stay one a rank; a stretch
 -- that goes on has a job, and no more ticks than its row's hold.
 use mathlib.Core.Path.{_≡_, refl, sym, ap, subst, _∙_}
-use mathlib.Core.Bool.{Bool, true, false, _&&_}
+use mathlib.Core.Bool.{Bool, true, false}
 use mathlib.Core.List.{List}
 use mathlib.Core.Logic.{inl, inr}
 use Prim.Native.Nat.{ℕ, zero, suc, _+_, _-_, _≤_, _<_}
@@ -11,7 +11,7 @@ use lib.Dec.{leb}
 use lib.ListN.{length}
 use borrow.Author.Tests.{leb-true}
 use Rattle.basics.specs.Basics.{pick}
-use Rattle.basics.proofs.Tests.{test-of, true-not-false, and-right}
+use Rattle.basics.proofs.Tests.{test-of, true-not-false, false-of, and-right}
 use Rattle.rows.specs.Rows.{rowAt}
 use Rattle.rows.specs.declared.Row.{Row}
 use Rattle.boards.specs.Boards.{Job, Board, withReleases, highest, queueAt, ends, goesOn, afterTicks}
@@ -30,12 +30,12 @@ module _ (order : List Row) (offset : ℕ → ℕ) (need : ℕ → ℕ → ℕ) 
   abbrev pub queuesIn : ℕ → List (List Job)
   queuesIn t = withReleases 0 t order offset need (boardBefore t .pending)
 
-  -- whether the stretch of the tick before goes on in tick t; the rank that runs in it
+  -- whether the stretch of the tick before goes on in tick t; the rank that tick t goes to
   abbrev pub onIn : ℕ → Bool
   onIn t = goesOn keeps t (boardBefore t)
 
   abbrev pub runsIn : ℕ → ℕ
-  runsIn t = pick (onIn t) (boardBefore t .holder) (highest (queuesIn t))
+  runsIn t = boardBefore (suc t) .holder
 
   -- the tick in which the stretch of tick t began
   abbrev pub beganIn : ℕ → ℕ
@@ -59,11 +59,11 @@ module _ (order : List Row) (offset : ℕ → ℕ) (need : ℕ → ℕ → ℕ) 
   pub runs-new : (t : ℕ) → onIn t ≡ false → runsIn t ≡ highest (queuesIn t)
   runs-new t e = ap (λ (b : Bool). pick b (boardBefore t .holder) (highest (queuesIn t))) e
 
-  pub off-first : onIn 0 ≡ false
-  off-first = elim (test-of (keeps 0)) [
-    | inl e ↦ ap (λ (b : Bool). b && false) e
-    | inr e ↦ ap (λ (b : Bool). b && false) e
-  ]
+  pub left-some : (t : ℕ) → onIn t ≡ true → 1 ≤ boardBefore t .left
+  left-some t e = leb-true 1 (boardBefore t .left) (and-right (keeps t) (leb 1 (boardBefore t .left)) e)
+
+  pub off : (t : ℕ) → boardBefore t .left ≡ 0 → onIn t ≡ false
+  off t z = false-of (onIn t) (λ e. omega (arith, left-some t e))
 
   pub began-on : (t : ℕ) → onIn (suc t) ≡ true → beganIn (suc t) ≡ beganIn t
   began-on t e = ap (λ (b : Bool). pick b (beganIn t) (suc t)) e
@@ -79,57 +79,45 @@ module _ (order : List Row) (offset : ℕ → ℕ) (need : ℕ → ℕ → ℕ) 
     | inr e ↦ omega (arith, began-new (suc t) e)
   ]
 
-  -- ---- what is left of a stretch: its job goes on, and one tick more is gone
-  pub left-some : (t : ℕ) → onIn t ≡ true → 1 ≤ boardBefore t .left
-  left-some t e = leb-true 1 (boardBefore t .left) (and-right (keeps t) (leb 1 (boardBefore t .left)) e)
+  -- ---- what is left of a stretch: nothing past its job; else a tick less than before it, or than its hold
+  abbrev pub endsIn : ℕ → Bool
+  endsIn t = ends (queueAt (queuesIn t) (runsIn t))
 
-  -- with tick t, the ticks that are left for its stretch
-  abbrev pub leftIn : ℕ → ℕ
-  leftIn t = pick (onIn t) (boardBefore t .left) (holdOf order (runsIn t))
+  left-ended : (t : ℕ) → endsIn t ≡ true → boardBefore (suc t) .left ≡ 0
+  left-ended t e = rw e
 
-  pub left-next : (t : ℕ) → ends (queueAt (queuesIn t) (runsIn t)) ≡ false → boardBefore (suc t) .left ≡ leftIn t - 1
-  left-next t e = ap (λ (b : Bool). pick b 0 (leftIn t - 1)) e
+  pub left-on : (t : ℕ) → endsIn t ≡ false → onIn t ≡ true → boardBefore (suc t) .left ≡ boardBefore t .left - 1
+  left-on t e o = rw (e, o)
 
-  pub left-after : (t : ℕ) → 1 ≤ boardBefore (suc t) .left
-      → (ends (queueAt (queuesIn t) (runsIn t)) ≡ false) × (suc (boardBefore (suc t) .left) ≡ leftIn t)
-  left-after t l = elim (test-of (ends (queueAt (queuesIn t) (runsIn t)))) [
-    | inl e ↦ absurd (let z : 1 ≤ 0 = rw e at l in omega arith)
-    | inr e ↦ (e, omega (arith, left-next t e))
-  ]
+  pub left-new : (t : ℕ) → endsIn t ≡ false → onIn t ≡ false → boardBefore (suc t) .left ≡ holdOf order (runsIn t) - 1
+  left-new t e o = rw (e, o)
 
-  held-job : (t : ℕ) → 1 ≤ boardBefore (suc t) .left
-      → HasJob (queueAt (boardBefore (suc t) .pending) (boardBefore (suc t) .holder))
-  held-job t l =
-      rw (worked-same (runsIn t) (queuesIn t))
-      (worked-has (queueAt (queuesIn t) (runsIn t)) (left-after t l .0))
+  pub not-ended : (t : ℕ) → 1 ≤ boardBefore (suc t) .left → endsIn t ≡ false
+  not-ended t l = false-of (endsIn t) (λ e. omega (arith, left-ended t e))
 
   held-new : (t : ℕ) → onIn t ≡ false → 1 ≤ boardBefore (suc t) .left
-      → suc t + boardBefore (suc t) .left ≤ beganIn t + holdOf order (boardBefore (suc t) .holder)
-  held-new t e l =
-      let n : suc (boardBefore (suc t) .left) ≡ holdOf order (boardBefore (suc t) .holder) =
-      left-after t l .1 ∙ ap (λ (b : Bool). pick b (boardBefore t .left) (holdOf order (runsIn t))) e in
-      omega (arith, began-new t e)
+      → suc t + boardBefore (suc t) .left ≤ beganIn t + holdOf order (runsIn t)
+  held-new t o l = omega (arith, left-new t (not-ended t l) o, began-new t o)
 
   held-left : (t : ℕ) → 1 ≤ boardBefore (suc t) .left
-      → suc t + boardBefore (suc t) .left ≤ beganIn t + holdOf order (boardBefore (suc t) .holder)
-  held-left zero l = held-new 0 off-first l
+      → suc t + boardBefore (suc t) .left ≤ beganIn t + holdOf order (runsIn t)
+  held-left zero l = held-new 0 (off 0 refl) l
   held-left (suc t) l = elim (test-of (onIn (suc t))) [
-    | inl e ↦ (
-        let n : suc (boardBefore (suc (suc t)) .left) ≡ boardBefore (suc t) .left =
-        left-after (suc t) l .1
-        ∙ ap (λ (b : Bool). pick b (boardBefore (suc t) .left) (holdOf order (runsIn (suc t)))) e in
-        let same : holdOf order (boardBefore (suc (suc t)) .holder) ≡ holdOf order (boardBefore (suc t) .holder) =
-        ap (holdOf order) (runs-on (suc t) e) in
-        omega (arith, began-on t e, held-left t (left-some (suc t) e)))
-    | inr e ↦ held-new (suc t) e l
+    | inl o ↦ (
+        let same = ap (holdOf order) (runs-on (suc t) o) in
+        let before = held-left t (left-some (suc t) o) in
+        omega (arith, left-on (suc t) (not-ended (suc t) l) o, same, began-on t o))
+    | inr o ↦ held-new (suc t) o l
   ]
 
   -- ---- the rank that runs has a job
   job-on : (t : ℕ) → onIn t ≡ true → HasJob (queueAt (queuesIn t) (boardBefore t .holder))
-  job-on zero e = absurd (true-not-false (onIn 0) e off-first)
+  job-on zero e = absurd (true-not-false (onIn 0) e (off 0 refl))
   job-on (suc t) e =
-      let o = held-job t (left-some (suc t) e) in
-      let m = boardBefore (suc t) .holder in
+      let m = runsIn t in
+      let o : HasJob (queueAt (boardBefore (suc t) .pending) m) =
+      rw (worked-same m (queuesIn t))
+      (worked-has (queueAt (queuesIn t) m) (not-ended t (left-some (suc t) e))) in
       let n = ranks-before (suc t) in
       let l : m < length order = omega (arith, queue-there (boardBefore (suc t) .pending) m o) in
       rw (released-at offset need 0 (suc t) order (boardBefore (suc t) .pending) m n l, zero-add m)

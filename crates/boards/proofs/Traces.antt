@@ -23,7 +23,7 @@ use Rattle.boards.proofs.Queues.{HasJob, newJob, queue-there, none-at, 
 use Rattle.boards.proofs.Queues.{worked-same, worked-other, done-append, ends-tick, tick-ends}
 use Rattle.boards.proofs.Backlog.{Oldest, Backlog, backlog-release, backlog-under, backlog-worked}
 use Rattle.boards.proofs.Stretches.{boardBefore, queuesIn, onIn, runsIn, beganIn, holdOf, ranks-before, ranks-in}
-use Rattle.boards.proofs.Stretches.{runs-on, runs-new, off-first, began-on, began-new, began-by}
+use Rattle.boards.proofs.Stretches.{runs-on, runs-new, off, began-on, began-new, began-by}
 use Rattle.boards.proofs.Stretches.{job-in, within-hold}
 
 module _ (order : List Row) (offset : ℕ → ℕ) where
@@ -40,19 +40,19 @@ module _ (order : List Row) (offset : ℕ → ℕ) where
     workOf j t = needed (need j) (releasedOf j t)
 
     -- rank j's queue before t, if x ticks have gone to it
-    abbrev pub BacklogOf : ℕ → ℕ → ℕ → List (List Job) → Type 0
+    abbrev BacklogOf : ℕ → ℕ → ℕ → List (List Job) → Type 0
     BacklogOf j t x qs = Backlog (releaseOf j) (need j) (releasedOf j t) x (queueAt qs j)
 
     module _ (periods : (j : ℕ) → j < length order → 1 ≤ rowAt order j .period)
         (needs : (j k : ℕ) → j < length order → 1 ≤ need j k) where
       -- ---- any queues: none with a job, a tick's releases, a tick's work of any rank m
-      pub backlog-none : (j : ℕ) → j < length order → BacklogOf j 0 0 (noJobs order)
+      backlog-none : (j : ℕ) → j < length order → BacklogOf j 0 0 (noJobs order)
       backlog-none j l =
           let few = unreleased (rowAt order j .period) (offset j) (periods j l) 0 0 (omega arith) in
           let start : releasedOf j 0 ≡ 0 = omega arith in
           rw (none-at order j, start)
 
-      pub backlog-released : (j t x : ℕ) (qs : List (List Job)) → length qs ≡ length order → j < length order
+      backlog-released : (j t x : ℕ) (qs : List (List Job)) → length qs ≡ length order → j < length order
           → BacklogOf j t x qs → BacklogOf j (suc t) x (withReleases 0 t order offset need qs)
       backlog-released j t x qs n l b =
           let r = rowAt order j in
@@ -63,7 +63,7 @@ module _ (order : List Row) (offset : ℕ → ℕ) where
             | inr e ↦ rw (e, release-no r (offset j) t (periods j l) e) b
           ])
 
-      pub backlog-served : (j t x m : ℕ) (qs : List (List Job)) → j < length order
+      backlog-served : (j t x m : ℕ) (qs : List (List Job)) → j < length order
           → (m ≡ j → HasJob (queueAt qs j)) → BacklogOf j t x qs
           → BacklogOf j t (x + mark (eqb m j)) (workedAt m qs)
       backlog-served j t x m qs l h b = elim (test-of (eqb m j)) [
@@ -111,7 +111,7 @@ module _ (order : List Row) (offset : ℕ → ℕ) (need : ℕ → ℕ → ℕ) 
       let job = job-in order offset need keeps j t l in
       backlog-served order offset need periods needs j (suc t) x (runs t) (queues t) l job released
 
-  pub backlog-in : (j t : ℕ) → j < length order → BacklogOf order offset need j (suc t) (service runs j t) (queues t)
+  backlog-in : (j t : ℕ) → j < length order → BacklogOf order offset need j (suc t) (service runs j t) (queues t)
   backlog-in j t l =
       backlog-released order offset need periods needs j t (service runs j t) (before t .pending)
       (ranks-before order offset need keeps t) l (backlog j t l)
@@ -136,7 +136,7 @@ module _ (order : List Row) (offset : ℕ → ℕ) (need : ℕ → ℕ → ℕ) 
       subst (λ u. work j (suc u) ≤ service runs j u) (sym (began-new order offset need keeps t e)) done
 
   by-rank-began : (j t : ℕ) → j < length order → j < runs t → work j (suc (began t)) ≤ service runs j (began t)
-  by-rank-began j zero l b = by-rank-new j 0 l (off-first order offset need keeps) b
+  by-rank-began j zero l b = by-rank-new j 0 l (off order offset need keeps 0 refl) b
   by-rank-began j (suc t) l b = elim (test-of (on (suc t))) [
     | inl e ↦ subst (λ u. work j (suc u) ≤ service runs j u) (sym (began-on order offset need keeps t e))
         (by-rank-began j t l (omega (arith, runs-on order offset need keeps (suc t) e)))

@@ -1,14 +1,13 @@
 -- The job of each tick: one of its rank's, between the work of the jobs before it and its own. So the ticks that a job
--- has had follow from its rank's service, and a released job is pending exactly where its rank's service has not come to
--- its end.
-use mathlib.Core.Path.{_≡_, refl, sym, ap, subst, _∙_}
+-- has had follow from its rank's service, and a released job is pending exactly where that has not come to its end.
+use mathlib.Core.Path.{_≡_, sym, ap, subst, _∙_}
 use mathlib.Core.Bool.{Bool, true, false}
 use mathlib.Core.List.{List, _∷_}
 use mathlib.Core.Logic.{inl, inr}
 use Prim.Native.Nat.{ℕ, zero, suc, _+_, _-_, _≤_, _<_}
 use native.Mathlib.Omega.{arith}
 use native.Mathlib.Nat.{eq-of-mul-eq-mul-right}
-use lib.Dec.{eqb, leb}
+use lib.Dec.{eqb}
 use lib.ListN.{length}
 use borrow.Author.Tests.{eqb-true, eq-eqb, leb-false, lt-leb}
 use Rattle.basics.proofs.Tests.{test-of, true-not-false, le-or-lt, and-left, and-right, and-both}
@@ -20,8 +19,8 @@ use Rattle.boards.specs.Runs.{isOldest, Pending, boardGoesTo, boardTicks
 use Rattle.boards.proofs.Releases.{released-before, unreleased, needed, needed-grows, needed-one}
 use Rattle.boards.proofs.Service.{service, service-step, service-grows}
 use Rattle.boards.proofs.Stretches.{queuesIn, runsIn}
-use Rattle.boards.proofs.Traces.{releaseOf, releasedOf, workOf, OldestIn, oldest, trace}
-use Rattle.boards.proofs.Traces.{unserved, finish-of, of-finish}
+use Rattle.boards.proofs.Traces.{releaseOf, releasedOf, workOf, oldest, trace, unserved}
+use Rattle.boards.proofs.Traces.{finish-of, of-finish}
 
 module _ (order : List Row) (offset : ℕ → ℕ) (need : ℕ → ℕ → ℕ) (keeps : ℕ → Bool)
     (periods : (j : ℕ) → j < length order → 1 ≤ rowAt order j .period)
@@ -51,7 +50,7 @@ module _ (order : List Row) (offset : ℕ → ℕ) (need : ℕ → ℕ → ℕ) 
   one-turn i k m t n o =
       needed-one (need i) k m (service runs i t) (n .begun) (n .unfinished) (o .begun) (o .unfinished)
 
-  pub same-job : (i k m : ℕ) → i < length order → release i k ≡ release i m → k ≡ m
+  same-job : (i k m : ℕ) → i < length order → release i k ≡ release i m → k ≡ m
   same-job i k m l e = eq-of-mul-eq-mul-right (rowAt order i .period) (periods i l) k m (omega (arith, e))
 
   -- whatever rank runs, the tick is its oldest job's
@@ -111,7 +110,7 @@ module _ (order : List Row) (offset : ℕ → ℕ) (need : ℕ → ℕ → ℕ) 
       omega (arith, o .left)
 
   -- ---- the ticks that a job has had, by its rank's service
-  pub share : (i k t : ℕ) → i < length order
+  share : (i k t : ℕ) → i < length order
       → ticks i k t
       ≡ (service runs i t - needed (need i) k) - (service runs i t - needed (need i) (suc k))
   share i k zero l = omega arith

@@ -25,6 +25,9 @@ module _ (order : List Row) (offset : ℕ → ℕ) (need : ℕ → ℕ → ℕ)
   pub needs : (j k : ℕ) → j < length order → 1 ≤ need j k
   needs j k l = omega (arith, times j l, lasts j k l)
 
+  pub needs-best : (j k : ℕ) → j < length order → rowAt order j .best ≤ need j k
+  needs-best j k l = omega (arith, times j l, lasts j k l)
+
   abbrev pub work : ℕ → ℕ → ℕ
   work j t = workOf order offset need j t
 
@@ -42,7 +45,7 @@ module _ (order : List Row) (offset : ℕ → ℕ) (need : ℕ → ℕ → ℕ)
   window-least j s w m l started fits =
       let r = rowAt order j in
       let before = releasedOf order offset j s in
-      le-trans (needed-least (need j) (r .best) (λ k. lasts j k l .0) before m)
+      le-trans (needed-least (need j) (r .best) (λ k. needs-best j k l) before m)
       (needed-grows (need j) (before + m) (releasedOf order offset j (s + w))
       (released-least (r .period) (offset j) (periods j l) s w m started fits))
 

@@ -60,7 +60,7 @@ between i k l =
 idle : (i k : ℕ) → i < length exampleOrder
     → boardGoesTo exampleOrder atOnce (lasting (2 ∷ 6 ∷ 17 ∷ [])) never i k 226 ≡ true → ⊥
 idle i k l = each (λ i. boardGoesTo exampleOrder atOnce (lasting (2 ∷ 6 ∷ 17 ∷ [])) never i k 226 ≡ true → ⊥)
-  none none none i l
+    none none none i l
   where
     none : false ≡ true → ⊥
     none e = true-not-false false e refl

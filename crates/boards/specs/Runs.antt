@@ -1,5 +1,5 @@
--- Every run of a board in the documents' words, whatever is claimed of it: which job each tick goes to and when a job is
--- finished, apart from how a board keeps its queues and its stretches.
+-- Every run of a board in the documents' words, whatever is claimed of it: which job each tick goes to and when a job
+-- is finished, apart from how a board keeps its queues and its stretches.
 use mathlib.Core.Path.{_≡_}
 use mathlib.Core.Bool.{Bool, true, false, _&&_}
 use mathlib.Core.List.{List, [], _∷_}

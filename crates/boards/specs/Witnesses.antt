@@ -69,8 +69,8 @@ heldOrder = lowestHolds 5
 
 pub record HoldsCount : Type 0 where
   pub none-late : NoneLate heldOrder
-  -- the latest response of rank 1 is 12, where it would be 8 without its blocking time of 4; in a run in which the lowest
-  -- begins a stretch a tick before the others are released, a job takes 12
+  -- the latest response of rank 1 is 12, where it would be 8 without its blocking time of 4; in a run in which the
+  -- lowest begins a stretch a tick before the others are released, a job takes 12
   pub latest-is : latestAt heldOrder 1 ≡ 12
   pub latest-without :
       leastFixed (cost (rowAt heldOrder 1)) 24 (map worstLoad (rowsAbove heldOrder 1)) ≡ 8
