@@ -6,7 +6,7 @@ use mathlib.Core.List.{List, [], _∷_, map}
 use Prim.Native.Nat.{ℕ, _+_, _-_, _≤_}
 use native.Mathlib.Nat.{mul-le-mul, add-le-add}
 use native.Mathlib.Omega.{arith}
-use borrow.Author.Tests.{eqb-false, eq-eqb, ne-eqb, leb-true, le-leb, not-true}
+use borrow.Author.Tests.{eqb-false, eq-eqb, ne-eqb, leb-true, le-leb, lt-leb, not-true}
 use mathlib.Core.Logic.{inl, inr}
 use lib.Dec.{leb}
 use lib.IntN.{ℤ, pos}
@@ -15,12 +15,12 @@ use lib.ListN.{length}
 use Rattle.rows.specs.Rows.{cost, timesInRange, inRange, allRows}
 use Rattle.rows.specs.declared.Row.{Row}
 use Rattle.basics.specs.Basics.{pick}
-use Rattle.basics.proofs.Tests.{test-of, false-of, and-left, and-right, and-both, le-or-lt}
+use Rattle.basics.proofs.Tests.{test-of, and-left, and-right, and-both, le-or-lt}
 use Rattle.rows.proofs.Limits.{times, in-range-times, head-passes, tail-passes, all-times}
 use Rattle.responses.specs.Interference.{ceiling, leastFixed, largestFixed}
 use Rattle.responses.specs.Figures.{worstLoad, bestLoad, worstIn, bestIn, blocking, latest, isLate, earliest}
 use Rattle.responses.specs.Figures.{isStable, marginAt, margin, lateFigures, figuresAt, figuresUnder}
-use Rattle.responses.specs.Figures.{mayHold, maxOthers, inLimits}
+use Rattle.responses.specs.Figures.{leastHold, mayHold, maxOthers, inLimits}
 use Rattle.responses.specs.Claims.{spent, Figured, WithoutHolds, Demand-2}
 use Rattle.responses.proofs.Sums.{rounds-up}
 use Rattle.responses.proofs.Margins.{sub-is, not-below-zero}
@@ -47,7 +47,7 @@ pub record Responses (t : Row) (above below : List Row) : Type 0 where
 
 -- E by the formula, or the best time
 pub runs-by-rank : (t : Row) → t .hold ≤ 1 → mayHold t ≡ false
-runs-by-rank t s = false-of (mayHold t) (λ e. omega (arith, leb-true _ _ e))
+runs-by-rank t s = lt-leb leastHold (t .hold) (omega arith)
 
 module _ (t : Row) (above below : List Row) where
   abbrev formula : ℕ
@@ -57,7 +57,7 @@ module _ (t : Row) (above below : List Row) where
   earliest-formula s = ap (λ (b : Bool). pick b (t .best) formula) (runs-by-rank t s)
 
   earliest-best : 2 ≤ t .hold → earliest t above below ≡ t .best
-  earliest-best s = ap (λ (b : Bool). pick b (t .best) formula) (le-leb _ _ (omega arith))
+  earliest-best s = ap (λ (b : Bool). pick b (t .best) formula) (le-leb leastHold (t .hold) (omega arith))
 
 pub responses : (t : Row) (above below : List Row) → timesInRange t ≡ true → allRows timesInRange above ≡ true
     → 1 ≤ latest t above below → Responses t above below

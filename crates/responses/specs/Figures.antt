@@ -51,9 +51,12 @@ latest t above below = leastFixed (cost t + blocking below) (t .period) (map wor
 abbrev pub isLate : Row → List Row → List Row → Bool
 isLate t above below = eqb (latest t above below) 0
 
--- whether jobs of a row may keep the processor past the tick that falls to them by rank
+-- whether jobs of a row may keep the processor past the tick that falls to them by rank: a hold of 1 is that tick alone
+abbrev pub leastHold : ℕ
+leastHold = 2
+
 abbrev pub mayHold : Row → Bool
-mayHold r = leb 2 (r .hold)
+mayHold r = leb leastHold (r .hold)
 
 -- E, the best-case response time of a task that is not late; at most W. In a stretch of its own no task above counts
 abbrev pub earliest : Row → List Row → List Row → ℕ
