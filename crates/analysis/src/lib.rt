@@ -20,6 +20,9 @@ use rows::Row;
 use rows::cost_at;
 use rows::hold_at;
 
+// The least hold that keeps the processor past a tick.
+const LEAST_HOLD: u32 = 2;
+
 // Of a row that is late: nothing but that.
 fn late_figures() -> Figures
     ensures { λ x. ⌜ x ≡ lateFigures ⌝ }
@@ -108,7 +111,7 @@ fn earliest(row: Row, latest: u64, periods: &[u64], bests: &[u64], n: usize) -> 
     ensures { λ r. ⌜ r ≡ pick (mayHold row) (row .best)
         (largestFixed (row .best) latest (loads n (now (periods .entry)) (now (bests .entry)))) ⌝ }
 {
-    if 2 <= row.hold {
+    if LEAST_HOLD <= row.hold {
         return row.best as u64;
     }
     largest_fixed(row.best as u64, latest, periods, bests, n)

@@ -3,6 +3,7 @@ use native.Mathlib.Omega.{arith}
 use borrow.Author.Needs.{needs}
 use borrow.Author.Tests.{le-leb, lt-leb}
 use Rattle.rows.proofs.Limits.{limits}
+use Rattle.responses.specs.Figures.{leastHold}
 use Rattle.analysis.proofs.earliest.Statement.{statement}
 use Rattle.analysis.proofs.earliest.Tie as tie
 
@@ -10,7 +11,9 @@ cast-result : tie.Need-cast-result
 cast-result c = search needs
 
 returns : tie.Need-returns
-returns c = rw (le-leb 2 (c .before .before .before .before .before .args .row .hold) (c .before .if1 .taken))
+returns c =
+    let t = c .before .before .before .before .before .args .row in
+    rw (le-leb leastHold (t .hold) (omega (arith, c .before .if1 .taken)))
 
 cast-largest-fixed : tie.Need-cast-largest-fixed
 cast-largest-fixed c = search needs
@@ -24,7 +27,7 @@ largest-fixed-requires c κs =
 returns-2 : tie.Need-returns-2
 returns-2 c =
     let s = c .before .before .before .before .before .before in
-    rw (lt-leb 2 (s .args .row .hold) (c .before .before .if1 .left)) (c .largest-fixed .ensures)
+    rw (lt-leb leastHold (s .args .row .hold) (omega (arith, c .before .before .if1 .left))) (c .largest-fixed .ensures)
 
 pub earliest-spec : {M : Type 1} → statement M
 earliest-spec =
