@@ -192,15 +192,15 @@ fn lines(dice: &mut Dice) -> Vec<u8> {
     text
 }
 
-/// As many boards as there can be, or one more, with many tasks and betas that are no limit: the
-/// longest outputs. Seldom with twelve tasks, with which the model is slow.
+/// As many boards as there can be, or one more, with many tasks, betas that are no limit and no
+/// holds: the longest outputs. Seldom with twelve tasks, with which the model is slow.
 fn full(dice: &mut Dice) -> Vec<u8> {
     let tasks = if dice.once_in(5) { 12 } else { 7 };
-    let mut rows = tables::rows(dice, Family::Huge, tasks, true);
+    let mut rows = tables::rows_without_holds(dice, Family::Huge, tasks, true);
     let mut text = Vec::new();
     for _ in 0..MOST_PIECES + dice.once_in(8) as usize {
         if dice.once_in(8) {
-            rows = tables::rows(dice, Family::Huge, tasks, true);
+            rows = tables::rows_without_holds(dice, Family::Huge, tasks, true);
         }
         text.extend(tables::text(dice.between(10_000, 65_535), &rows));
     }
