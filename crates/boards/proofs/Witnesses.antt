@@ -15,7 +15,7 @@ use Rattle.responses.specs.Figures.{rowsAbove, rowsBelow, blocking, isLate}
 use Rattle.responses.specs.Claims.{NoneHolds}
 use Rattle.boards.specs.Claims.{LastsInRange, NoneLate}
 use Rattle.boards.specs.Runs.{boardGoesTo}
-use Rattle.boards.specs.Witnesses.{exampleOrder, heldOrder, atOnce, lasting, never, RunsMet, HoldsCount}
+use Rattle.boards.specs.Witnesses.{lowestHolds, exampleOrder, heldOrder, atOnce, lasting, never, RunsMet, HoldsCount}
 
 -- of three ranks, each
 each : (P : ℕ → Type 0) → P 0 → P 1 → P 2 → (i : ℕ) → i < 3 → P i
@@ -48,14 +48,18 @@ either order need ok is i k l =
       | inr e ↦ (omega (arith, e, r .best-cost), omega (arith, e))
     ]
 
-between : LastsInRange exampleOrder (lasting (2 ∷ 6 ∷ 18 ∷ []))
+-- the lowest rank's jobs last from 17 to 19 ticks, whatever its hold
+between : (hold n : ℕ) → 17 ≤ n → n ≤ 19 → LastsInRange (lowestHolds hold) (lasting (2 ∷ 6 ∷ n ∷ []))
 unfolding cost
-between i k l =
-    each (λ i. (rowAt exampleOrder i .best ≤ ticks i) × (ticks i ≤ cost (rowAt exampleOrder i)))
-    (omega arith, omega arith) (omega arith, omega arith) (omega arith, omega arith) i l
+between hold n low high i k l =
+    each (λ i. (rowAt order i .best ≤ ticks i) × (ticks i ≤ cost (rowAt order i)))
+    (omega arith, omega arith) (omega arith, omega arith) (low, high) i l
   where
+    order : List Row
+    order = lowestHolds hold
+
     ticks : ℕ → ℕ
-    ticks i = lasting (2 ∷ 6 ∷ 18 ∷ []) i k
+    ticks i = lasting (2 ∷ 6 ∷ n ∷ []) i k
 
 idle : (i k : ℕ) → i < length exampleOrder
     → boardGoesTo exampleOrder atOnce (lasting (2 ∷ 6 ∷ 17 ∷ [])) never i k 226 ≡ true → ⊥
@@ -69,7 +73,7 @@ pub runs-met : RunsMet
 runs-met = record {
   none-late = in-time;
   lasts = either;
-  lasts-between = between;
+  lasts-between = between 0 18 (omega arith) (omega arith);
   held-early = λ j l. omega arith;
   earliest-reached = refl;
   latest-reached = refl;
@@ -85,9 +89,11 @@ holds-count = record {
   none-late = in-time-held;
   latest-is = refl;
   latest-without = refl;
+  lasts-latest = between 5 19 (omega arith) (omega arith);
   latest-reached = refl;
   earliest-is = refl;
   earliest-by-equation = refl;
   held-early = λ j l. omega arith;
+  lasts-earliest = between 5 17 (omega arith) (omega arith);
   earliest-reached = refl;
 }

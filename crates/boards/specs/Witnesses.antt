@@ -74,10 +74,12 @@ pub record HoldsCount : Type 0 where
   pub latest-is : latestAt heldOrder 1 ≡ 12
   pub latest-without :
       leastFixed (cost (rowAt heldOrder 1)) 24 (map worstLoad (rowsAbove heldOrder 1)) ≡ 8
+  pub lasts-latest : LastsInRange heldOrder (lasting (2 ∷ 6 ∷ 19 ∷ []))
   pub latest-reached : Finishes heldOrder lowestFirst (lasting (2 ∷ 6 ∷ 19 ∷ [])) always 1 1 13
   -- the earliest response of the lowest is 17, its best, where its equation gives 25; in a run in which it keeps the
   -- processor while the others are released, a job that is held to it takes 17
   pub earliest-is : earliestAt heldOrder 2 ≡ 17
   pub earliest-by-equation : largestFixed 17 (latestAt heldOrder 2) (map bestLoad (rowsAbove heldOrder 2)) ≡ 25
   pub held-early : AfterFirstReleases heldOrder atOnce 2 200
+  pub lasts-earliest : LastsInRange heldOrder (lasting (2 ∷ 6 ∷ 17 ∷ []))
   pub earliest-reached : Finishes heldOrder atOnce (lasting (2 ∷ 6 ∷ 17 ∷ [])) always 2 200 217

@@ -30,8 +30,7 @@ none-blocks below none = no-blocking below none ∙ sym (no-blocking [] (λ i l.
 over : (t : Row) (above : List Row) {e w j : ℕ} {m : ℤ} → HasFigures t above [] e w j m
     → (below : List Row) → NoneHolds below → HasFigures t above below e w j m
 over t above h below none =
-    let same = by-blocking t above below [] (none-blocks below none) in
-    (
+    let same = by-blocking t above below [] (none-blocks below none) in (
       same .late-same ∙ h .0,
       same .earliest-same ∙ h .1,
       same .latest-same ∙ h .2,

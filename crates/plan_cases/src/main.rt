@@ -133,8 +133,20 @@ fn example_refuses(name: &[u8], review: bool, rest: &[u8], number: u8, place: u3
 fn planner_cases() {
     example_plans(b"the document's example", false, b"beta=57000\nhold=0\n");
     example_refuses(b"beta of 13 at 54999", false, b"beta=54999\nhold=0\n", 8, 0);
-    example_refuses(b"no line feed at the end", false, b"beta=57000\nhold=0", 1, 23);
-    example_refuses(b"a line too many", false, b"beta=57000\nhold=0\nrank=12\n", 1, 24);
+    example_refuses(
+        b"no line feed at the end",
+        false,
+        b"beta=57000\nhold=0",
+        1,
+        23,
+    );
+    example_refuses(
+        b"a line too many",
+        false,
+        b"beta=57000\nhold=0\nrank=12\n",
+        1,
+        24,
+    );
 }
 
 fn reviewer_cases() {

@@ -61,9 +61,11 @@ loop-again c =
     let here : k < a .n = omega (arith, more, x .inv .1) in
     let step = hold-more (a .rows .now) (a .positions .now) (a .n) k here (s .pre .1 .positions-held) in
     let rest = x .inv .2
-    ∙ ap (λ (j : ℕ). longestHold (rowsIn (a .rows .now) (drop j (take (a .n) (a .positions .now))))) (sym one) in
-    (omega (arith, more), omega (arith, x .inv .1),
-    c .larger .ensures ∙ ap₂ larger (c .before .hold-at .ensures) rest ∙ sym step)
+    ∙ ap (λ (j : ℕ). longestHold (rowsIn (a .rows .now) (drop j (take (a .n) (a .positions .now))))) (sym one) in (
+      omega (arith, more),
+      omega (arith, x .inv .1),
+      c .larger .ensures ∙ ap₂ larger (c .before .hold-at .ensures) rest ∙ sym step,
+    )
 
 blocking-time-requires : tie.Need-blocking-time-requires Inv-loop μ-loop
 blocking-time-requires c κs = search needs

@@ -77,8 +77,7 @@ slice-aggregate-blocking-from c = search needs
 blocking-from-requires : tie.Need-blocking-from-requires
 blocking-from-requires c κs =
     let p = c .before .before .before .before .before .before .before in
-    let short = few-below (p .before) in
-    (
+    let short = few-below (p .before) in (
       omega arith,
       record {
         positions-held = omega (arith, short);

@@ -51,8 +51,7 @@ loop-again c =
     let here : j < a .n = omega (arith, more, x .inv .0) in
     let row = ap (λ (r : Row). r .hold) (sym (rows-at (a .n) j (a .rows .now) here)) in
     let rest = x .inv .1 ∙ ap (longestFrom table (a .m)) (sym one) in
-    let next = ap₂ (λ (h l : ℕ). pick (eqb (a .m / 2 ^ j % 2) 0) (larger h l) l) row rest in
-    (
+    let next = ap₂ (λ (h l : ℕ). pick (eqb (a .m / 2 ^ j % 2) 0) (larger h l) l) row rest in (
       omega (arith, x .inv .0),
       c .longest-with .ensures ∙ next ∙ sym (outside-more table (a .m) j (a-row (s .pre) j here)),
     )

@@ -67,8 +67,12 @@ figures-under-requires c κs =
       times-in-range = all-times above (some-pass inRange 1 (rest s) (table s) (s .pre .0 .table .in-range));
       below = below;
       blocked-is = s .pre .4;
-      blocked-max = omega (arith, s .pre .4, blocking-max below (some-pass inRange 0 (s .args .m) (table s)
-          (s .pre .0 .table .in-range)));
+      blocked-max = omega (
+        arith,
+        s .pre .4,
+        blocking-max below (some-pass inRange 0 (s .args .m) (table s)
+            (s .pre .0 .table .in-range)),
+      );
     }
 
 same-length : tie.Need-same-length
