@@ -1,4 +1,5 @@
--- The longest hold of the rows at the positions from an index on: of none it is 0, and one row more counts with the rest.
+-- The longest hold of the rows at the positions from an index on: of none it is 0, and one row more counts with the
+-- rest.
 use mathlib.Core.Path.{_≡_, refl, ap, _∙_}
 use mathlib.Core.List.{List, [], _∷_}
 use Prim.Native.Nat.{ℕ, zero, suc, _≤_, _<_}

@@ -15,7 +15,8 @@ use Rattle.responses.specs.Figures.{rowsAbove, rowsBelow, blocking, isLate}
 use Rattle.responses.specs.Claims.{NoneHolds}
 use Rattle.boards.specs.Claims.{LastsInRange, NoneLate}
 use Rattle.boards.specs.Runs.{boardGoesTo}
-use Rattle.boards.specs.Witnesses.{lowestHolds, exampleOrder, heldOrder, atOnce, lasting, never, RunsMet, HoldsCount}
+use Rattle.boards.specs.Witnesses.{lowestHolds, exampleOrder, heldOrder, atOnce, lasting, never}
+use Rattle.boards.specs.Witnesses.{RunsMet, HoldsCount}
 
 -- of three ranks, each
 each : (P : ℕ → Type 0) → P 0 → P 1 → P 2 → (i : ℕ) → i < 3 → P i

@@ -17,9 +17,9 @@ use Rattle.plans.specs.Plans.{planRoom}
 use Rattle.plans.specs.Outcomes.{writes, refuses}
 use Rattle.demands.specs.Calls.{planned, plannerPrints, reviewerPrints}
 
--- a row under rows above it, over any rows that hold nothing, and its E, W, jitter and margin; a late row; a row between
--- rows above it and below it; a table's rows and the tasks of its order; a text and its whole plan; a text and its
--- refusal; a text and what the planner's or the reviewer's program prints
+-- a row under rows above it, over any rows that hold nothing, and its E, W, jitter and margin; a late row; a row
+-- between rows above it and below it; a table's rows and the tasks of its order; a text and its whole plan; a text and
+-- its refusal; a text and what the planner's or the reviewer's program prints
 pub data Case : Type 0 where
   figures : Row → List Row → ℕ → ℕ → ℕ → ℤ → Case
   late : Row → List Row → Case

@@ -53,7 +53,8 @@ pub record Met : Type 0 where
   pub no-number : Fails false malformed 2 1
   pub out-of-range : Fails false tooMany 3 2
   pub exceeding : Fails false (twoTasks ("worst=11" ∷ [])) 4 5
-  pub repeated : Fails false (twoTasks ("worst=10" ∷ "best=1" ∷ "alpha=1000" ∷ "beta=0" ∷ "hold=0" ∷ "task=1" ∷ [])) 5 10
+  pub repeated :
+      Fails false (twoTasks ("worst=10" ∷ "best=1" ∷ "alpha=1000" ∷ "beta=0" ∷ "hold=0" ∷ "task=1" ∷ [])) 5 10
   pub impossible : Fails true (example ++ lined ("rank=11" ∷ "rank=11" ∷ [])) 6 25
   -- a table with an order, in a room that is too short too, and one with none
   pub tells : Tells false example 7 exampleRows []

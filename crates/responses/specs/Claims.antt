@@ -19,8 +19,8 @@ pub record RoundsUp (a p k : ℕ) : Type 0 where
   pub covers : a ≤ k * p
   pub fewest : (j : ℕ) → a ≤ j * p → k ≤ j
 
--- b is the largest hold of some rows less 1, or 0: none is more than a tick above it, and where it is not 0, one is just
--- that
+-- b is the largest hold of some rows less 1, or 0: none is more than a tick above it, and where it is not 0, one is
+-- just that
 pub record Blocks (rows : List Row) (b : ℕ) : Type 0 where
   pub covers : (i : ℕ) → i < length rows → rowAt rows i .hold ≤ b + 1
   pub reached : 1 ≤ b → (i : ℕ) × (i < length rows) × (rowAt rows i .hold ≡ b + 1)

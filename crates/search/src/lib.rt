@@ -100,7 +100,8 @@ fn blocking_outside(rows: &[u64], n: usize, m: usize) -> u64
     blocking_time(longest)
 }
 
-// Whether row i of set m is stable as its lowest row, under the rest of the set, over rows that block it for some ticks.
+// Whether row i of set m is stable as its lowest row, under the rest of the set, over rows that block it for some
+// ticks.
 fn stable_under(
     rows: &[u64],
     n: usize,

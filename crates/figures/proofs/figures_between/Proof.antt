@@ -86,7 +86,9 @@ blocking-from-requires c κs =
     )
 
 -- the rows below block for so long
-blocks : (c : tie.After-blocking-from) → let s = c .before .before .before .before .before .before .before .before .before .before .before in c .blocking-from .result ≡ blocking (lower s)
+blocks : (c : tie.After-blocking-from)
+    → let s = c .before .before .before .before .before .before .before .before .before .before .before in
+    c .blocking-from .result ≡ blocking (lower s)
 blocks c =
     let p = c .before .before .before .before .before .before .before .before in
     let a = p .before .before .before .args in
@@ -132,7 +134,8 @@ returns-2 c =
     let s = q .before .before in
     let a = s .args in
     let test = q .before .in-limits in
-    let found = c .figures-under .ensures (upper s) (lower s) (filled (c .before .before .before .before .before .before)) (blocks (c .before .before)) in
+    let columns = filled (c .before .before .before .before .before .before) in
+    let found = c .figures-under .ensures (upper s) (lower s) columns (blocks (c .before .before)) in
     let all = rows-front (a .n) (a .n) (a .above .now) (omega arith) in
     found
     ∙ ap (λ rows. figuresUnder (a .row) rows (lower s)) all

@@ -113,8 +113,9 @@ row-at-requires c κs =
     let s = start k in
     let x = k .before .loop in (
       s .pre .0 .held .rows-held (x .i) (k .loop-test .taken),
-      ap inRange (sym (row-is (s .args .rows .now) (s .args .positions .now) (s .args .n) (s .pre .0 .held .positions-held)
-          (x .i) (k .loop-test .taken))) ∙ here-in-range (x .inv) (k .loop-test .taken),
+      ap inRange (sym (row-is (s .args .rows .now) (s .args .positions .now) (s .args .n)
+          (s .pre .0 .held .positions-held) (x .i) (k .loop-test .taken)))
+          ∙ here-in-range (x .inv) (k .loop-test .taken),
     )
 
 add-blocking-from : tie.Need-add-blocking-from Inv-loop μ-loop

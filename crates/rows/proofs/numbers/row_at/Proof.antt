@@ -100,7 +100,9 @@ shared-slice-read-t36 : tie.Need-shared-slice-read-t36
 shared-slice-read-t36 c = search needs
 
 cast-t37 : tie.Need-cast-t37
-cast-t37 c = record { fits = omega (arith, kept (c .before .before .before .before .before .before .before) .hold .le-high) }
+cast-t37 c =
+    let s = c .before .before .before .before .before .before .before in
+    record { fits = omega (arith, kept s .hold .le-high) }
 
 returns : tie.Need-returns
 returns c =
