@@ -1,4 +1,4 @@
--- The longest hold of the rows at the positions from an index on: of none it is 0, and one row more counts with the
+-- The largest hold of the rows at the positions from an index on: of none it is 0, and one row more counts with the
 -- rest.
 use mathlib.Core.Path.{_≡_, refl, ap, _∙_}
 use mathlib.Core.List.{List, [], _∷_}
@@ -8,23 +8,23 @@ use lib.ListN.{length, getD, take, drop, drop-of-length-le, length-take}
 use lib.Seq.{drop-cons, length-take-le, getD-take}
 use Rattle.basics.specs.Basics.{larger}
 use Rattle.rows.specs.inside.Numbers.{rowIn, rowsIn}
-use Rattle.responses.specs.Figures.{longestHold}
+use Rattle.responses.specs.Figures.{largestHold}
 
 module _ (ns ps : List ℕ) (n : ℕ) where
-  abbrev longestFrom : ℕ → ℕ
-  longestFrom k = longestHold (rowsIn ns (drop k (take n ps)))
+  abbrev largestFrom : ℕ → ℕ
+  largestFrom k = largestHold (rowsIn ns (drop k (take n ps)))
 
-  pub holds-none : longestFrom n ≡ 0
+  pub holds-none : largestFrom n ≡ 0
   holds-none =
-      ap (λ (qs : List ℕ). longestHold (rowsIn ns qs))
+      ap (λ (qs : List ℕ). largestHold (rowsIn ns qs))
       (drop-of-length-le (take n ps) {i = n} (omega (arith, length-take n ps)))
 
   pub hold-more : (k : ℕ) → k < n → n ≤ length ps
-      → longestFrom k ≡ larger (rowIn ns (getD ps k 0) .hold) (longestFrom (suc k))
+      → largestFrom k ≡ larger (rowIn ns (getD ps k 0) .hold) (largestFrom (suc k))
   hold-more k l h =
-      ap (λ (qs : List ℕ). longestHold (rowsIn ns qs))
+      ap (λ (qs : List ℕ). largestHold (rowsIn ns qs))
       (drop-cons (take n ps) k 0 (omega (arith, length-take-le n ps h)))
-      ∙ ap (λ (p : ℕ). larger (rowIn ns p .hold) (longestFrom (suc k))) (getD-take n ps k 0 l)
+      ∙ ap (λ (p : ℕ). larger (rowIn ns p .hold) (largestFrom (suc k))) (getD-take n ps k 0 l)
 
 -- the rows from an index on are those at the positions from there on
 pub rows-rest : (ns : List ℕ) (k : ℕ) (ps : List ℕ) → drop k (rowsIn ns ps) ≡ rowsIn ns (drop k ps)

@@ -10,7 +10,7 @@ ghost use Rattle.responses.specs.Interference.{ceiling, interference, leastFixe
 ghost use Rattle.responses.specs.Figures.{blocking, mayHold, marginAt, lateFigures};
 ghost use Rattle.rows.specs.inside.Numbers.{rowIn, rowsIn};
 ghost use Rattle.analysis.specs.inside.Columns.{loads, columnsMax, baseMax, Columns, withTimes, Filled};
-ghost use Rattle.analysis.specs.inside.Columns.{Held, Fillable, UnderColumns, FiguresIn};
+ghost use Rattle.analysis.specs.inside.Columns.{Among, Fillable, UnderColumns, FiguresIn};
 use basics::larger;
 use responses::Figures;
 use rows::BEST;
@@ -117,28 +117,28 @@ fn earliest(row: Row, latest: u64, periods: &[u64], bests: &[u64], n: usize) -> 
     largest_fixed(row.best as u64, latest, periods, bests, n)
 }
 
-// What a longest hold blocks for: all of it but its first tick.
-pub fn blocking_time(longest: u64) -> u64
-    ensures { λ r. ⌜ r ≡ longest - 1 ⌝ }
+// What a largest hold blocks for: all of it but its first tick.
+pub fn blocking_time(largest: u64) -> u64
+    ensures { λ r. ⌜ r ≡ largest - 1 ⌝ }
 {
-    if longest == 0 {
+    if largest == 0 {
         return 0;
     }
-    longest - 1
+    largest - 1
 }
 
 // The blocking time of the rows at the positions from an index up to n.
 pub fn blocking_from(rows: &[u64], positions: &[usize], from: usize, n: usize) -> u64
-    requires { ⌜ (from ≤ n) × Held (now rows) (now positions) n ⌝ }
+    requires { ⌜ (from ≤ n) × Among (now rows) (now positions) n ⌝ }
     ensures { λ r. ⌜ r ≡ blocking (rowsIn (now (rows .entry)) (drop from (take n (now (positions .entry))))) ⌝ }
 {
-    let mut longest = 0;
+    let mut largest = 0;
     let mut k = n;
     while from < k {
         k -= 1;
-        longest = larger(hold_at(rows, positions[k]), longest);
+        largest = larger(hold_at(rows, positions[k]), largest);
     }
-    blocking_time(longest)
+    blocking_time(largest)
 }
 
 // The times of row i, the numbers of it that figures take, are put at index k of three columns of n numbers.

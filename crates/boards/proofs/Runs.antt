@@ -17,7 +17,7 @@ use Rattle.rows.proofs.Limits.{Times, times, at-passes}
 use Rattle.responses.specs.Figures.{rowsBelow}
 use Rattle.responses.specs.Claims.{NoneHolds}
 use Rattle.boards.specs.Claims.{LastsInRange, Finishes}
-use Rattle.boards.specs.Runs.{mayGoOn, stretch, GoesOn, ByRank, ByRules, boardGoesTo, BoardRuns}
+use Rattle.boards.specs.Runs.{goesOnAfter, stretch, GoesOn, ByRank, ByRules, boardGoesTo, BoardRuns}
 use Rattle.boards.proofs.Releases.{needed, needed-grows}
 use Rattle.boards.proofs.Service.{service, service-step, service-grows, service-most, Run, own-tick}
 use Rattle.boards.proofs.Stretches.{holdOf, boardBefore, onIn, runsIn, beganIn, runs-on, off}
@@ -99,7 +99,7 @@ module _ (order : List Row) (offset : ℕ → ℕ) (need : ℕ → ℕ → ℕ) 
         | inr e ↦ (
             let next = left-new order offset need keeps t open-still e in
             let none : OnByRules i k t → ⊥ = λ g. true-not-false (on t) (s .on-if i k l g .0) e in
-            let new = false-of (mayGoOn order offset need keeps takes i k t (stretched i k t)) none in
+            let new = false-of (goesOnAfter order offset need keeps takes i k t (stretched i k t)) none in
             rw (goes, new) (omega arith, omega (arith, next, ap (holdOf order) (n .ran))))
       ]
 

@@ -15,7 +15,7 @@ use Rattle.basics.proofs.Tests.{test-of, and-left, and-right}
 use Rattle.basics.proofs.Numbers.{larger-left, larger-right}
 use Rattle.rows.specs.Rows.{rowAt}
 use Rattle.rows.specs.declared.Row.{Row}
-use Rattle.boards.specs.Runs.{ticksOf, Pending, mayGoOn, stretch, ByRank, ByRules}
+use Rattle.boards.specs.Runs.{ticksOf, Pending, goesOnAfter, stretch, ByRank, ByRules}
 
 both-true : (a b : Bool) → (a ≡ true → b ≡ true) → (b ≡ true → a ≡ true) → a ≡ b
 both-true true b f g = sym (f refl)
@@ -28,13 +28,13 @@ Schedule = ℕ → ℕ → ℕ → Bool
 module _ (order : List Row) (offset : ℕ → ℕ) (need : ℕ → ℕ → ℕ) (keeps : ℕ → Bool) where
   -- ---- the test that a stretch goes on
   module _ (f : Schedule) where
-    pub record MayGoOn (i k t n : ℕ) : Type 0 where
+    pub record GoesOnAfter (i k t n : ℕ) : Type 0 where
       pub kept : keeps t ≡ true
       pub begun : 1 ≤ n
       pub shorter : n < rowAt order i .hold
       pub unfinished : ticksOf order offset need keeps f i k t < need i k
 
-    pub goes-on-of : (i k t n : ℕ) → mayGoOn order offset need keeps f i k t n ≡ true → MayGoOn i k t n
+    pub goes-on-of : (i k t n : ℕ) → goesOnAfter order offset need keeps f i k t n ≡ true → GoesOnAfter i k t n
     goes-on-of i k t n e =
         let x = leb 1 n in
         let y = ltb n (rowAt order i .hold) in
@@ -48,7 +48,7 @@ module _ (order : List Row) (offset : ℕ → ℕ) (need : ℕ → ℕ → ℕ) 
           unfinished = ltb-true (ticksOf order offset need keeps f i k t) (need i k) (and-right y z e₂);
         }
 
-    pub of-goes-on : (i k t n : ℕ) → MayGoOn i k t n → mayGoOn order offset need keeps f i k t n ≡ true
+    pub of-goes-on : (i k t n : ℕ) → GoesOnAfter i k t n → goesOnAfter order offset need keeps f i k t n ≡ true
     of-goes-on i k t n m =
         rw (m .kept, le-leb 1 n (m .begun), lt-ltb n (rowAt order i .hold) (m .shorter))
         (lt-ltb (ticksOf order offset need keeps f i k t) (need i k) (m .unfinished))
@@ -60,7 +60,7 @@ module _ (order : List Row) (offset : ℕ → ℕ) (need : ℕ → ℕ → ℕ) 
         let n = stretch order offset need keeps f i k t in
         let hold = rowAt order i .hold in
         elim (test-of (f i k t)) [
-          | inl e ↦ elim (test-of (mayGoOn order offset need keeps f i k t n)) [
+          | inl e ↦ elim (test-of (goesOnAfter order offset need keeps f i k t n)) [
             | inl m ↦ rw (e, m) (le-trans (goes-on-of i k t n m .shorter) (larger-right 1 hold))
             | inr m ↦ rw (e, m) (larger-left 1 hold)
           ]
@@ -81,7 +81,7 @@ module _ (order : List Row) (offset : ℕ → ℕ) (need : ℕ → ℕ → ℕ) 
       record { ticks-same = λ i k l. sym (a .ticks-same i k l); stretch-same = λ i k l. sym (a .stretch-same i k l) }
 
   abbrev goesOnIn : Schedule → ℕ → ℕ → ℕ → Bool
-  goesOnIn f i k t = mayGoOn order offset need keeps f i k t (stretch order offset need keeps f i k t)
+  goesOnIn f i k t = goesOnAfter order offset need keeps f i k t (stretch order offset need keeps f i k t)
 
   on-alike : (f g : Schedule) (t : ℕ) → Alike f g t → (i k : ℕ) → i < length order → goesOnIn f i k t ≡ goesOnIn g i k t
   on-alike f g t a i k l =

@@ -1,7 +1,7 @@
 -- Service: which rank each tick goes to, and how many each rank has had. A tick in a stretch may go to a rank while
 -- those above it have work left; but they had none when the stretch began, so a tick that is quiet for them, one before
 -- which all of their work is done, lies at most a stretch back. So after the last quiet tick lower ranks have no more
--- ticks than their longest hold less one.
+-- ticks than their largest hold less one.
 use mathlib.Core.Path.{_≡_, ap₂, _∙_}
 use mathlib.Core.Bool.{Bool, true, false}
 use mathlib.Core.Logic.{_⊎_, inl, inr}
@@ -156,7 +156,7 @@ module _ (N : ℕ) (hold : ℕ → ℕ) (runs began : ℕ → ℕ) (work : ℕ �
       sum-tight n (λ j. service runs j t) (λ j. work j t) (λ j b. service-within j t (lt-of-lt-of-le b l))
       (omega (arith, sum-service runs n t))
 
-  -- a stretch of no rank above n began before a quiet tick
+  -- the tick after a lower rank's stretch began is quiet for the ranks above n
   quiet-after : (n t : ℕ) → n ≤ N → n ≤ runs t → Quiet runs work n (suc (began t))
   quiet-after n t l h =
       let u = began t in

@@ -39,8 +39,8 @@ module _ (order : List Row) (offset : ℕ → ℕ) (need : ℕ → ℕ → ℕ) 
 
     -- a stretch of n ticks up to tick t goes on in it: it has begun and is shorter than the row's hold, its job is
     -- unfinished and keeps the processor
-    abbrev pub mayGoOn : ℕ → ℕ → ℕ → ℕ → Bool
-    mayGoOn i k t n =
+    abbrev pub goesOnAfter : ℕ → ℕ → ℕ → ℕ → Bool
+    goesOnAfter i k t n =
         keeps t && (leb 1 n && (ltb n (rowAt order i .hold) && ltb (ticksOf i k t) (need i k)))
 
     -- the ticks of the job's stretch up to tick t, 0 where tick t - 1 did not go to it; a tick that does not go on in a
@@ -48,11 +48,11 @@ module _ (order : List Row) (offset : ℕ → ℕ) (need : ℕ → ℕ → ℕ) 
     abbrev pub stretch : ℕ → ℕ → ℕ → ℕ
     stretch i k zero = 0
     stretch i k (suc t) =
-        pick (goesTo i k t) (suc (pick (mayGoOn i k t (stretch i k t)) (stretch i k t) 0)) 0
+        pick (goesTo i k t) (suc (pick (goesOnAfter i k t (stretch i k t)) (stretch i k t) 0)) 0
 
     -- its stretch goes on in tick t
     abbrev pub GoesOn : ℕ → ℕ → ℕ → Type 0
-    GoesOn i k t = mayGoOn i k t (stretch i k t) ≡ true
+    GoesOn i k t = goesOnAfter i k t (stretch i k t) ≡ true
 
     -- tick t falls to it by rank: it is the pending job of highest rank, the oldest of its task
     pub record ByRank (i k t : ℕ) : Type 0 where
@@ -83,7 +83,7 @@ module _ (order : List Row) (offset : ℕ → ℕ) (need : ℕ → ℕ → ℕ) 
     pub no-other :
         (goesTo : ℕ → ℕ → ℕ → Bool) → ByRules goesTo
         → (i k t : ℕ) → i < length order → goesTo i k t ≡ boardGoesTo i k t
-    -- no stretch is longer than its row's hold, and none of a hold of 0 has a second tick
+    -- no stretch is longer than its row's hold, or than the one tick that falls to it by rank
     pub held-most :
         (i k t : ℕ) → i < length order → stretch boardGoesTo i k t ≤ larger 1 (rowAt order i .hold)
     -- a tick is idle only with no job pending
@@ -107,7 +107,7 @@ module _ (order : List Row) (offset : ℕ → ℕ) (need : ℕ → ℕ → ℕ) 
         (i k m f g : ℕ) → i < length order → k < m
         → Finishes order offset need keeps i (released i k) f → Finishes order offset need keeps i (released i m) g
         → f < g
-    -- the highest rank is never held up, where no task below may hold the processor
+    -- the highest rank is never delayed, where no task below may hold the processor past a tick
     pub highest-first :
         0 < length order → NoneHolds (rowsBelow order 0) → ((k : ℕ) → need 0 k ≤ rowAt order 0 .period)
         → (k : ℕ) → Finishes order offset need keeps 0 (released 0 k) (released 0 k + need 0 k)

@@ -13,13 +13,13 @@ use Rattle.plans.specs.Plans.{rankText, headText, planText, refusalText}
 use Rattle.plans.specs.Outcomes.{fitted}
 use Rattle.demands.specs.Calls.{onTable, ifOrdered}
 use Rattle.crane_demands.specs.Calls.{craneText, craned}
-use Rattle.crane_demands.specs.Cases.{AllHold, cuts, cranes}
+use Rattle.crane_demands.specs.Cases.{AllSo, cuts, cranes}
 
-pub cuts-hold : AllHold cuts
-cuts-hold = (refl, (refl, (refl, (refl, (refl, (refl, (refl, (refl, (refl, (refl, tt))))))))))
+pub cuts-so : AllSo cuts
+cuts-so = (refl, (refl, (refl, (refl, (refl, (refl, (refl, (refl, (refl, (refl, tt))))))))))
 
-pub cranes-hold : AllHold cranes
+pub cranes-so : AllSo cranes
 unfolding digits decimal signed keyLine numberOf lineAt formAt readFor readTable
     cost blocking smallest largest overSet rankText headText planText refusalText fitted onTable ifOrdered
     craneText craned
-cranes-hold = (refl, (refl, (refl, (refl, (refl, (refl, (refl, (refl, (refl, (refl, tt))))))))))
+cranes-so = (refl, (refl, (refl, (refl, (refl, (refl, (refl, (refl, (refl, (refl, tt))))))))))

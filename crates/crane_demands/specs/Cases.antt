@@ -14,14 +14,14 @@ pub data Case : Type 0 where
   call : List ℕ → ℕ → Outcome → Case
   prints : List ℕ → List ℕ → Case
 
-abbrev pub Holds : Case → Type 0
-Holds (cut text ps) = pieces text ≡ ps
-Holds (call text room w) = craned text room ≡ w
-Holds (prints text output) = cranePrints text ≡ output
+abbrev pub IsSo : Case → Type 0
+IsSo (cut text ps) = pieces text ≡ ps
+IsSo (call text room w) = craned text room ≡ w
+IsSo (prints text output) = cranePrints text ≡ output
 
-abbrev pub AllHold : List Case → Type 0
-AllHold [] = Unit {0}
-AllHold (c ∷ cs) = Holds c × AllHold cs
+abbrev pub AllSo : List Case → Type 0
+AllSo [] = Unit {0}
+AllSo (c ∷ cs) = IsSo c × AllSo cs
 
 -- a text n times
 abbrev pub times : ℕ → List ℕ → List ℕ

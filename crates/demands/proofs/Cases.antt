@@ -21,7 +21,7 @@ use Rattle.orders.specs.Orders.{overSet}
 use Rattle.plans.specs.Plans.{rankText, headText, planText, refusalText}
 use Rattle.plans.specs.Outcomes.{fitted, ifInTime}
 use Rattle.demands.specs.Calls.{onTable, ifOrdered}
-use Rattle.demands.specs.Cases.{HasFigures, AllHold, row11, row12, row13, starred, unstarred, held}
+use Rattle.demands.specs.Cases.{HasFigures, AllSo, row11, row12, row13, starred, unstarred, ofHolds}
 
 -- the rows below count by their blocking time, which is that of none
 none-blocks : (below : List Row) → NoneHolds below → blocking below ≡ blocking []
@@ -43,10 +43,10 @@ late-over : (t : Row) (above : List Row) → isLate t above [] ≡ true
 late-over t above h below none =
     by-blocking t above below [] (none-blocks below none) .late-same ∙ h
 
-pub starred-hold : AllHold starred
+pub starred-so : AllSo starred
 unfolding digits decimal signed keyLine numberOf lineAt formAt readFor readTable
     cost blocking smallest largest overSet rankText headText planText fitted onTable ifOrdered
-starred-hold = (
+starred-so = (
   over (row13 57000) [] (refl, refl, refl, refl, refl),
   (
     over (row13 57000) (row12 8000 ∷ []) (refl, refl, refl, refl, refl),
@@ -66,21 +66,24 @@ starred-hold = (
   ),
 )
 
-pub unstarred-hold : AllHold unstarred
+pub unstarred-so : AllSo unstarred
 unfolding digits decimal signed keyLine numberOf lineAt formAt readFor readTable
     cost blocking smallest largest overSet rankText headText planText refusalText fitted ifInTime onTable ifOrdered
-unstarred-hold = (refl, (refl, (refl, (refl, (refl, (refl, (refl, tt)))))))
+unstarred-so = (refl, (refl, (refl, (refl, (refl, (refl, (refl, tt)))))))
 
-pub held-hold : AllHold held
+pub holds-so : AllSo ofHolds
 unfolding digits decimal signed keyLine numberOf lineAt formAt readFor readTable
     cost blocking smallest largest overSet rankText headText planText fitted onTable ifOrdered
-held-hold = (
+holds-so = (
   (refl, refl, refl, refl, refl),
   (
     (refl, refl, refl, refl, refl),
     (
       (refl, refl, refl, refl, refl),
-      ((refl, refl, refl, refl, refl), (refl, (refl, (refl, (refl, tt))))),
+      (
+        (refl, refl, refl, refl, refl),
+        ((refl, refl, refl, refl, refl), (refl, (refl, (refl, (refl, tt))))),
+      ),
     ),
   ),
 )

@@ -43,19 +43,19 @@ HasFigures t above below e w j m =
     × (jitter t above below ≡ j)
     × (margin t above below ≡ m)
 
-abbrev pub Holds : Case → Type 0
-Holds (figures t above e w j m) = (below : List Row) → NoneHolds below → HasFigures t above below e w j m
-Holds (between t above below e w j m) = HasFigures t above below e w j m
-Holds (late t above) = (below : List Row) → NoneHolds below → isLate t above below ≡ true
-Holds (order rows tasks) = tasksIn (chosenOrder rows) ≡ some tasks
-Holds (plan text output) = planned text planRoom ≡ writes output
-Holds (refusal text number place) = planned text planRoom ≡ refuses number place
-Holds (planner text output) = plannerPrints text ≡ output
-Holds (reviewer text output) = reviewerPrints text ≡ output
+abbrev pub IsSo : Case → Type 0
+IsSo (figures t above e w j m) = (below : List Row) → NoneHolds below → HasFigures t above below e w j m
+IsSo (between t above below e w j m) = HasFigures t above below e w j m
+IsSo (late t above) = (below : List Row) → NoneHolds below → isLate t above below ≡ true
+IsSo (order rows tasks) = tasksIn (chosenOrder rows) ≡ some tasks
+IsSo (plan text output) = planned text planRoom ≡ writes output
+IsSo (refusal text number place) = planned text planRoom ≡ refuses number place
+IsSo (planner text output) = plannerPrints text ≡ output
+IsSo (reviewer text output) = reviewerPrints text ≡ output
 
-abbrev pub AllHold : List Case → Type 0
-AllHold [] = Unit {0}
-AllHold (c ∷ cs) = Holds c × AllHold cs
+abbrev pub AllSo : List Case → Type 0
+AllSo [] = Unit {0}
+AllSo (c ∷ cs) = IsSo c × AllSo cs
 
 -- the paper's rows and table, with the betas of tasks 11, 12 and 13
 abbrev pub row11 : ℕ → Row
@@ -151,15 +151,16 @@ bus beta last = lined (
     ∷ "task=2" ∷ "period=20" ∷ "worst=5" ∷ "best=3" ∷ "alpha=1000" ∷ "beta=20000" ∷ last
     ∷ [])
 
-abbrev pub held : List Case
-held =
-    -- the largest hold below less 1, whatever the task's own hold and those above; a hold of 1 blocks nobody
+abbrev pub ofHolds : List Case
+ofHolds =
+    -- the largest hold below less 1; a hold of 1 blocks nobody, nor does one above or the task's own
     between (row11 8000) (row12 8000 ∷ []) (holding13 5 ∷ []) 6 12 6 (negsuc 3999)
     ∷ between (row11 8000) (row12 8000 ∷ []) (holding13 1 ∷ []) 6 8 2 (pos 0)
+    ∷ between (row11 8000) (row 12 18 2 2 1000 8000 2 ∷ []) [] 6 8 2 (pos 0)
     ∷ between (holding13 1) (row11 8000 ∷ row12 8000 ∷ []) [] 25 35 10 (pos 2000)
     -- a task that may hold for 2 ticks has its best as E
     ∷ between (holding13 2) (row11 8000 ∷ row12 8000 ∷ []) [] 17 35 18 (negsuc 13999)
-    -- a margin of 2000 for the task above, which needs 4000 of beta; without one no order is left
+    -- the task above needs 4000 of beta: with 6000 its margin is 2000, and with 3999 no order is left
     ∷ plan (bus "beta=6000" "hold=3")
     (lined (
     "plan=1" ∷ "board=7" ∷ "tasks=2"

@@ -3,21 +3,20 @@
 use mathlib.Core.Path.{_≡_, refl, ap, ap₂, sym, _∙_}
 use mathlib.Core.Bool.{Bool, true, false, _&&_, not}
 use mathlib.Core.Logic.{inl, inr}
-use mathlib.Core.List.{List, [], _∷_}
-use Prim.Native.Nat.{ℕ, suc, _+_, _-_, _*_, _≤_, _<_}
+use mathlib.Core.List.{List}
+use Prim.Native.Nat.{ℕ, _+_, _-_, _≤_, _<_}
 use native.Mathlib.Omega.{arith}
 use lib.Dec.{leb}
-use lib.ListN.{length, getD, take, drop}
-use lib.Seq.{drop-drop}
+use lib.ListN.{length, getD, take}
 use borrow.Author.Tests.{leb-true, le-leb, lt-leb, not-true, not-false}
 use Rattle.basics.specs.Basics.{pick}
-use Rattle.basics.proofs.Tests.{test-of, le-or-lt, and-left, and-right}
-use Rattle.rows.specs.Rows.{fieldCount, inRange, timesInRange, allRows, noRow}
+use Rattle.basics.proofs.Tests.{le-or-lt, and-left, and-right}
+use Rattle.rows.specs.Rows.{inRange, timesInRange, allRows}
 use Rattle.rows.specs.declared.Row.{Row}
 use Rattle.rows.specs.inside.Numbers.{rowIn, rowsOf, rowsIn, numbersRoom, RowsPut}
-use Rattle.rows.proofs.RowNumbers.{rowsPast, rows-length, rows-are}
+use Rattle.rows.proofs.RowNumbers.{rows-length, rows-are}
 use Rattle.analysis.proofs.Filling.{rows-long, row-is}
-use Rattle.responses.specs.Figures.{blocking, maxOthers, inLimits, figuresUnder, noFigures, figuresOf}
+use Rattle.responses.specs.Figures.{maxOthers, inLimits, figuresUnder, noFigures, figuresOf}
 use Rattle.responses.specs.Claims.{FiguresSay}
 use Rattle.responses.specs.declared.Figures.{Figures}
 use Rattle.responses.proofs.Responses.{limits-times, figured}

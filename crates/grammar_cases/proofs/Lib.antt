@@ -1,4 +1,4 @@
--- Laws of the toy text, cases of it and of a table, and that a table reads as it did.
+-- Laws of the toy text, and cases of it and of a table.
 pub mod ToyLines
 pub mod ToyCases
 pub mod TableCases

@@ -1,2 +1,2 @@
--- A next text at the price of a page, and the reading of a table before it was a grammar.
+-- A next text at the price of a page.
 pub mod ToyLines

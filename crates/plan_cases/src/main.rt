@@ -4,7 +4,7 @@ use trials::Answer;
 use trials::SPACE;
 ghost use Rattle.io.specs.Counts.{Counts};
 
-// The document's table up to the last beta, with a hold of 0 in each row, and its plan.
+// The document's table up to the last beta, with a hold of 0 in each row before it, and its plan.
 const EXAMPLE: [u8; 185] = *b"board=7
 tasks=3
 task=11

@@ -1,16 +1,15 @@
 -- What the calls plan: rows in an order of their tasks, at the positions of these tasks.
 use mathlib.Core.Path.{_≡_, sym, ap, subst, _∙_}
-use mathlib.Core.Bool.{true}
 use mathlib.Core.List.{List, _++_}
-use Prim.Native.Nat.{ℕ, suc, _*_, _≤_, _<_}
+use Prim.Native.Nat.{ℕ, _≤_, _<_}
 use native.Mathlib.Omega.{arith}
 use lib.ListN.{length, getD, take, drop}
 use lib.Seq.{length-take-le, getD-take}
-use Rattle.rows.specs.Rows.{maxTasks, fieldCount, inRange, allRows, allTasks, rowsFor}
+use Rattle.rows.specs.Rows.{inRange, allRows, allTasks, rowsFor}
 use Rattle.rows.specs.declared.Row.{Row}
 use Rattle.rows.specs.declared.Order.{Order}
 use Rattle.rows.specs.inside.Arrays.{ranked}
-use Rattle.rows.specs.inside.Numbers.{rowsOf, rowsIn, rowsAt, positionsFor, Below}
+use Rattle.rows.specs.inside.Numbers.{rowsOf, rowsIn, positionsFor, Below}
 use Rattle.rows.proofs.RowNumbers.{rows-length, rows-in}
 use Rattle.rows.proofs.Tasks.{positions-below, positions-are, rows-for-positions, at-all-pass}
 use Rattle.plan_orders.specs.inside.Ranks.{Ordered}

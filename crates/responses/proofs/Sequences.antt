@@ -20,7 +20,7 @@ use Rattle.responses.specs.declared.Figures.{Figures}
 use Rattle.responses.specs.Extremes.{smallest, largest}
 use Rattle.responses.specs.Interference.{ceiling, Load, interference}
 use Rattle.responses.specs.Figures.{worstLoad, bestLoad, worstIn, bestIn, blocking, latest, earliest}
-use Rattle.responses.specs.Figures.{longestHold, mayHold, rowsAbove, rowsBelow, marginAt, lateFigures, noFigures}
+use Rattle.responses.specs.Figures.{largestHold, mayHold, rowsAbove, rowsBelow, marginAt, lateFigures, noFigures}
 use Rattle.responses.specs.Figures.{figuresAt, figuresUnder, maxOthers, inLimits, figuresOf}
 use Rattle.responses.specs.Claims.{SameFigures, BySet, ByBlocking}
 use Rattle.responses.proofs.FixedPoints.{fixed-below, demand-mono, least-fixed, least-least}
@@ -104,7 +104,7 @@ unfolding blocking
 blocking-permuted p =
     ap (λ (h : ℕ). h - 1)
     (∥∥₁-elim p (ℕ-set _ _)
-    (permuted longestHold (λ r h. larger (r .hold) h) (λ r rs. refl) (λ r q h. larger-swap (r .hold) (q .hold) h)))
+    (permuted largestHold (λ r h. larger (r .hold) h) (λ r rs. refl) (λ r q h. larger-swap (r .hold) (q .hold) h)))
 
 pub same-permuted : {xs ys bs cs : List Row} → Perm xs ys → Perm bs cs → Same xs ys bs cs
 same-permuted p q = record {

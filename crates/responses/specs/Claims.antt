@@ -1,5 +1,6 @@
 -- What is claimed of the figures: they are those of the published formulas (demand 2), the rows above and below count
--- as sets, those below by their blocking time alone; and where no job may hold the processor, they are document 01's.
+-- as sets, those below by their blocking time alone; and where no job may hold the processor past a tick, they are
+-- document 01's.
 use mathlib.Core.Path.{_≡_}
 use mathlib.Core.Bool.{true, false}
 use mathlib.Core.List.{List, map, Perm}

@@ -33,15 +33,15 @@ worstIn x above = interference 0 x (map worstLoad above)
 abbrev pub bestIn : ℕ → List Row → ℕ
 bestIn x above = interference 1 x (map bestLoad above)
 
--- the longest stretch that jobs of some rows may keep the processor for
-abbrev pub longestHold : List Row → ℕ
-longestHold [] = 0
-longestHold (r ∷ rs) = larger (r .hold) (longestHold rs)
+-- the largest hold among some rows
+abbrev pub largestHold : List Row → ℕ
+largestHold [] = 0
+largestHold (r ∷ rs) = larger (r .hold) (largestHold rs)
 
--- the ticks that jobs of the rows below may hold a task up (its blocking time): one stretch, less its first tick, which
--- falls to it by rank
+-- the ticks for which jobs of the rows below may delay a task (its blocking time): one stretch, less its first tick,
+-- which fell to the stretch's job by rank
 unfoldable pub blocking : List Row → ℕ
-blocking below = longestHold below - 1
+blocking below = largestHold below - 1
 
 -- W, the worst-case response time; 0 where the task is late
 abbrev pub latest : Row → List Row → List Row → ℕ

@@ -75,15 +75,15 @@ fn gather(rows: &[u64], n: usize, m: usize, columns: &mut [u64]) -> usize
     count
 }
 
-// The longest hold of some rows, and of row j too where set m has not got it.
-fn longest_with(rows: &[u64], m: usize, j: usize, longest: u64) -> u64
+// The largest hold of some rows, and of row j too where set m has not got it.
+fn largest_with(rows: &[u64], m: usize, j: usize, largest: u64) -> u64
     requires { ⌜ (j < maxTasks) × (fieldCount * suc j ≤ length (now rows)) ⌝ }
-    ensures { λ r. ⌜ r ≡ pick (eqb (m / 2 ^ j % 2) 0) (larger (rowIn (now (rows .entry)) j .hold) longest) longest ⌝ }
+    ensures { λ r. ⌜ r ≡ pick (eqb (m / 2 ^ j % 2) 0) (larger (rowIn (now (rows .entry)) j .hold) largest) largest ⌝ }
 {
     if (m >> j) % 2 == 0 {
-        return larger(hold_at(rows, j), longest);
+        return larger(hold_at(rows, j), largest);
     }
-    longest
+    largest
 }
 
 // The blocking time of the rows outside set m, which are those below it.
@@ -91,13 +91,13 @@ fn blocking_outside(rows: &[u64], n: usize, m: usize) -> u64
     requires { ⌜ Lent n (now rows) ⌝ }
     ensures { λ r. ⌜ r ≡ blocking (others m (rowsOf n (now (rows .entry)))) ⌝ }
 {
-    let mut longest = 0;
+    let mut largest = 0;
     let mut j = n;
     while 0 < j {
         j -= 1;
-        longest = longest_with(rows, m, j, longest);
+        largest = largest_with(rows, m, j, largest);
     }
-    blocking_time(longest)
+    blocking_time(largest)
 }
 
 // Whether row i of set m is stable as its lowest row, under the rest of the set, over rows that block it for some

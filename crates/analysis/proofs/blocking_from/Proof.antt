@@ -1,4 +1,4 @@
--- Invariant: the longest of the holds from position k on.
+-- Invariant: the largest of the holds from position k on.
 use mathlib.Core.Path.{_≡_, sym, ap, ap₂, _∙_}
 use Prim.Native.Nat.{ℕ, suc, _-_, _≤_, _<_}
 use native.Mathlib.Omega.{arith}
@@ -6,18 +6,18 @@ use borrow.Author.Needs.{needs}
 use lib.ListN.{take, drop}
 use Rattle.basics.specs.Basics.{larger}
 use Rattle.rows.specs.inside.Numbers.{rowsIn}
-use Rattle.responses.specs.Figures.{longestHold}
+use Rattle.responses.specs.Figures.{largestHold}
 use Rattle.responses.proofs.Blocking.{blocking-is}
 use Rattle.analysis.proofs.Holds.{hold-more, holds-none}
 use Rattle.analysis.proofs.blocking_from.Statement.{statement}
 use Rattle.analysis.proofs.blocking_from.Tie as tie
 
 abbrev Inv-loop : tie.InvT-loop
-Inv-loop rows positions from n longest₀ k₀ longest k =
-    (from ≤ k) × (k ≤ n) × (longest ≡ longestHold (rowsIn rows (drop k (take n positions))))
+Inv-loop rows positions from n largest₀ k₀ largest k =
+    (from ≤ k) × (k ≤ n) × (largest ≡ largestHold (rowsIn rows (drop k (take n positions))))
 
 abbrev μ-loop : tie.MeasureT-loop
-μ-loop rows positions from n longest₀ k₀ longest k = k - from
+μ-loop rows positions from n largest₀ k₀ largest k = k - from
 
 loop-holds : tie.Need-loop-holds Inv-loop μ-loop
 loop-holds c =
@@ -61,7 +61,7 @@ loop-again c =
     let here : k < a .n = omega (arith, more, x .inv .1) in
     let step = hold-more (a .rows .now) (a .positions .now) (a .n) k here (s .pre .1 .positions-held) in
     let rest = x .inv .2
-    ∙ ap (λ (j : ℕ). longestHold (rowsIn (a .rows .now) (drop j (take (a .n) (a .positions .now))))) (sym one) in (
+    ∙ ap (λ (j : ℕ). largestHold (rowsIn (a .rows .now) (drop j (take (a .n) (a .positions .now))))) (sym one) in (
       omega (arith, more),
       omega (arith, x .inv .1),
       c .larger .ensures ∙ ap₂ larger (c .before .hold-at .ensures) rest ∙ sym step,
@@ -77,7 +77,7 @@ returns c =
     let x = c .before .before .loop in
     let e : x .k ≡ a .from = omega (arith, x .inv .0, c .before .loop-test .left) in
     let all = x .inv .2
-    ∙ ap (λ (j : ℕ). longestHold (rowsIn (a .rows .now) (drop j (take (a .n) (a .positions .now))))) e in
+    ∙ ap (λ (j : ℕ). largestHold (rowsIn (a .rows .now) (drop j (take (a .n) (a .positions .now))))) e in
     c .blocking-time .ensures ∙ ap (λ (h : ℕ). h - 1) all ∙ sym (blocking-is _)
 
 pub blocking-from-spec : {M : Type 1} → statement M

@@ -1,4 +1,4 @@
--- A longest hold of 0 has no first tick to leave out.
+-- A largest hold of 0 has no first tick to leave out.
 use native.Mathlib.Omega.{arith}
 use Rattle.analysis.proofs.blocking_time.Statement.{statement}
 use Rattle.analysis.proofs.blocking_time.Tie as tie

@@ -52,7 +52,7 @@ abbrev pub withTimes : List ℕ → ℕ → ℕ → Row → List ℕ
 withTimes columns n k r = set (set (set columns k (r .period)) (n + k) (cost r)) (n + n + k) (r .best)
 
 -- the numbers of rows hold those at n positions
-pub record Held (ns positions : List ℕ) (n : ℕ) : Type 0 where
+pub record Among (ns positions : List ℕ) (n : ℕ) : Type 0 where
   pub positions-held : n ≤ length positions
   pub rows-held : (j : ℕ) → j < n → fieldCount * suc (getD positions j 0) ≤ length ns
 
@@ -60,7 +60,7 @@ pub record Held (ns positions : List ℕ) (n : ℕ) : Type 0 where
 pub record Fillable (ns positions : List ℕ) (n : ℕ) (columns : List ℕ) : Type 0 where
   pub few : n ≤ columnsMax
   pub room : 3 * n ≤ length columns
-  pub held : Held ns positions n
+  pub held : Among ns positions n
 
 -- a row in range, columns with k rows above it, whose times are in range, and the blocking time of the rows below it
 pub record UnderColumns (t : Row) (blocked : ℕ) (columns : List ℕ) (n k : ℕ) : Type 0 where

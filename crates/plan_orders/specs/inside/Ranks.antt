@@ -10,7 +10,7 @@ use Rattle.text.specs.inside.Puts.{Put}
 use Rattle.rows.specs.Rows.{inRange, allRows}
 use Rattle.rows.specs.inside.Numbers.{rowsIn}
 use Rattle.rows.specs.declared.Row.{Row}
-use Rattle.analysis.specs.inside.Columns.{columnsMax, Held}
+use Rattle.analysis.specs.inside.Columns.{columnsMax, Among}
 use Rattle.plans.specs.Entries.{entries, firstLate}
 use Rattle.plans.specs.Plans.{rankTexts, planText}
 use Rattle.plans.specs.Outcomes.{Outcome, refuses, fitted}
@@ -19,7 +19,7 @@ use Rattle.plan_orders.specs.declared.RanksPut.{RanksPut}
 -- an order is the rows at n positions among the numbers of rows, all in range
 pub record Ordered (ns positions : List ℕ) (n : ℕ) : Type 0 where
   pub few : n ≤ columnsMax
-  pub held : Held ns positions n
+  pub held : Among ns positions n
   pub in-range : allRows inRange (rowsIn ns (take n positions)) ≡ true
 
 -- where a rank is late, the end and the bytes from the offset on are left open

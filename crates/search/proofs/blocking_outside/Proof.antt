@@ -1,4 +1,4 @@
--- Invariant: the longest of the holds outside the set, of the rows from row j on.
+-- Invariant: the largest of the holds outside the set, of the rows from row j on.
 use mathlib.Core.Path.{_≡_, sym, ap, ap₂, _∙_}
 use Prim.Native.Nat.{ℕ, suc, _-_, _/_, _%_, _^_, _≤_, _<_}
 use native.Mathlib.Omega.{arith}
@@ -10,15 +10,15 @@ use Rattle.rows.specs.inside.Numbers.{rowsOf}
 use Rattle.rows.proofs.RowNumbers.{rows-length, rows-at}
 use Rattle.responses.proofs.Blocking.{blocking-is}
 use Rattle.search.proofs.LentRows.{a-row, row-held}
-use Rattle.search.proofs.Outside.{longestFrom, outside-none, outside-more, outside-all}
+use Rattle.search.proofs.Outside.{largestFrom, outside-none, outside-more, outside-all}
 use Rattle.search.proofs.blocking_outside.Statement.{statement}
 use Rattle.search.proofs.blocking_outside.Tie as tie
 
 abbrev Inv-loop : tie.InvT-loop
-Inv-loop rows n m longest₀ j₀ longest j = (j ≤ n) × (longest ≡ longestFrom (rowsOf n rows) m j)
+Inv-loop rows n m largest₀ j₀ largest j = (j ≤ n) × (largest ≡ largestFrom (rowsOf n rows) m j)
 
 abbrev μ-loop : tie.MeasureT-loop
-μ-loop rows n m longest₀ j₀ longest j = j
+μ-loop rows n m largest₀ j₀ largest j = j
 
 loop-holds : tie.Need-loop-holds Inv-loop μ-loop
 loop-holds c =
@@ -29,8 +29,8 @@ loop-holds c =
 sub-j : tie.Need-sub-j Inv-loop μ-loop
 sub-j c = omega (arith, c .loop-test .taken)
 
-longest-with-requires : tie.Need-longest-with-requires Inv-loop μ-loop
-longest-with-requires c κs =
+largest-with-requires : tie.Need-largest-with-requires Inv-loop μ-loop
+largest-with-requires c κs =
     let s = c .before .before .before in
     let x = c .before .loop in
     let here : x .j - 1 < s .args .n = omega (arith, x .inv .0, c .loop-test .taken) in
@@ -50,10 +50,10 @@ loop-again c =
     let one : suc j ≡ x .j = omega (arith, more) in
     let here : j < a .n = omega (arith, more, x .inv .0) in
     let row = ap (λ (r : Row). r .hold) (sym (rows-at (a .n) j (a .rows .now) here)) in
-    let rest = x .inv .1 ∙ ap (longestFrom table (a .m)) (sym one) in
+    let rest = x .inv .1 ∙ ap (largestFrom table (a .m)) (sym one) in
     let next = ap₂ (λ (h l : ℕ). pick (eqb (a .m / 2 ^ j % 2) 0) (larger h l) l) row rest in (
       omega (arith, x .inv .0),
-      c .longest-with .ensures ∙ next ∙ sym (outside-more table (a .m) j (a-row (s .pre) j here)),
+      c .largest-with .ensures ∙ next ∙ sym (outside-more table (a .m) j (a-row (s .pre) j here)),
     )
 
 blocking-time-requires : tie.Need-blocking-time-requires Inv-loop μ-loop
@@ -65,7 +65,7 @@ returns c =
     let table = rowsOf (a .n) (a .rows .now) in
     let x = c .before .before .loop in
     let none : x .j ≡ 0 = omega (arith, c .before .loop-test .left) in
-    let all = x .inv .1 ∙ ap (longestFrom table (a .m)) none ∙ outside-all table (a .m) in
+    let all = x .inv .1 ∙ ap (largestFrom table (a .m)) none ∙ outside-all table (a .m) in
     c .blocking-time .ensures ∙ ap (λ (h : ℕ). h - 1) all ∙ sym (blocking-is _)
 
 pub blocking-outside-spec : {M : Type 1} → statement M
@@ -76,7 +76,7 @@ blocking-outside-spec =
     μ-loop
     loop-holds
     sub-j
-    longest-with-requires
+    largest-with-requires
     loop-less
     loop-again
     blocking-time-requires
