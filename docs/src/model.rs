@@ -168,7 +168,7 @@ fn read_ranked(text: &[u8]) -> Result<(Table, Vec<usize>), Refusal> {
 
 // ---- Figures ----------------------------------------------------------------------------
 
-/// The ticks that a row waits for what is below it: the largest hold there, less 1. The tick less
+/// A row's blocking time, for what is below it: the largest hold there, less 1. The tick less
 /// is the one in which the stretch begins.
 fn blocking(below: &[&Row]) -> u64 {
     let largest = below.iter().map(|under| under.hold).max().unwrap_or(0);
@@ -578,9 +578,10 @@ mod tests {
 
     /// The definitions of W and E tried number by number.
     fn figures_by_trying(row: &Row, above: &[&Row], below: &[&Row]) -> Option<(u64, u64)> {
-        let wait = below.iter().map(|r| r.hold).filter(|&hold| hold > 0).max().map_or(0, |h| h - 1);
+        let largest = below.iter().map(|r| r.hold).filter(|&hold| hold > 0).max();
+        let blocking = largest.map_or(0, |hold| hold - 1);
         let over = |w: u64| above.iter().map(|r| w.div_ceil(r.period) * r.worst).sum::<u64>();
-        let high = |w: u64| row.worst + wait + over(w);
+        let high = |w: u64| row.worst + blocking + over(w);
         let low = |e: u64| {
             row.best + above.iter().map(|r| (e.div_ceil(r.period) - 1) * r.best).sum::<u64>()
         };
@@ -645,7 +646,7 @@ mod tests {
         assert_eq!(figured_with([5, 0, 3], 1, &[]), Some((2, 6, 4, 2000)));
         assert_eq!(figured_with([0, 0, 17], 1, &[]), Some((2, 18, 16, -10000)));
         assert_eq!(figured_with([0, 0, 18], 1, &[]), None);
-        // Task 11 below 12: the wait reaches past a release of 12, which counts once more.
+        // Task 11 below 12: the blocking time reaches past a release of 12, which counts once more.
         assert_eq!(figured_with([0, 0, 2], 0, &[1]), Some((6, 9, 3, -1000)));
         assert_eq!(figured_with([0, 0, 11], 0, &[1]), Some((6, 18, 12, -10000)));
         assert_eq!(figured_with([0, 0, 12], 0, &[1]), Some((6, 21, 15, -13000)));
@@ -655,7 +656,7 @@ mod tests {
     }
 
     #[test]
-    fn holds_above_and_its_own_are_no_wait() {
+    fn holds_above_and_its_own_do_not_block() {
         assert_eq!(figured_with([6, 2, 0], 2, &[0, 1]), Some((25, 35, 10, 2000)));
         assert_eq!(figured_with([6, 2, 0], 0, &[1]), Some((6, 8, 2, 0)));
         assert_eq!(figured_with([6, 2, 0], 1, &[0]), Some((2, 8, 6, 0)));

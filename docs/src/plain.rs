@@ -3,7 +3,7 @@
 //!
 //! Sets of rows are bit masks. One byte a set says whether it has a stable order and which row is
 //! then the lowest; the search starts from the whole set, so only sets that matter are visited.
-//! What the lowest row of a set waits for is below it, and so outside the set: one number a set.
+//! The rows below the lowest row of a set are those outside it: one blocking time for a set.
 
 use crate::model::{Answer, Refusal, Row};
 
@@ -154,11 +154,11 @@ impl<const COUNTED: bool> Above<COUNTED> {
         }
     }
 
-    fn latest(&mut self, row: &Row, wait: u64) -> Option<u64> {
+    fn latest(&mut self, row: &Row, blocked: u64) -> Option<u64> {
         let mut time = row.worst;
         loop {
             self.count_a_sum();
-            let mut next = row.worst + wait;
+            let mut next = row.worst + blocked;
             for (period, worst) in self.period[..self.count].iter().zip(&self.worst) {
                 next += time.div_ceil(*period) * worst;
             }
@@ -187,17 +187,17 @@ impl<const COUNTED: bool> Above<COUNTED> {
         }
     }
 
-    /// The figures of a row that waits so long for what is below it.
-    fn figures(&mut self, row: &Row, wait: u64) -> Option<Figures> {
-        let worst = self.latest(row, wait)?;
+    /// The figures of a row that the rows below it block for so long.
+    fn figures(&mut self, row: &Row, blocked: u64) -> Option<Figures> {
+        let worst = self.latest(row, blocked)?;
         let best = if row.hold < 2 { self.earliest(row, worst) } else { row.best };
         let cost = 1_000 * best + row.alpha * (worst - best);
         Some(Figures { best, worst, margin: row.beta as i64 - cost as i64 })
     }
 }
 
-/// What a row waits for the rows below it.
-fn wait_for<'a>(below: impl Iterator<Item = &'a Row>) -> u64 {
+/// The ticks for which the rows below may block a row.
+fn blocking_time<'a>(below: impl Iterator<Item = &'a Row>) -> u64 {
     below.fold(0, |largest, row| row.hold.max(largest)).saturating_sub(1)
 }
 
@@ -219,20 +219,20 @@ impl<const COUNTED: bool> Search<'_, COUNTED> {
 
     fn find_lowest(&mut self, set: usize) -> u8 {
         let outside = self.rows.iter().enumerate().filter(|(index, _)| set >> index & 1 == 0);
-        let wait = wait_for(outside.map(|(_, row)| row));
+        let blocked = blocking_time(outside.map(|(_, row)| row));
         for index in 0..self.rows.len() {
             let rest = set & !(1 << index);
             let may_go = rest != set && self.lowest[rest] != NONE;
-            if may_go && self.is_stable(index, rest, wait) && self.has_order(rest) {
+            if may_go && self.is_stable(index, rest, blocked) && self.has_order(rest) {
                 return index as u8;
             }
         }
         NONE
     }
 
-    fn is_stable(&mut self, index: usize, rest: usize, wait: u64) -> bool {
+    fn is_stable(&mut self, index: usize, rest: usize, blocked: u64) -> bool {
         self.above.fill(self.rows, rest);
-        self.above.figures(&self.rows[index], wait).is_some_and(|figures| figures.margin >= 0)
+        self.above.figures(&self.rows[index], blocked).is_some_and(|figures| figures.margin >= 0)
     }
 
     /// The order, highest rank first, read off the table of sets from the lowest up.
@@ -282,8 +282,8 @@ fn plan_text(board: u64, rows: &[Row], order: &[usize]) -> Result<Vec<u8>, Refus
     let mut above = Above::<false>::new();
     for (at, &index) in order.iter().enumerate() {
         let (row, rank) = (&rows[index], at as u64 + 1);
-        let wait = wait_for(order[at + 1..].iter().map(|&index| &rows[index]));
-        let figures = above.figures(row, wait).ok_or(Refusal { number: 7, place: rank })?;
+        let blocked = blocking_time(order[at + 1..].iter().map(|&index| &rows[index]));
+        let figures = above.figures(row, blocked).ok_or(Refusal { number: 7, place: rank })?;
         push_line(&mut text, b"rank=", rank);
         push_line(&mut text, b"task=", row.task);
         push_line(&mut text, b"best=", figures.best);
