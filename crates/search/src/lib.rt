@@ -1,14 +1,12 @@
 // The order of a table's tasks by the rule, found from the whole set down with a byte for each set.
 ghost use mathlib.Core.Path.{_≡_};
 ghost use mathlib.Core.List.{[], _++_};
-ghost use Prim.Native.Nat.{suc, _*_, _/_, _%_, _^_, _≤_, _<_};
-ghost use lib.Dec.{eqb};
+ghost use Prim.Native.Nat.{_*_, _/_, _%_, _^_, _≤_, _<_};
 ghost use lib.ListN.{length, drop};
-ghost use Rattle.basics.specs.Basics.{pick, larger};
-ghost use Rattle.rows.specs.Rows.{maxTasks, fieldCount};
+ghost use Rattle.rows.specs.Rows.{maxTasks};
 ghost use Rattle.rows.specs.inside.Arrays.{ranking};
-ghost use Rattle.rows.specs.inside.Numbers.{rowsOf, rowIn};
-ghost use Rattle.responses.specs.Figures.{blocking};
+ghost use Rattle.rows.specs.inside.Numbers.{rowsOf};
+ghost use Rattle.responses.specs.Figures.{largestHold, blocking};
 ghost use Rattle.search.specs.inside.Sets.{others, fits, Fresh, Settled};
 ghost use Rattle.orders.specs.Stability.{stable};
 ghost use Rattle.search.specs.inside.Search.{Lent, Gathered, Searching, MayGo, LowestFound};
@@ -75,31 +73,6 @@ fn gather(rows: &[u64], n: usize, m: usize, columns: &mut [u64]) -> usize
     count
 }
 
-// The largest hold of some rows, and of row j too where set m has not got it.
-fn largest_with(rows: &[u64], m: usize, j: usize, largest: u64) -> u64
-    requires { ⌜ (j < maxTasks) × (fieldCount * suc j ≤ length (now rows)) ⌝ }
-    ensures { λ r. ⌜ r ≡ pick (eqb (m / 2 ^ j % 2) 0) (larger (rowIn (now (rows .entry)) j .hold) largest) largest ⌝ }
-{
-    if (m >> j) % 2 == 0 {
-        return larger(hold_at(rows, j), largest);
-    }
-    largest
-}
-
-// The blocking time of the rows outside set m, which are those below it.
-fn blocking_outside(rows: &[u64], n: usize, m: usize) -> u64
-    requires { ⌜ Lent n (now rows) ⌝ }
-    ensures { λ r. ⌜ r ≡ blocking (others m (rowsOf n (now (rows .entry)))) ⌝ }
-{
-    let mut largest = 0;
-    let mut j = n;
-    while 0 < j {
-        j -= 1;
-        largest = largest_with(rows, m, j, largest);
-    }
-    blocking_time(largest)
-}
-
 // Whether row i of set m is stable as its lowest row, under the rest of the set, over rows that block it for some
 // ticks.
 fn stable_under(
@@ -143,16 +116,26 @@ fn may_go(
     stable_under(rows, n, m, i, blocked, columns)
 }
 
-// The first row of the table that goes lowest in set m.
-fn lowest(rows: &[u64], n: usize, m: usize, sets: &mut [u8], columns: &mut [u64]) -> u8
-    requires { ⌜ Searching n (now rows) m (now sets) × (1 ≤ m) × (3 * n ≤ length (now columns)) ⌝ }
+// The first row of the table that goes lowest in set m. The rows below it are those outside the set, whose largest hold
+// is known; a row that goes lowest is outside the rest.
+fn lowest(
+    rows: &[u64],
+    n: usize,
+    m: usize,
+    largest: u64,
+    sets: &mut [u8],
+    columns: &mut [u64],
+) -> u8
+    requires { ⌜ Searching n (now rows) m (now sets) × (1 ≤ m) × (3 * n ≤ length (now columns))
+        × (largest ≡ largestHold (others m (rowsOf n (now rows)))) ⌝ }
     ensures { λ r. ⌜ LowestFound (rowsOf n (now (rows .entry))) m (now (sets .exit)) r ⌝ }
 {
-    let blocked = blocking_outside(rows, n, m);
+    let blocked = blocking_time(largest);
     let mut i: usize = 0;
     while i < n {
         if may_go(rows, n, m, i, blocked, sets, columns) {
-            if settled(rows, n, m - power(i), sets, columns) {
+            let outside = larger(hold_at(rows, i), largest);
+            if settled(rows, n, m - power(i), outside, sets, columns) {
                 return i as u8;
             }
         }
@@ -161,9 +144,17 @@ fn lowest(rows: &[u64], n: usize, m: usize, sets: &mut [u8], columns: &mut [u64]
     NO_ORDER
 }
 
-// Whether set m has an order; the record then has the set.
-fn settled(rows: &[u64], n: usize, m: usize, sets: &mut [u8], columns: &mut [u64]) -> bool
-    requires { ⌜ Searching n (now rows) m (now sets) × (3 * n ≤ length (now columns)) ⌝ }
+// Whether set m has an order, with the largest hold of the rows outside it; the record then has the set.
+fn settled(
+    rows: &[u64],
+    n: usize,
+    m: usize,
+    largest: u64,
+    sets: &mut [u8],
+    columns: &mut [u64],
+) -> bool
+    requires { ⌜ Searching n (now rows) m (now sets) × (3 * n ≤ length (now columns))
+        × (largest ≡ largestHold (others m (rowsOf n (now rows)))) ⌝ }
     ensures { λ r. ⌜ Settled stable (rowsOf n (now (rows .entry))) m (now (sets .exit)) r ⌝ }
 {
     if m == 0 {
@@ -171,7 +162,7 @@ fn settled(rows: &[u64], n: usize, m: usize, sets: &mut [u8], columns: &mut [u64
     }
     let known = sets[m];
     if known == UNKNOWN {
-        let found = lowest(rows, n, m, sets, columns);
+        let found = lowest(rows, n, m, largest, sets, columns);
         sets[m] = found;
         return found != NO_ORDER;
     }
@@ -226,7 +217,7 @@ fn order_with(rows: &[u64], n: usize, sets: &mut [u8], columns: &mut [u64]) -> C
     ensures { λ r. ⌜ Chooses (rowsOf n (now (rows .entry))) r ⌝ }
 {
     let all = power(n) - 1;
-    if settled(rows, n, all, sets, columns) {
+    if settled(rows, n, all, 0, sets, columns) {
         let order = read_off(rows, n, all, sets);
         return Choice { found: true, order };
     }

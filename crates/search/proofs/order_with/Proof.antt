@@ -15,10 +15,12 @@ use Rattle.rows.specs.inside.Numbers.{rowsOf}
 use Rattle.rows.proofs.RowNumbers.{rows-length}
 use Rattle.search.specs.declared.Choice.{Choice}
 use Rattle.orders.specs.Orders.{theOrder, orderOf}
-use Rattle.search.specs.inside.Sets.{isSome, orderAt, Fresh, Settled}
+use Rattle.responses.specs.Figures.{largestHold}
+use Rattle.search.specs.inside.Sets.{others, isSome, orderAt, Fresh, Settled}
 use Rattle.orders.specs.Stability.{stable}
 use Rattle.search.specs.inside.Search.{tasksIn, Lent, Chained, chainTasks, Chooses}
 use Rattle.search.proofs.LentRows.{small, a-set}
+use Rattle.search.proofs.Outside.{outside-none}
 use Rattle.search.proofs.Record.{begun}
 use Rattle.search.proofs.Chains.{chain}
 use Rattle.search.proofs.Scan.{at-whole}
@@ -43,6 +45,12 @@ module _ (n : ℕ) (ns : List ℕ) (lent : Lent n ns) (all : ℕ) (e : all ≡ 2
   whole =
       ap (orderAt stable table) (e ∙ ap (λ (k : ℕ). 2 ^ k - 1) (sym (rows-length n ns)))
       ∙ at-whole theOrder stable table
+
+  -- no row is outside it
+  none-outside : 0 ≡ largestHold (others all table)
+  none-outside =
+      sym (ap (λ (k : ℕ). largestHold (others k table)) (e ∙ ap (λ (k : ℕ). 2 ^ k - 1) (sym (rows-length n ns)))
+      ∙ outside-none table)
 
   in-table : all < 2 ^ n
   in-table = omega (arith, pow-pos n)
@@ -97,6 +105,7 @@ settled-requires c κs =
             (subst (λ (k : ℕ). Fresh k (a .sets .now)) (sym (rows-length (a .n) (a .rows .now))) (s .pre .1));
       },
       s .pre .2,
+      none-outside (a .n) (a .rows .now) l _ (all-is (c .before .before)),
     )
 
 read-off-requires : tie.Need-read-off-requires
