@@ -210,20 +210,21 @@ struct Search<'a, const COUNTED: bool> {
 }
 
 impl<const COUNTED: bool> Search<'_, COUNTED> {
-    fn has_order(&mut self, set: usize) -> bool {
+    /// Whether a set has an order, with the largest hold outside it.
+    fn has_order(&mut self, set: usize, largest: u64) -> bool {
         if self.lowest[set] == UNKNOWN {
-            self.lowest[set] = self.find_lowest(set);
+            self.lowest[set] = self.find_lowest(set, largest);
         }
         self.lowest[set] != NONE
     }
 
-    fn find_lowest(&mut self, set: usize) -> u8 {
-        let outside = self.rows.iter().enumerate().filter(|(index, _)| set >> index & 1 == 0);
-        let blocked = blocking_time(outside.map(|(_, row)| row));
+    fn find_lowest(&mut self, set: usize, largest: u64) -> u8 {
+        let blocked = largest.saturating_sub(1);
         for index in 0..self.rows.len() {
             let rest = set & !(1 << index);
             let may_go = rest != set && self.lowest[rest] != NONE;
-            if may_go && self.is_stable(index, rest, blocked) && self.has_order(rest) {
+            let outside = self.rows[index].hold.max(largest);
+            if may_go && self.is_stable(index, rest, blocked) && self.has_order(rest, outside) {
                 return index as u8;
             }
         }
@@ -252,7 +253,7 @@ pub fn chosen<const COUNTED: bool>(rows: &[Row]) -> (Option<Vec<usize>>, u64) {
     let mut lowest = vec![UNKNOWN; 1 << rows.len()];
     lowest[0] = 0;
     let mut search = Search { rows, lowest, above: Above::<COUNTED>::new() };
-    let found = search.has_order((1 << rows.len()) - 1);
+    let found = search.has_order((1 << rows.len()) - 1, 0);
     (found.then(|| search.order()), search.above.work)
 }
 
