@@ -15,7 +15,7 @@ use Rattle.responses.specs.Figures.{rowsAbove, rowsBelow, blocking, isLate}
 use Rattle.responses.specs.Claims.{NoneHolds}
 use Rattle.boards.specs.Claims.{LastsInRange, NoneLate}
 use Rattle.boards.specs.Runs.{boardGoesTo}
-use Rattle.boards.specs.Witnesses.{lowestHolds, exampleOrder, heldOrder, atOnce, lasting, never}
+use Rattle.boards.specs.Witnesses.{withHolds, exampleOrder, heldOrder, atOnce, lasting, never}
 use Rattle.boards.specs.Witnesses.{RunsMet, HoldsCount}
 
 -- of three ranks, each
@@ -36,8 +36,8 @@ in-time-held : NoneLate heldOrder
 unfolding smallest cost blocking
 in-time-held = each (InTime heldOrder) refl refl refl
 
-no-hold : NoneHolds exampleOrder
-no-hold = each (λ i. rowAt exampleOrder i .hold ≤ 1) (omega arith) (omega arith) (omega arith)
+no-hold : (m l : ℕ) → m ≤ 1 → l ≤ 1 → NoneHolds (withHolds m l)
+no-hold m l a b = each (λ i. rowAt (withHolds m l) i .hold ≤ 1) (omega arith) a b
 
 either : (order : List Row) (need : ℕ → ℕ → ℕ) → allRows timesInRange order ≡ true
     → ((i k : ℕ) → (need i k ≡ rowAt order i .best) ⊎ (need i k ≡ cost (rowAt order i)))
@@ -50,14 +50,14 @@ either order need ok is i k l =
     ]
 
 -- the lowest rank's jobs last from 17 to 19 ticks, whatever its hold
-between : (hold n : ℕ) → 17 ≤ n → n ≤ 19 → LastsInRange (lowestHolds hold) (lasting (2 ∷ 6 ∷ n ∷ []))
+between : (hold n : ℕ) → 17 ≤ n → n ≤ 19 → LastsInRange (withHolds 0 hold) (lasting (2 ∷ 6 ∷ n ∷ []))
 unfolding cost
 between hold n low high i k l =
     each (λ i. (rowAt order i .best ≤ ticks i) × (ticks i ≤ cost (rowAt order i)))
     (omega arith, omega arith) (omega arith, omega arith) (low, high) i l
   where
     order : List Row
-    order = lowestHolds hold
+    order = withHolds 0 hold
 
     ticks : ℕ → ℕ
     ticks i = lasting (2 ∷ 6 ∷ n ∷ []) i k
@@ -81,7 +81,7 @@ runs-met = record {
   finished-before = refl;
   idle-there = idle;
   highest-short = λ k. omega arith;
-  none-holds = no-hold;
+  none-holds = no-hold 0 0 (omega arith) (omega arith);
 }
 
 pub holds-count : HoldsCount
@@ -97,4 +97,10 @@ holds-count = record {
   held-early = λ j l. omega arith;
   lasts-earliest = between 5 17 (omega arith) (omega arith);
   earliest-reached = refl;
+  not-kept = refl;
+  not-kept-yet = refl;
+  kept-then = refl;
+  middle-latest = refl;
+  middle-reached = refl;
+  one-is-none = no-hold 1 1 (omega arith) (omega arith);
 }

@@ -1,5 +1,5 @@
 -- Nothing is claimed of runs in vain: runs that meet each condition of a claim, of an order of document 01's example;
--- and with a hold of its lowest task, runs past the figures that count no hold.
+-- and with holds, runs past the figures that count none.
 use mathlib.Core.Path.{_≡_}
 use mathlib.Core.Bool.{Bool, true, false}
 use mathlib.Core.List.{List, [], _∷_, map}
@@ -16,31 +16,34 @@ use Rattle.responses.specs.Claims.{NoneHolds}
 use Rattle.boards.specs.Claims.{LastsInRange, Finishes, AfterFirstReleases, latestAt, earliestAt, NoneLate}
 use Rattle.boards.specs.Runs.{boardGoesTo}
 
--- the rows of document 01's example, with a hold of the lowest
-abbrev pub lowestHolds : ℕ → List Row
-lowestHolds hold =
-    row 12 18 2 2 1000 8000 0 ∷ row 11 24 6 6 1000 8000 0 ∷ row 13 200 19 17 3000 57000 hold ∷ []
+-- the rows of document 01's example, with holds of the middle rank and of the lowest
+abbrev pub withHolds : ℕ → ℕ → List Row
+withHolds middle lowest =
+    row 12 18 2 2 1000 8000 0 ∷ row 11 24 6 6 1000 8000 middle ∷ row 13 200 19 17 3000 57000 lowest ∷ []
 
 abbrev pub exampleOrder : List Row
-exampleOrder = lowestHolds 0
+exampleOrder = withHolds 0 0
 
--- all first releases at tick 0; those of the ranks above the lowest a tick later; and every job as long as the ticks
--- say, rank by rank
+-- all first releases at tick 0; those of the ranks above a rank a tick later; and every job as long as the ticks say,
+-- rank by rank
 abbrev pub atOnce : ℕ → ℕ
 atOnce i = 0
 
-abbrev pub lowestFirst : ℕ → ℕ
-lowestFirst i = pick (leb 2 i) 0 1
+abbrev pub aheadFrom : ℕ → ℕ → ℕ
+aheadFrom m i = pick (leb m i) 0 1
 
 abbrev pub lasting : List ℕ → ℕ → ℕ → ℕ
 lasting ticks i k = getD ticks i 0
 
--- no stretch goes on, and every one that may
+-- no stretch goes on; every one that may; and those from a tick on
 abbrev pub never : ℕ → Bool
 never t = false
 
 abbrev pub always : ℕ → Bool
 always t = true
+
+abbrev pub keptFrom : ℕ → ℕ → Bool
+keptFrom u t = leb u t
 
 pub record RunsMet : Type 0 where
   pub none-late : NoneLate exampleOrder
@@ -65,7 +68,7 @@ pub record RunsMet : Type 0 where
 
 -- ---- the lowest task may hold the processor for 5 ticks
 abbrev pub heldOrder : List Row
-heldOrder = lowestHolds 5
+heldOrder = withHolds 0 5
 
 pub record HoldsCount : Type 0 where
   pub none-late : NoneLate heldOrder
@@ -75,7 +78,7 @@ pub record HoldsCount : Type 0 where
   pub latest-without :
       leastFixed (cost (rowAt heldOrder 1)) 24 (map worstLoad (rowsAbove heldOrder 1)) ≡ 8
   pub lasts-latest : LastsInRange heldOrder (lasting (2 ∷ 6 ∷ 19 ∷ []))
-  pub latest-reached : Finishes heldOrder lowestFirst (lasting (2 ∷ 6 ∷ 19 ∷ [])) always 1 1 13
+  pub latest-reached : Finishes heldOrder (aheadFrom 2) (lasting (2 ∷ 6 ∷ 19 ∷ [])) always 1 1 13
   -- the earliest response of the lowest is 17, its best, where its equation gives 25; in a run in which it keeps the
   -- processor while the others are released, a job that is held to it takes 17
   pub earliest-is : earliestAt heldOrder 2 ≡ 17
@@ -83,3 +86,14 @@ pub record HoldsCount : Type 0 where
   pub held-early : AfterFirstReleases heldOrder atOnce 2 200
   pub lasts-earliest : LastsInRange heldOrder (lasting (2 ∷ 6 ∷ 17 ∷ []))
   pub earliest-reached : Finishes heldOrder atOnce (lasting (2 ∷ 6 ∷ 17 ∷ [])) always 2 200 217
+  -- the choice is the run's, and one of each tick: with the same releases and lengths a job of rank 1 takes 8 where no
+  -- stretch goes on; with stretches from tick 200 on, the lowest rank's first job takes 33 as without holds, and the job
+  -- of tick 200 its 17
+  pub not-kept : Finishes heldOrder (aheadFrom 2) (lasting (2 ∷ 6 ∷ 19 ∷ [])) never 1 1 9
+  pub not-kept-yet : Finishes heldOrder atOnce (lasting (2 ∷ 6 ∷ 17 ∷ [])) (keptFrom 200) 2 0 33
+  pub kept-then : Finishes heldOrder atOnce (lasting (2 ∷ 6 ∷ 17 ∷ [])) (keptFrom 200) 2 200 217
+  -- any rank may hold: with a hold of 5 the middle one delays the highest to its latest response, 6
+  pub middle-latest : latestAt (withHolds 5 0) 0 ≡ 6
+  pub middle-reached : Finishes (withHolds 5 0) (aheadFrom 1) (lasting (2 ∷ 6 ∷ 19 ∷ [])) always 0 1 7
+  -- a hold of 1 is none
+  pub one-is-none : NoneHolds (withHolds 1 1)

@@ -69,3 +69,11 @@ past-limit = refl
 missing-hold : readTable false (paperWith "task=13" []) ≡ turnedDown 1 23
 unfolding readTable readFor formAt lineAt numberOf
 missing-hold = refl
+
+-- one task with the largest times
+hold-limit : readTable false (lined
+    ("board=7" ∷ "tasks=1"
+    ∷ "task=1" ∷ "period=1000000" ∷ "worst=1000000" ∷ "best=1" ∷ "alpha=1000" ∷ "beta=0" ∷ "hold=1000000" ∷ []))
+    ≡ tableOf 7 (row 1 1000000 1000000 1 1000 0 1000000 ∷ []) []
+unfolding readTable readFor formAt lineAt numberOf
+hold-limit = refl

@@ -70,7 +70,8 @@ rest-holds (r ∷ rs) (suc n) h = rest-holds rs n (λ i l. h (suc i) (omega arit
 holds-ranged : (rs : List Row) → allRows inRange rs ≡ true → largestHold rs ≤ maxTicks
 holds-ranged [] h = omega arith
 holds-ranged (r ∷ rs) h =
-    larger-most (r .hold) (largestHold rs) maxTicks (limits r (head-passes inRange r rs h) .hold .le-high)
+    let l = limits r (head-passes inRange r rs h) in
+    larger-most (r .hold) (largestHold rs) maxTicks (omega (arith, l .hold-worst, l .worst .le-high))
     (holds-ranged rs (tail-passes inRange r rs h))
 
 pub blocking-max : (rs : List Row) → allRows inRange rs ≡ true → blocking rs ≤ maxTicks
