@@ -24,23 +24,23 @@ abbrev pub AfterFirstReleases : List Row → (ℕ → ℕ) → ℕ → ℕ → T
 AfterFirstReleases order offset i r = (j : ℕ) → j < i → offset j + rowAt order i .period ≤ r
 
 -- a run keeps each rank's latest and earliest response
-pub record Kept (order : List Row) (offset : ℕ → ℕ) (need : ℕ → ℕ → ℕ) (keeps : ℕ → Bool) (late early : ℕ → ℕ) : Type 0
-  where
-    -- the kth job of rank i finishes within its latest response
-    pub in-time :
-        (i k : ℕ) → i < length order
-        → let r = offset i + k * rowAt order i .period in
-        (f : ℕ) × (r < f) × (f ≤ r + late i) × Finishes order offset need keeps i r f
-    -- and finishes only then
-    pub once :
-        (i r f g : ℕ) → i < length order
-        → Finishes order offset need keeps i r f → Finishes order offset need keeps i r g → f ≡ g
-    -- one released then does not finish before its earliest
-    pub not-early :
-        (i r f : ℕ) → i < length order
-        → AfterFirstReleases order offset i r
-        → Finishes order offset need keeps i r f
-        → r + early i ≤ f
+pub record Kept (order : List Row) (offset : ℕ → ℕ) (need : ℕ → ℕ → ℕ) (keeps : ℕ → Bool)
+    (late early : ℕ → ℕ) : Type 0 where
+  -- the kth job of rank i finishes within its latest response
+  pub in-time :
+      (i k : ℕ) → i < length order
+      → let r = offset i + k * rowAt order i .period in
+      (f : ℕ) × (r < f) × (f ≤ r + late i) × Finishes order offset need keeps i r f
+  -- and finishes only then
+  pub once :
+      (i r f g : ℕ) → i < length order
+      → Finishes order offset need keeps i r f → Finishes order offset need keeps i r g → f ≡ g
+  -- one released then does not finish before its earliest
+  pub not-early :
+      (i r f : ℕ) → i < length order
+      → AfterFirstReleases order offset i r
+      → Finishes order offset need keeps i r f
+      → r + early i ≤ f
 
 -- the responses of rank i between the rows above it and those below it, in the order's own sequence
 abbrev pub latestAt : List Row → ℕ → ℕ

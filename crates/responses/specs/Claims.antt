@@ -84,7 +84,7 @@ ByBlocking =
     (t : Row) (above below below′ : List Row) → blocking below ≡ blocking below′
     → SameFigures t above above below below′
 
--- ---- document 01's figures: no task is held up by those below it, and E is that of its equation for every task
+-- ---- document 01's figures: no task is delayed by those below it, and E is that of its equation for every task
 pub record AsDocument01 (t : Row) (above below : List Row) : Type 0 where
   pub latest-then : latest t above below ≡ leastFixed (cost t) (t .period) (map worstLoad above)
   pub earliest-then :
