@@ -1,5 +1,6 @@
 -- A board's run by rank and in stretches: each rank's queue is the backlog of what it has released and what it has been
--- served. So the run is one by rank and in stretches (`trace`), and a job is finished in the tick that completes its work, once.
+-- served. So the run is one by rank and in stretches (`trace`), and a job is finished in the tick that completes its
+-- work, once.
 use mathlib.Core.Path.{_≡_, refl, sym, ap, subst, _∙_}
 use mathlib.Core.Bool.{Bool, true, false, _||_}
 use mathlib.Core.List.{List, _∷_}

@@ -1,9 +1,9 @@
 -- A board that runs an order, tick by tick, with fixed priorities. The order's rows stand highest rank first, and ranks
 -- are counted from 0 here. A tick goes to the pending job of highest rank, unless the job that had the tick before
--- keeps the processor, whoever is released meanwhile. It may keep it for a stretch (a non-preemptive section) of at most
--- its row's hold of ticks. The first of these fell to it by rank; the job's last tick ends it, and a job may have any
--- number of stretches. A run is given by each rank's first release (its offset), by the ticks that its kth job needs,
--- and by whether a stretch that may go on in tick t does (`keeps t`); all are functions, so a run has no end.
+-- keeps the processor, whoever is released meanwhile. It may keep it for a stretch (a non-preemptive section) of at
+-- most its row's hold of ticks. The first of these fell to it by rank; the job's last tick ends it, and a job may have
+-- any number of stretches. A run is given by each rank's first release (its offset), by the ticks that its kth job
+-- needs, and by whether a stretch that may go on in tick t does (`keeps t`); all are functions, so a run has no end.
 use mathlib.Core.Bool.{Bool, true, false, _&&_, _||_}
 use mathlib.Core.List.{List, [], _∷_, _++_}
 use Prim.Native.Nat.{ℕ, zero, suc, _-_, _/_, _%_}

@@ -87,8 +87,8 @@ pub record HoldsCount : Type 0 where
   pub lasts-earliest : LastsInRange heldOrder (lasting (2 ∷ 6 ∷ 17 ∷ []))
   pub earliest-reached : Finishes heldOrder atOnce (lasting (2 ∷ 6 ∷ 17 ∷ [])) always 2 200 217
   -- the choice is the run's, and one of each tick: with the same releases and lengths a job of rank 1 takes 8 where no
-  -- stretch goes on; with stretches from tick 200 on, the lowest rank's first job takes 33 as without holds, and the job
-  -- of tick 200 its 17
+  -- stretch goes on; with stretches from tick 200 on, the lowest rank's first job takes 33 as without holds, and the
+  -- job of tick 200 its 17
   pub not-kept : Finishes heldOrder (aheadFrom 2) (lasting (2 ∷ 6 ∷ 19 ∷ [])) never 1 1 9
   pub not-kept-yet : Finishes heldOrder atOnce (lasting (2 ∷ 6 ∷ 17 ∷ [])) (keptFrom 200) 2 0 33
   pub kept-then : Finishes heldOrder atOnce (lasting (2 ∷ 6 ∷ 17 ∷ [])) (keptFrom 200) 2 200 217

@@ -1,5 +1,5 @@
--- Where no job may hold the processor past a tick, the figures are those of document 03, whose definitions stand here as
--- they stand there: a job takes at most the row's worst, and the rows below delay nobody.
+-- Where no job may hold the processor past a tick, the figures are those of document 03, whose definitions stand here
+-- as they stand there: a job takes at most the row's worst, and the rows below delay nobody.
 use mathlib.Core.Path.{_≡_, refl, ap, ap₂, sym, _∙_}
 use mathlib.Core.Bool.{Bool, true, false, _&&_, not, cond}
 use mathlib.Core.Logic.{inl, inr}

@@ -3,7 +3,7 @@
 use mathlib.Core.Path.{_≡_, refl, ap, ap₂, sym, subst, _∙_}
 use mathlib.Core.Bool.{false}
 use mathlib.Core.Logic.{inl, inr, ⊎-elim}
-use Prim.Native.Nat.{ℕ, suc, _+_, _-_, _*_, _≤_, _<_}
+use Prim.Native.Nat.{ℕ, suc, _+_, _-_, _*_, _/_, _%_, _^_, _≤_, _<_}
 use native.Mathlib.Numerals.{add-one}
 use native.Mathlib.Omega.{arith}
 use lib.ListN.{length, length-set}
@@ -100,25 +100,32 @@ module _ (t : ℕ) where
       → let a = c .before .before .before .before .args in
       c .blocking-time .result ≡ blocking (others (a .m) (rowsOf (a .n) (a .rows .now)))
   blocked c =
-      c .blocking-time .ensures ∙ ap (λ (h : ℕ). h - 1) (c .before .before .before .before .pre .1 .3) ∙ sym (blocking-is _)
+      let s = c .before .before .before .before in
+      c .blocking-time .ensures ∙ ap (λ (h : ℕ). h - 1) (s .pre .1 .3) ∙ sym (blocking-is _)
+
+  -- the row that may go is in the set
+  its-bit : (c : lowest-lts.After-power lowest-calls lowest-at lowest.Post lowest-Inv-loop lowest-μ-loop)
+      → let turn = c .before .before .before .before .before .before .before .before .before in
+      let a = turn .before .before .before .before .before .before .args in
+      a .m / 2 ^ turn .before .loop .i % 2 ≡ 1
+  its-bit c = c .before .before .before .before .before .before .may-go .ensures .in-set (c .before .before .before .if1 .taken)
 
   -- with the row that is taken out, the largest hold is that outside the rest
   outside : (c : lowest-lts.After-power lowest-calls lowest-at lowest.Post lowest-Inv-loop lowest-μ-loop)
-      → let mid = c .before .before .before .before .before .before .before .before in
-      let a = mid .before .before .before .before .before .before .before .args in
+      → let turn = c .before .before .before .before .before .before .before .before .before in
+      let a = turn .before .before .before .before .before .before .args in
       c .before .larger .result ≡ largestHold (others (a .m - c .power .result) (rowsOf (a .n) (a .rows .now)))
   outside c =
-      let mid = c .before .before .before .before .before .before .before .before in
-      let s = mid .before .before .before .before .before .before .before in
+      let turn = c .before .before .before .before .before .before .before .before .before in
+      let s = turn .before .before .before .before .before .before in
       let a = s .args in
       let table = rowsOf (a .n) (a .rows .now) in
-      let i = c .before .before .before .before .before .before .before .before .before .before .loop .i in
-      let here = c .before .before .before .before .before .before .before .before .before .loop-test .taken in
-      let bit = c .before .before .before .before .before .before .may-go .ensures .in-set (c .before .before .before .if1 .taken) in
+      let i = turn .before .loop .i in
+      let here = turn .loop-test .taken in
       let row = ap (λ (r : Row). r .hold) (sym (rows-at (a .n) i (a .rows .now) here)) in
       c .before .larger .ensures
       ∙ ap₂ larger (c .before .before .hold-at .ensures ∙ row) (s .pre .1 .3)
-      ∙ sym (outside-more table (a .m) i (a-row (s .pre .1 .0 .lent) i here) bit)
+      ∙ sym (outside-more table (a .m) i (a-row (s .pre .1 .0 .lent) i here) (its-bit c))
       ∙ ap (λ (k : ℕ). largestHold (others (a .m - k) table)) (sym (c .power .ensures))
 
   lowest-loop-holds : lowest-lts.Need-loop-holds lowest-calls lowest-at lowest.Post lowest-Inv-loop lowest-μ-loop
@@ -149,8 +156,9 @@ module _ (t : ℕ) where
   lowest-hold-at-requires :
       lowest-lts.Need-hold-at-requires lowest-calls lowest-at lowest.Post lowest-Inv-loop lowest-μ-loop
   lowest-hold-at-requires c κs =
-      let s = c .before .before .before .before .before .before .before .before .before .before .before .before in
-      row-held (s .pre .1 .0 .lent) (c .before .before .before .before .before .before .before .loop .i) (c .before .before .before .before .before .before .loop-test .taken)
+      let turn = c .before .before .before .before .before .before in
+      let s = turn .before .before .before .before .before .before in
+      row-held (s .pre .1 .0 .lent) (turn .before .loop .i) (turn .loop-test .taken)
 
   lowest-larger-requires :
       lowest-lts.Need-larger-requires lowest-calls lowest-at lowest.Post lowest-Inv-loop lowest-μ-loop
@@ -159,29 +167,27 @@ module _ (t : ℕ) where
   lowest-power-requires :
       lowest-lts.Need-power-requires lowest-calls lowest-at lowest.Post lowest-Inv-loop lowest-μ-loop
   lowest-power-requires c κs =
-      let s = c .before .before .before .before .before .before .before .before .before .before .before .before .before .before in
-      omega (arith, c .before .before .before .before .before .before .before .before .loop-test .taken, s .pre .1 .0 .lent .few)
+      let turn = c .before .before .before .before .before .before .before .before in
+      let s = turn .before .before .before .before .before .before in
+      omega (arith, turn .loop-test .taken, s .pre .1 .0 .lent .few)
 
   lowest-sub-settled : lowest-lts.Need-sub-settled lowest-calls lowest-at lowest.Post lowest-Inv-loop lowest-μ-loop
   lowest-sub-settled c =
-      let mid = c .before .before .before .before .before .before .before .before in
-      let a = mid .before .before .before .before .before .before .before .args in
-      let bit = c .before .before .before .before .before .before .may-go .ensures .in-set (c .before .before .before .if1 .taken) in
-      let i = c .before .before .before .before .before .before .before .before .before .before .loop .i in
-      omega (arith, c .power .ensures, bit-le (a .m) i bit)
+      let turn = c .before .before .before .before .before .before .before .before .before in
+      let a = turn .before .before .before .before .before .before .args in
+      omega (arith, c .power .ensures, bit-le (a .m) (turn .before .loop .i) (its-bit c))
 
   lowest-settled-requires :
       lowest-lts.Need-settled-requires lowest-calls lowest-at lowest.Post lowest-Inv-loop lowest-μ-loop
   lowest-settled-requires c κs =
-      let mid = c .before .before .before .before .before .before .before .before .before in
-      let s = mid .before .before .before .before .before .before .before .before in
+      let turn = c .before .before .before .before .before .before .before .before .before .before .before in
+      let s = turn .before .before .before .before .before .before in
       let a = s .args in
       let p = s .pre .1 .0 in
-      let x = c .before .before .before .before .before .before .before .before .before .before .before .before .loop in
+      let x = turn .before .loop in
       let e = c .before .before .power .ensures in
       let may = c .before .before .before .before .before .before .before .before .may-go in
-      let bit = may .ensures .in-set (c .before .before .before .before .before .if1 .taken) in
-      let b = bit-le (a .m) (x .i) bit in
+      let b = bit-le (a .m) (x .i) (its-bit (c .before .before)) in
       let q = pow-pos (x .i) in (
         omega (arith, e, b, q, s .pre .0),
         (
@@ -201,7 +207,8 @@ module _ (t : ℕ) where
   lowest-same-length : lowest-lts.Need-same-length lowest-calls lowest-at lowest.Post lowest-Inv-loop lowest-μ-loop
   lowest-same-length c =
       let s = c .before .before .before .before .before in
-      let x = s .before .before .before .before .before .before .before .before .before .before .before .before .before .loop in
+      let turn = s .before .before .before .before .before .before .before .before .before .before .before .before in
+      let x = turn .before .loop in
       s .settled .kept .1 .1 .1 .1 .0 ∙ x .inv .2
 
   lowest-same-length-2 :
