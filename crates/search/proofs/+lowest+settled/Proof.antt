@@ -108,7 +108,9 @@ module _ (t : ℕ) where
       → let turn = c .before .before .before .before .before .before .before .before .before in
       let a = turn .before .before .before .before .before .before .args in
       a .m / 2 ^ turn .before .loop .i % 2 ≡ 1
-  its-bit c = c .before .before .before .before .before .before .may-go .ensures .in-set (c .before .before .before .if1 .taken)
+  its-bit c =
+      let may = c .before .before .before .before .before .before .may-go in
+      may .ensures .in-set (c .before .before .before .if1 .taken)
 
   -- with the row that is taken out, the largest hold is that outside the rest
   outside : (c : lowest-lts.After-power lowest-calls lowest-at lowest.Post lowest-Inv-loop lowest-μ-loop)
