@@ -36,17 +36,17 @@ mod library {
 }
 
 use dice::Dice;
-use model::{Answer, Row};
+use model::{Answer, Row, MOST_PIECES, MOST_TASKS};
 use std::hint::black_box;
 use std::process::ExitCode;
 
-/// Tables of twelve tasks, this many with an order and as many without.
+/// Full boards, this many with an order and as many without.
 const FULL_BOARDS: usize = 120;
 /// The terms that the search adds up at the least where it is the search that is to be timed, and
 /// not reading and writing.
 const MUCH_WORK: u64 = 3_000;
 /// Longer than any plan, and than any crane's output.
-const AMPLE: usize = 33_000;
+const AMPLE: usize = MOST_PIECES * 2_048;
 /// Cranes are timed with so many boards.
 const CRANES: [usize; 6] = [1, 2, 4, 8, 16, 32];
 /// Calls of one measurement together last about this many seconds, for the clock to be fine
@@ -208,9 +208,9 @@ fn slow_holding(dice: &mut Dice, tasks: usize) -> Vec<Row> {
 
 type Draw = fn(&mut Dice, usize) -> Vec<Row>;
 
-/// Tables for each number of tasks from 1 to 12.
+/// Tables for each number of tasks.
 fn draw_tables(dice: &mut Dice, draw: Draw, count: usize) -> Vec<Vec<Vec<Row>>> {
-    (1..=12).map(|tasks| (0..count).map(|_| draw(dice, tasks)).collect()).collect()
+    (1..=MOST_TASKS).map(|tasks| (0..count).map(|_| draw(dice, tasks)).collect()).collect()
 }
 
 fn texts_of(tables: &[Vec<Vec<Row>>], text: fn(&[Row]) -> Vec<u8>) -> Vec<Vec<Vec<u8>>> {
@@ -240,7 +240,7 @@ fn print_full_boards(
 ) -> Result<(), Different> {
     let mut texts = [Vec::new(), Vec::new()];
     while texts.iter().any(|texts| texts.len() < FULL_BOARDS) {
-        let rows = typical(dice, 12);
+        let rows = typical(dice, MOST_TASKS);
         if work(&rows) < least {
             continue;
         }
@@ -249,7 +249,7 @@ fn print_full_boards(
             half.push(table_text(&rows));
         }
     }
-    println!("planner, {} tables of twelve tasks {title}, microseconds a call", 2 * FULL_BOARDS);
+    println!("planner, {} tables of {MOST_TASKS} tasks {title}, microseconds a call", 2 * FULL_BOARDS);
     let mut total = Times::default();
     for (name, texts) in ["with an order", "with no order"].iter().zip(&texts) {
         let mut sum = Times::default();
@@ -268,16 +268,16 @@ fn print_full_boards(
     Ok(())
 }
 
-/// Times cranes of ever more boards of 1 to 12 tasks each, and the library's crane against its own
+/// Times cranes of ever more boards of any number of tasks, and the library's crane against its own
 /// single calls on the same boards.
 fn print_cranes(dice: &mut Dice, count: usize, rounds: u32) -> Result<(), Different> {
-    println!("crane, boards of 1 to 12 tasks, microseconds a call");
+    println!("crane, boards of 1 to {MOST_TASKS} tasks, microseconds a call");
     println!("  boards     plain {NAME:>10}   ratio  to single calls");
     for boards in CRANES {
         let (mut sum, mut single) = (Times::default(), 0.0);
         for _ in 0..count {
             let mut board = || {
-                let tasks = dice.below(12) + 1;
+                let tasks = dice.below(MOST_TASKS) + 1;
                 table_text(&typical(dice, tasks))
             };
             let pieces: Vec<Vec<u8>> = (0..boards).map(|_| board()).collect();
@@ -353,7 +353,9 @@ fn creeping() -> Vec<Row> {
         beta: 200_000_000_000,
         hold: 0,
     };
-    let mut rows = [1_000_000; 7].into_iter().chain([43, 7, 3, 2]).map(loose).collect::<Vec<_>>();
+    let (short, never) = ([43, 7, 3, 2], 1);
+    let long = std::iter::repeat_n(1_000_000, MOST_TASKS - short.len() - never);
+    let mut rows = long.chain(short).map(loose).collect::<Vec<_>>();
     rows.push(Row { beta: 0, ..rows[0] });
     rows.iter_mut().zip(1..).for_each(|(row, task)| row.task = task);
     rows
@@ -376,7 +378,7 @@ fn climb(dice: &mut Dice, start: Vec<Row>, budget: u64) -> (u64, Vec<Row>) {
 /// Climbs from a drawn table and from the made one, each with half of the budget, and times the
 /// slowest table that was met.
 fn print_slowest(dice: &mut Dice, millions: u64, rounds: u32) -> Result<(), Different> {
-    let starts = [slow(dice, 12), creeping()];
+    let starts = [slow(dice, MOST_TASKS), creeping()];
     let ends = starts.map(|start| climb(dice, start, millions * 500_000));
     println!("climbed to {} and {} terms", ends[0].0, ends[1].0);
     let (_, rows) = ends.into_iter().max_by_key(|end| end.0).expect("two climbs");

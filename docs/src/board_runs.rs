@@ -3,7 +3,7 @@
 use crate::boards::{self, Choice, Keeps, Lengths, Releases, Seen, Task};
 use crate::calls::{self, AMPLE};
 use crate::dice::Dice;
-use crate::model::Row;
+use crate::model::{Row, MOST_TASKS};
 use crate::{library, progress, tables};
 use std::time::Instant;
 
@@ -192,7 +192,7 @@ fn run_plan(
 pub fn run(dice: &mut Dice, count: u64) -> Result<(), String> {
     let (mut report, mut done, started) = (Report::default(), 0, Instant::now());
     while done < count {
-        let (family, tasks) = (dice.pick(&tables::SHORT_FAMILIES), 1 + dice.below(12));
+        let (family, tasks) = (dice.pick(&tables::SHORT_FAMILIES), 1 + dice.below(MOST_TASKS));
         let loose = dice.once_in(2);
         let rows = tables::rows(dice, family, tasks, loose);
         let text = tables::text(1, &rows);

@@ -1,14 +1,14 @@
 //! One call of the library held to the model: the answer and every byte of the buffer.
 
 use crate::library;
-use crate::model::{self, Answer, Outcome, Row};
+use crate::model::{self, Answer, Outcome, Row, MOST_PIECES};
 use std::fmt::Write;
 
 /// A buffer longer than any plan.
 pub const AMPLE: usize = 2_048;
 
 /// A buffer longer than any output of the crane.
-pub const CRANE_AMPLE: usize = 33_000;
+pub const CRANE_AMPLE: usize = MOST_PIECES * AMPLE;
 
 /// Bytes before and after the lent buffer that no call may touch.
 const GUARD: usize = 16;

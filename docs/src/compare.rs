@@ -23,7 +23,7 @@ mod texts;
 
 use calls::{compare, Call, Tally, AMPLE};
 use dice::Dice;
-use model::{Outcome, Row};
+use model::{Outcome, Row, MOST_TASKS};
 use std::io::{Read, Write};
 use std::process::ExitCode;
 use std::time::Instant;
@@ -157,9 +157,9 @@ fn squeeze(
 
 fn run_tables(dice: &mut Dice, count: u64) -> Result<(), String> {
     let (mut tally, started) = (Tally::default(), Instant::now());
-    let (mut accepted, mut squeezed) = ([0; 12], 0);
+    let (mut accepted, mut squeezed) = ([0; MOST_TASKS], 0);
     for done in 1..=count {
-        let tasks = (done as usize - 1) % 12;
+        let tasks = (done as usize - 1) % MOST_TASKS;
         let family = dice.pick(&tables::FAMILIES);
         let rows = tables::rows(dice, family, tasks + 1, false);
         let order = compare_table(dice, &mut tally, &rows)?;
@@ -167,7 +167,7 @@ fn run_tables(dice: &mut Dice, count: u64) -> Result<(), String> {
         squeezed += squeeze(dice, &mut tally, rows, order)?;
         progress("tables", done, count, started);
     }
-    print!("{count} tables of 1 to 12 tasks and {squeezed} made from them, ");
+    print!("{count} tables of 1 to {MOST_TASKS} tasks and {squeezed} made from them, ");
     println!("{} calls, no difference", tally.calls());
     tally.print();
     println!("  with a stable order, by number of tasks: {accepted:?}");

@@ -2,7 +2,7 @@
 //! almost a cut, pieces longer than any table, and every number of pieces around the limit.
 
 use crate::dice::Dice;
-use crate::model::{MOST_PIECES, TABLE_TAKES};
+use crate::model::{MOST_PIECES, MOST_TASKS, TABLE_TAKES};
 use crate::tables::{self, Family, FAMILIES};
 use crate::texts;
 
@@ -24,7 +24,7 @@ const SHORT_PIECES: [&[u8]; 10] = [
     b"board=65536\n",
     b"board=7\r\n",
     b"board=board=\n",
-    b"board=7\ntasks=13\n",
+    b"board=7\ntasks=17\n",
     b"board=7\ntasks=1\nBoard=7\n",
 ];
 
@@ -89,7 +89,7 @@ const NO_LINE_FEEDS: &[u8] = b"\r\x0b\x0c\0 ;\x1e\x85";
 
 /// A table, mostly with few tasks, since the model is slow with many and a crane has many boards.
 fn board(dice: &mut Dice) -> Vec<u8> {
-    let most = if dice.once_in(100) { 12 } else { 3 };
+    let most = if dice.once_in(100) { MOST_TASKS } else { 3 };
     let (family, tasks) = (dice.pick(&FAMILIES), 1 + dice.below(most));
     let rows = tables::rows(dice, family, tasks, false);
     tables::text(dice.any_size(65_535), &rows)

@@ -1,5 +1,5 @@
-//! The planner and the reviewer of document 01 with the holds of request 2, and the crane of
-//! request 1, written from those papers alone.
+//! The planner and the reviewer of document 01 with the holds of request 2 and the sixteen tasks of
+//! request 3, and the crane of request 1, written from those papers alone.
 //!
 //! Nothing here is clever, and nothing follows the product: lines are an indexed list, figures
 //! are found by walking the points where a sum can change, and orders by trying every
@@ -7,6 +7,9 @@
 //! pieces of a crane are groups of lines.
 
 use std::collections::BTreeMap;
+
+/// A table has no more tasks than this.
+pub const MOST_TASKS: usize = 16;
 
 /// Tables with more tasks than this are ordered by `order_by_growing`.
 const PERMUTED_AT_MOST: usize = 7;
@@ -129,7 +132,7 @@ fn row_at(lines: &[&[u8]], place: usize, before: &[Row]) -> Result<Row, Refusal>
 /// The table at the start of the text, and how many lines it takes.
 fn table_at_start(lines: &[&[u8]]) -> Result<(Table, usize), Refusal> {
     let board = number_at(lines, 1, "board", 1, 65_535)?;
-    let tasks = number_at(lines, 2, "tasks", 1, 12)? as usize;
+    let tasks = number_at(lines, 2, "tasks", 1, MOST_TASKS as u64)? as usize;
     let mut rows = Vec::new();
     for index in 0..tasks {
         let row = row_at(lines, 3 + 7 * index, &rows)?;
@@ -238,13 +241,13 @@ pub fn figures(row: &Row, above: &[&Row], below: &[&Row]) -> Option<Figures> {
 // ---- Orders -----------------------------------------------------------------------------
 
 /// The rows of a set; bit i of the set stands for row i.
-fn rows_in(rows: &[Row], set: u16) -> Vec<&Row> {
+fn rows_in(rows: &[Row], set: u32) -> Vec<&Row> {
     let named = rows.iter().enumerate().filter(|(index, _)| set >> index & 1 == 1);
     named.map(|(_, row)| row).collect()
 }
 
 /// Whether a row is stable below a set; all the others are then below it.
-fn is_stable(rows: &[Row], index: usize, above: u16) -> bool {
+fn is_stable(rows: &[Row], index: usize, above: u32) -> bool {
     let (over, under) = (rows_in(rows, above), rows_in(rows, !(above | 1 << index)));
     figures(&rows[index], &over, &under).is_some_and(|figures| figures.margin >= 0)
 }
@@ -266,7 +269,7 @@ fn order_by_permutations(rows: &[Row]) -> Option<Vec<usize>> {
     let mut known = vec![None; rows.len() << rows.len()];
     let mut order: Vec<usize> = (0..rows.len()).collect();
     loop {
-        let mut above = (1u16 << rows.len()) - 1;
+        let mut above = (1u32 << rows.len()) - 1;
         let stable = order.iter().all(|&index| {
             above &= !(1 << index);
             let slot = &mut known[index << rows.len() | above as usize];
@@ -284,9 +287,9 @@ fn order_by_permutations(rows: &[Row]) -> Option<Vec<usize>> {
 /// Grows stable orders from the highest rank down, one rank a round. A round keeps, for each
 /// set of rows that has a stable order, the first of them by the rule, lowest rank first.
 fn order_by_growing(rows: &[Row]) -> Option<Vec<usize>> {
-    let mut kept = BTreeMap::from([(0u16, Vec::new())]);
+    let mut kept = BTreeMap::from([(0u32, Vec::new())]);
     for _ in rows {
-        let mut grown: BTreeMap<u16, Vec<usize>> = BTreeMap::new();
+        let mut grown: BTreeMap<u32, Vec<usize>> = BTreeMap::new();
         for (&above, order) in &kept {
             let outside = (0..rows.len()).filter(|index| above >> index & 1 == 0);
             for index in outside.filter(|&index| is_stable(rows, index, above)) {
@@ -507,7 +510,7 @@ mod tests {
         assert_eq!(planned(b""), refused(1, 1));
         assert_eq!(reviewed(b""), refused(1, 1));
         assert_eq!(planned(b"board=07\n"), refused(2, 1));
-        assert_eq!(planned(b"board=7\ntasks=13\n"), refused(3, 2));
+        assert_eq!(planned(b"board=7\ntasks=17\n"), refused(3, 2));
         assert!(read_table(changed(&[("worst=2", "worst=18")]).as_bytes()).is_ok());
         assert_eq!(planned(changed(&[("worst=2", "worst=19")]).as_bytes()), refused(4, 12));
         assert_eq!(printed(planned, TABLE_TAKES, b""), b"plan=0\nrefusal=1\nline=1\n");

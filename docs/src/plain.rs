@@ -5,12 +5,10 @@
 //! then the lowest; the search starts from the whole set, so only sets that matter are visited.
 //! The rows below the lowest row of a set are those outside it: one blocking time for a set.
 
-use crate::model::{Answer, Refusal, Row};
+use crate::model::{Answer, Refusal, Row, MOST_PIECES, MOST_TASKS};
 
-const MOST_TASKS: usize = 12;
-const MOST_PIECES: usize = 32;
 /// Room for any plan.
-const PLAN_ROOM: usize = 1_024;
+const PLAN_ROOM: usize = 2_048;
 const UNKNOWN: u8 = 255;
 const NONE: u8 = 254;
 
@@ -276,7 +274,7 @@ fn push_line(text: &mut Vec<u8>, key: &[u8], mut number: u64) {
 }
 
 fn plan_text(board: u64, rows: &[Row], order: &[usize]) -> Result<Vec<u8>, Refusal> {
-    let mut text = Vec::with_capacity(1_024);
+    let mut text = Vec::with_capacity(PLAN_ROOM);
     push_line(&mut text, b"plan=", 1);
     push_line(&mut text, b"board=", board);
     push_line(&mut text, b"tasks=", rows.len() as u64);

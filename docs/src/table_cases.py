@@ -1,7 +1,7 @@
 #!/usr/bin/env python3
 """The stored texts of the test program table_cases, and what each must read as.
 
-The answers come from the model below, a plain parser by splitting, written from document 01 and request 2 alone;
+The answers come from the model below, a plain parser by splitting, written from document 01 and requests 2 and 3 alone;
 nothing of the proved reader is used. Run it from anywhere:
 
     python3 docs/src/table_cases.py --write
@@ -15,11 +15,13 @@ import re
 import sys
 from pathlib import Path
 
-# ---- the model: document 01, "The table and the plan" and "Turned down because of the input"; document 02, request 2
+# ---- the model: document 01, "The table and the plan" and "Turned down because of the input"; document 02, requests 2 and 3
+
+MOST_TASKS = 16
 
 RANGES = {
     "board": (1, 65_535),
-    "tasks": (1, 12),
+    "tasks": (1, MOST_TASKS),
     "task": (1, 65_535),
     "period": (1, 1_000_000),
     "worst": (1, 1_000_000),
@@ -122,8 +124,8 @@ PAPER = [(11, 24, 6, 6, 1000, 8000), (12, 18, 2, 2, 1000, 8000), (13, 200, 19, 1
 ONE = [(5, 9, 8, 7, 1000, 0)]
 TWO = [(5, 9, 8, 7, 1000, 0), (6, 90, 80, 70, 2000, 100)]
 FOUR = [(1, 10, 5, 3, 1000, 0), (2, 20, 9, 9, 1500, 10), (3, 30, 30, 1, 2000, 20), (4, 40, 8, 6, 2500, 30)]
-TWELVE = [(100 + i, 1000 + i, 500 + i, 400 + i, 1000 + i, 10 * i) for i in range(12)]
-ORDER = [100 + i for i in (7, 0, 11, 3, 1, 2, 10, 4, 9, 5, 8, 6)]
+FULL = [(100 + i, 1000 + i, 500 + i, 400 + i, 1000 + i, 10 * i) for i in range(MOST_TASKS)]
+ORDER = [100 + 7 * (i + 1) % MOST_TASKS for i in range(MOST_TASKS)]
 
 # document 01's own: its table, and the cases about text of "Figures to hold against it"
 case("the table of document 01", lined(table(PAPER)))
@@ -132,7 +134,7 @@ case("its table for the reviewer, in the order 11, 13, 12", lined(table(PAPER, [
 case("empty input", b"")
 case("empty input for the reviewer", b"", True)
 case("board=07 with a line feed", b"board=07\n")
-case("tasks=13 after a good first line", b"board=7\ntasks=13\n")
+case("tasks=17 after a good first line", b"board=7\ntasks=17\n")
 case("worst = period", lined(table([(5, 9, 9, 7, 1000, 0)])))
 case("worst = period + 1", lined(table([(5, 9, 10, 7, 1000, 0)])))
 case("beta of 13 at 54999: the reader accepts it", lined(table(PAPER[:2] + [(13, 200, 19, 17, 3000, 54999)])))
@@ -140,8 +142,8 @@ case("beta of 13 at 54999: the reader accepts it", lined(table(PAPER[:2] + [(13,
 # whole tables
 case("one row", lined(table(ONE)))
 case("one row and its rank", lined(table(ONE, [5])), True)
-case("twelve rows", lined(table(TWELVE)))
-case("twelve rows and twelve ranks", lined(table(TWELVE, ORDER)), True)
+case("as many rows as can be", lined(table(FULL)))
+case("as many rows and ranks", lined(table(FULL, ORDER)), True)
 
 # every line of a table of two rows with its ranks: refused on each line where that can happen
 whole = table(TWO, [6, 5])
@@ -161,7 +163,7 @@ for k, line in enumerate(whole, 1):
 # every boundary of every range on its inner side, and next to it on its outer side
 for board in (0, 1, 65_535, 65_536):
     case(f"board {board}", lined(table(ONE, board=board)))
-for tasks in (0, 2, 11, 13):
+for tasks in (0, 2, 12, 13, MOST_TASKS, MOST_TASKS + 1):
     case(f"tasks {tasks} where one row stands", lined(table(ONE, tasks=tasks)))
 for task in (0, 1, 65_535, 65_536):
     case(f"task {task}", lined(table([(task, 9, 8, 7, 1000, 0)])))
@@ -193,14 +195,14 @@ case("worst above another row's period", lined(table(ONE + [(6, 90, 80, 70, 1000
 for i in range(1, 4):
     for j in range(i):
         case(f"task {i + 1} is task {j + 1}", lined(table(FOUR[:i] + [FOUR[j]] + FOUR[i + 1:])))
-case("the twelfth task is the first", lined(table(TWELVE[:11] + [(100, 9, 8, 7, 1000, 0)])))
+case("the last task is the first", lined(table(FULL[:-1] + [(100, 9, 8, 7, 1000, 0)])))
 case("a used task with a wrong period: its own line comes first", lined(table(ONE + [(5, 0, 0, 0, 0, 0)])))
 for i in range(4):
     case(f"rank {i + 1} names no task", lined(table(FOUR, [4, 1, 3, 2][:i] + [5])), True)
     for j in range(i):
         case(f"rank {i + 1} is rank {j + 1}", lined(table(FOUR, [4, 1, 3, 2][:i] + [[4, 1, 3, 2][j]])), True)
-case("the twelfth rank is the first", lined(table(TWELVE, ORDER[:11] + ORDER[:1])), True)
-case("the twelfth rank names no task", lined(table(TWELVE, ORDER[:11] + [99])), True)
+case("the last rank is the first", lined(table(FULL, ORDER[:-1] + ORDER[:1])), True)
+case("the last rank names no task", lined(table(FULL, ORDER[:-1] + [99])), True)
 case("a rank out of its range is 3, not 6", lined(table(TWO, [0, 5])), True)
 case("a rank with a leading zero is 2, not 6", lined(table(TWO) + [b"rank=05"]), True)
 case("a rank is missing", lined(table(TWO, [5])), True)
@@ -215,8 +217,10 @@ case("a NUL after the last line", lined(table(ONE)) + b"\0")
 case("a space after the last rank", lined(table(ONE, [5])) + b" ", True)
 case("a table after the table", lined(table(ONE)) * 2)
 case("a row too many", lined(table(TWO, tasks=1)))
-case("a byte after twelve rows", lined(table(TWELVE)) + b"b")
-case("a byte after twelve ranks", lined(table(TWELVE, ORDER)) + b"r", True)
+case("a row more than can be", lined(table(FULL + [(116, 9, 8, 7, 1000, 0)])))
+case("a row and a rank more than can be", lined(table(FULL + [(116, 9, 8, 7, 1000, 0)], ORDER + [116])), True)
+case("a byte after all the rows", lined(table(FULL)) + b"b")
+case("a byte after all the ranks", lined(table(FULL, ORDER)) + b"r", True)
 
 # line ends and other bytes
 case("CR LF throughout", lined(table(ONE)).replace(b"\n", b"\r\n"))
@@ -277,9 +281,9 @@ for i, row in enumerate(FOUR):
     case(f"hold = worst up to row {i + 1}", lined(table(held + [row + (row[2],)])))
     case(f"hold > worst in row {i + 1}", lined(table(held + [row + (row[2] + 1,)], tasks=4)))
     case(f"hold above its range in row {i + 1}", lined(table(held + [row + (1_000_001,)], tasks=4)))
-HELD = [row + (row[2] - i,) for i, row in enumerate(TWELVE)]
-case("twelve rows that hold, and twelve ranks", lined(table(HELD, ORDER)), True)
-case("the twelfth hold > worst", lined(table(TWELVE[:11] + [TWELVE[11] + (512,)], ORDER)), True)
+HELD = [row + (row[2] - i,) for i, row in enumerate(FULL)]
+case("as many rows that hold, and ranks", lined(table(HELD, ORDER)), True)
+case("the last hold > worst", lined(table(FULL[:-1] + [FULL[-1] + (FULL[-1][2] + 1,)], ORDER)), True)
 case("the table of document 01 as it stood, without a hold", lined(line for line in table(PAPER) if line != b"hold=0"))
 case("the last hold is missing, a rank stands there", lined(table(ONE)[:-1] + [b"rank=5"]), True)
 case("the hold of the first row is missing", lined(table(TWO)[:8] + table(TWO)[9:]))

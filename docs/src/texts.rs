@@ -2,12 +2,12 @@
 //! texts damaged in every way that a file can be.
 
 use crate::dice::Dice;
-use crate::model::Row;
+use crate::model::{Row, MOST_TASKS};
 use crate::tables::{self, FAMILIES};
 
 /// Both sides of every limit, of the digits allowed and of the machine's own numbers.
-const EDGES: &str = "0 1 2 12 13 999 1000 65535 65536 99999 100000 100001 999999 1000000 1000001 \
-    200000000000 200000000001 999999999999 1000000000000 0000000000001 4294967297 \
+const EDGES: &str = "0 1 2 12 13 15 16 17 999 1000 65535 65536 99999 100000 100001 999999 1000000 \
+    1000001 200000000000 200000000001 999999999999 1000000000000 0000000000001 4294967297 \
     18446744073709551617 00 01";
 
 const KEYS: [&str; 14] = [
@@ -252,7 +252,7 @@ fn rank_lines(dice: &mut Dice, rows: &[Row]) -> Vec<u8> {
 
 /// Rows of a table, few most of the time, so that a million texts take a minute or two.
 fn few_rows(dice: &mut Dice) -> Vec<Row> {
-    let most = if dice.once_in(16) { 12 } else { 4 };
+    let most = if dice.once_in(16) { MOST_TASKS } else { 4 };
     let count = 1 + dice.below(most);
     let family = dice.pick(&FAMILIES);
     tables::rows(dice, family, count, false)

@@ -128,7 +128,7 @@ unstarred =
     ∷ planner (table "beta=8000" "beta=8000" "beta=57000") (planWith "margin=2000")
     ∷ planner [] (lined ("plan=0" ∷ "refusal=1" ∷ "line=1" ∷ []))
     ∷ planner (lined ("board=07" ∷ [])) (lined ("plan=0" ∷ "refusal=2" ∷ "line=1" ∷ []))
-    ∷ planner (lined ("board=7" ∷ "tasks=13" ∷ [])) (lined ("plan=0" ∷ "refusal=3" ∷ "line=2" ∷ []))
+    ∷ planner (lined ("board=7" ∷ "tasks=17" ∷ [])) (lined ("plan=0" ∷ "refusal=3" ∷ "line=2" ∷ []))
     ∷ planner (alone "worst=11" "beta=10000") (lined ("plan=0" ∷ "refusal=4" ∷ "line=5" ∷ []))
     ∷ reviewer elevenAbove
     (lined (

@@ -22,11 +22,11 @@ use rows::MAX_TASKS;
 use rows::row_at;
 use text::put_bytes;
 
-// Room for the lines before a plan's ranks, or for a refusal's.
-const HEAD_ROOM: usize = 40;
+// Room for the lines before a plan's ranks.
+const HEAD_ROOM: usize = 28;
 
 // Room for the lines of a rank.
-const RANK_ROOM: usize = 82;
+const RANK_ROOM: usize = 79;
 
 // Room for every plan.
 pub const ROOM: usize = HEAD_ROOM + MAX_TASKS * RANK_ROOM;

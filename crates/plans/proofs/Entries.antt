@@ -4,16 +4,16 @@ use mathlib.Core.Path.{_≡_, refl, sym, ap, ap₂, subst, _∙_}
 use mathlib.Core.Bool.{Bool, true, false}
 use mathlib.Core.List.{List, [], _∷_, _++_, append-nil}
 use mathlib.Core.Logic.{inl, inr}
-use Prim.Native.Nat.{ℕ, zero, suc, _+_, _≤_, _<_}
+use Prim.Native.Nat.{ℕ, zero, suc, _+_, _*_, _≤_, _<_}
 use native.Mathlib.Nat.{mul-le-mul}
 use native.Mathlib.Omega.{arith}
 use lib.Dec.{ltb}
-use lib.IntN.{ℤ, natAbs, subℕ}
+use lib.IntN.{ℤ, pos, negsuc, subℕ}
 use lib.ListN.{length, getD, take, drop}
 use lib.Seq.{append-snoc}
 use borrow.Author.Tests.{ltb-true}
-use Rattle.basics.proofs.Tests.{test-of}
-use Rattle.rows.specs.Rows.{maxTask, maxTicks, maxAlpha, maxBeta, inRange, allRows, noRow}
+use Rattle.basics.proofs.Tests.{test-of, le-or-lt}
+use Rattle.rows.specs.Rows.{maxTask, minTicks, maxTicks, maxAlpha, maxBeta, inRange, allRows, noRow}
 use Rattle.rows.specs.declared.Row.{Row}
 use Rattle.rows.proofs.Limits.{limits, in-range-times, all-times}
 use Rattle.responses.specs.Figures.{rowsAbove, rowsBelow, earliest, latest, isLate, jitter, margin}
@@ -136,19 +136,28 @@ first-late-some order i e =
     subst (FirstLate [] order) same (l .2)
 
 -- ---- limits
-difference-limit : (a b m : ℕ) → a ≤ m → b ≤ m → natAbs (subℕ a b) ≤ m
-difference-limit a b m ha hb = elim (test-of (ltb a b)) [
-  | inl e ↦ rw e (omega (arith, ltb-true a b e))
+-- less is ever taken from beta than the steepest line takes of the most ticks
+abbrev mostSpent : ℕ
+mostSpent = maxAlpha * maxTicks
+
+-- a margin is at most beta's limit, and no further below 0 than what may be taken from it
+abbrev pub MarginIn : ℤ → Type 0
+MarginIn (pos v) = v ≤ maxBeta
+MarginIn (negsuc v) = suc v < mostSpent
+
+difference-in : (beta spent : ℕ) → beta ≤ maxBeta → spent < mostSpent → MarginIn (subℕ beta spent)
+difference-in beta spent most few = elim (test-of (ltb beta spent)) [
+  | inl e ↦ rw e (omega (arith, ltb-true beta spent e))
   | inr e ↦ rw e (omega arith)
 ]
 
--- a margin's size is at most beta's limit
+-- the numbers of an entry; W is E and the jitter together
 pub record InLimits (e : Entry) : Type 0 where
   pub task-in : e .task ≤ maxTask
-  pub best-in : e .best ≤ maxTicks
+  pub best-in : minTicks ≤ e .best
   pub worst-in : e .worst ≤ maxTicks
-  pub jitter-in : e .jitter ≤ maxTicks
-  pub margin-in : natAbs (e .margin) ≤ maxBeta
+  pub jitter-is : e .best + e .jitter ≡ e .worst
+  pub margin-in : MarginIn (e .margin)
 
 pub entry-limits : (r : Row) (above below : List Row) → inRange r ≡ true → allRows inRange above ≡ true
     → isLate r above below ≡ false → InLimits (entry r above below)
@@ -156,15 +165,19 @@ entry-limits r above below hr ha l =
     let limit = limits r hr in
     let f = figured r above below (in-range-times r hr) (all-times above ha) in
     let w = f .latest-fixed l in
-    let e : earliest r above below ≤ latest r above below = omega (arith, f .jitter-is l) in
+    let some : minTicks ≤ earliest r above below = elim (le-or-lt 2 (r .hold)) [
+      | inl h ↦ omega (arith, f .earliest-held h, limit .best .low-le)
+      | inr h ↦ f .earliest-fixed (omega arith) l .1
+    ] in
     let most : latest r above below ≤ maxTicks = omega (arith, w .2, limit .period .le-high) in
-    let steep = mul-le-mul {n₁ = r .alpha} {m₁ = jitter r above below} {n₂ = maxAlpha} {m₂ = maxTicks}
+    let steep = mul-le-mul {n₁ = r .alpha} {m₁ = jitter r above below} {n₂ = maxAlpha} {m₂ = jitter r above below}
     (limit .alpha .le-high) (omega arith) in
     record {
       task-in = limit .task .le-high;
-      best-in = omega (arith, e);
+      best-in = some;
       worst-in = most;
-      jitter-in = omega arith;
+      jitter-is = f .jitter-is l;
       margin-in =
-          difference-limit (r .beta) (spent r above below) maxBeta (limit .beta .le-high) (omega (arith, e));
+          difference-in (r .beta) (spent r above below) (limit .beta .le-high)
+          (omega (arith, steep, some, most, f .jitter-is l));
     }

@@ -1,30 +1,52 @@
--- A rank has at most 82 bytes, and the three lines before the ranks at most 28, so a plan of n ranks has at most
--- 28 + 82 n: every plan of rows in range has room. A refusal's three lines have at most 35.
+-- The three lines before the ranks have at most 28 bytes, and a rank at most 79, so that every plan of rows in range has
+-- room. A refusal's three lines have at most 35.
 use mathlib.Core.Path.{_≡_, refl, sym, ap, _∙_}
 use mathlib.Core.Bool.{true, false}
+use mathlib.Core.Logic.{inl, inr}
 use mathlib.Core.List.{List, [], _∷_, _++_, append-nil}
 use Prim.Native.Nat.{ℕ, suc, _+_, _*_, _^_, _≤_, _<_}
 use native.Mathlib.Omega.{arith}
-use lib.IntN.{ℤ, pos, negsuc, natAbs}
+use lib.IntN.{ℤ, pos, negsuc}
 use lib.ListN.{length, getD, take, drop, length-append}
 use lib.Seq.{append-snoc}
-use Rattle.basics.proofs.Tests.{and-both}
-use Rattle.text.specs.Text.{signed, joined}
+use Rattle.basics.proofs.Tests.{and-both, le-or-lt}
+use Rattle.text.specs.Text.{decimal, signed, joined}
 use Rattle.text.proofs.Decimals.{decimal-short}
 use Rattle.text.proofs.Spelling.{line-length}
-use Rattle.rows.specs.Rows.{maxBeta, inRange, allRows, noRow}
+use Rattle.rows.specs.Rows.{minTicks, maxTicks, inRange, allRows, noRow}
 use Rattle.rows.specs.declared.Row.{Row}
 use Rattle.rows.proofs.Limits.{head-passes, tail-passes, append-passes}
 use Rattle.responses.specs.Figures.{rowsAbove, rowsBelow, isLate}
 use Rattle.plans.specs.declared.Entry.{Entry}
 use Rattle.plans.specs.Entries.{entry, entriesFrom, entries}
-use Rattle.plans.specs.Plans.{rankText, rankTexts, headText, planText, refusalText, rankRoom, roomFor, mostRanks}
-use Rattle.plans.proofs.Entries.{InLimits, entries-length, entry-limits}
+use Rattle.plans.specs.Plans.{rankText, rankTexts, headText, planText, refusalText, headRoom, rankRoom, roomFor, mostRanks}
+use Rattle.plans.proofs.Entries.{MarginIn, InLimits, entries-length, entry-limits}
 
-margin-length : (z : ℤ) → natAbs z ≤ maxBeta → length (signed z) ≤ 13
+-- a margin has twelve digits, or a sign and eleven
+margin-length : (z : ℤ) → MarginIn z → length (signed z) ≤ 12
 unfolding signed
 margin-length (pos v) h = omega (arith, decimal-short v 11 (omega arith))
-margin-length (negsuc v) h = omega (arith, decimal-short (suc v) 11 (omega arith))
+margin-length (negsuc v) h = omega (arith, decimal-short (suc v) 10 (omega arith))
+
+-- W has seven digits only at the limit of ticks; then E has six and so has the jitter, or E is W and there is no jitter
+times-length : (e j w : ℕ) → minTicks ≤ e → e + j ≡ w → w ≤ maxTicks
+    → length (decimal e) + length (decimal w) + length (decimal j) ≤ 19
+times-length e j w some is most = elim (le-or-lt maxTicks e) [
+  | inl h ↦
+      omega (
+        arith,
+        decimal-short e 6 (omega arith),
+        decimal-short w 6 (omega arith),
+        decimal-short j 0 (omega arith),
+      )
+  | inr h ↦
+      omega (
+        arith,
+        decimal-short e 5 (omega arith),
+        decimal-short w 6 (omega arith),
+        decimal-short j 5 (omega arith),
+      )
+]
 
 pub rank-length : (k : ℕ) (e : Entry) → k ≤ mostRanks → InLimits e → length (rankText k e) ≤ rankRoom
 unfolding rankText
@@ -34,9 +56,7 @@ rank-length k e h l =
       arith,
       decimal-short k 1 (omega arith),
       decimal-short (e .task) 4 (omega (arith, l .task-in)),
-      decimal-short (e .best) 6 (omega (arith, l .best-in)),
-      decimal-short (e .worst) 6 (omega (arith, l .worst-in)),
-      decimal-short (e .jitter) 6 (omega (arith, l .jitter-in)),
+      times-length (e .best) (e .jitter) (e .worst) (l .best-in) (l .jitter-is) (l .worst-in),
       margin-length (e .margin) (l .margin-in),
     ))
 
@@ -63,7 +83,7 @@ ranks-length k above (r ∷ rs) h ha ho l =
       length-append (rankText k e) (joined (rankTexts (suc k) rest)),
     )
 
-pub head-length : (board count : ℕ) → board < 10 ^ 5 → count ≤ mostRanks → length (headText board count) ≤ 28
+pub head-length : (board count : ℕ) → board < 10 ^ 5 → count ≤ mostRanks → length (headText board count) ≤ headRoom
 unfolding headText
 head-length board count h n =
     simp (length-append, line-length)

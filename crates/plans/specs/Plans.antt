@@ -41,12 +41,12 @@ refusalText number place = joined (
     ∷ keyLine (bytes "line=") (decimal place)
     ∷ [])
 
--- room for the lines before the ranks, or for a refusal's; for the lines of a rank; and for every plan of n ranks
+-- room for the lines before the ranks, for the lines of a rank, and for every plan of n ranks
 abbrev pub headRoom : ℕ
-headRoom = 40
+headRoom = 28
 
 abbrev pub rankRoom : ℕ
-rankRoom = 82
+rankRoom = 79
 
 abbrev pub roomFor : ℕ → ℕ
 roomFor n = headRoom + n * rankRoom

@@ -47,7 +47,7 @@ abbrev pub minTasks : ℕ
 minTasks = 1
 
 abbrev pub maxTasks : ℕ
-maxTasks = 12
+maxTasks = 16
 
 -- a row of seven numbers; what stands past the rows that count
 abbrev pub row : ℕ → ℕ → ℕ → ℕ → ℕ → ℕ → ℕ → Row

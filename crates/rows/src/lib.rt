@@ -25,7 +25,7 @@ pub use numbers::row_at;
 mod numbers;
 
 // The most rows of a table. This and `maxTasks` in specs/Rows.antt are the two to change: every room follows from them.
-pub const MAX_TASKS: usize = 12;
+pub const MAX_TASKS: usize = 16;
 
 // A task's row. Times are in ticks, alpha in thousandths, beta in thousandths of a tick. A job of it may keep the
 // processor for a stretch of at most `hold` ticks.
