@@ -7,8 +7,11 @@
 
 use crate::model::{Answer, Refusal, Row, MOST_PIECES, MOST_TASKS};
 
+/// The bytes of a plan's three first lines at the most, and of a rank's.
+const HEAD_ROOM: usize = 28;
+const RANK_ROOM: usize = 82;
 /// Room for any plan.
-const PLAN_ROOM: usize = 2_048;
+const PLAN_ROOM: usize = HEAD_ROOM + MOST_TASKS * RANK_ROOM;
 const UNKNOWN: u8 = 255;
 const NONE: u8 = 254;
 
@@ -274,7 +277,7 @@ fn push_line(text: &mut Vec<u8>, key: &[u8], mut number: u64) {
 }
 
 fn plan_text(board: u64, rows: &[Row], order: &[usize]) -> Result<Vec<u8>, Refusal> {
-    let mut text = Vec::with_capacity(PLAN_ROOM);
+    let mut text = Vec::with_capacity(HEAD_ROOM + rows.len() * RANK_ROOM);
     push_line(&mut text, b"plan=", 1);
     push_line(&mut text, b"board=", board);
     push_line(&mut text, b"tasks=", rows.len() as u64);

@@ -23,24 +23,14 @@ use rows::hold_at;
 use rows::put_rows;
 use rows::row_at;
 
-// How many sets of tasks there are.
-const SETS: usize = 1 << MAX_TASKS;
-
-// Room for the columns of a set's rows.
-const COLUMNS: usize = 3 * MAX_TASKS;
-
-// Few tasks, how many sets of them there are, and room for their columns; and the same of some more.
+// Numbers of tasks for which a record of sets of their own is kept: the longest is for the most tasks.
 const FEW_TASKS: usize = 6;
-
-const FEW_SETS: usize = 1 << FEW_TASKS;
-
-const FEW_COLUMNS: usize = 3 * FEW_TASKS;
 
 const SOME_TASKS: usize = 9;
 
-const SOME_SETS: usize = 1 << SOME_TASKS;
+const MORE_TASKS: usize = 12;
 
-const SOME_COLUMNS: usize = 3 * SOME_TASKS;
+const MANY_TASKS: usize = 14;
 
 // A byte of the record of sets that is no row: the set isn't known yet, or has no order.
 const UNKNOWN: u8 = 254;
@@ -227,23 +217,34 @@ fn order_with(rows: &[u64], n: usize, sets: &mut [u8], columns: &mut [u64]) -> C
     }
 }
 
-// The order of n rows by the rule. Fewer rows have fewer sets, and a shorter record is sooner filled.
+// The order of n rows by the rule. n rows have 2 to the power n sets: fewer rows have a shorter record, which is sooner
+// filled.
 pub fn choose(rows: &[u64], n: usize) -> Choice
     requires { ⌜ Lent n (now rows) ⌝ }
     ensures { λ r. ⌜ Chooses (rowsOf n (now (rows .entry))) r ⌝ }
 {
     if n <= FEW_TASKS {
-        let mut few = [UNKNOWN; FEW_SETS];
-        let mut columns = [0u64; FEW_COLUMNS];
+        let mut few = [UNKNOWN; 1 << FEW_TASKS];
+        let mut columns = [0u64; 3 * FEW_TASKS];
         return order_with(rows, n, &mut few, &mut columns);
     }
     if n <= SOME_TASKS {
-        let mut some = [UNKNOWN; SOME_SETS];
-        let mut columns = [0u64; SOME_COLUMNS];
+        let mut some = [UNKNOWN; 1 << SOME_TASKS];
+        let mut columns = [0u64; 3 * SOME_TASKS];
         return order_with(rows, n, &mut some, &mut columns);
     }
-    let mut sets = [UNKNOWN; SETS];
-    let mut columns = [0u64; COLUMNS];
+    if n <= MORE_TASKS {
+        let mut more = [UNKNOWN; 1 << MORE_TASKS];
+        let mut columns = [0u64; 3 * MORE_TASKS];
+        return order_with(rows, n, &mut more, &mut columns);
+    }
+    if n <= MANY_TASKS {
+        let mut many = [UNKNOWN; 1 << MANY_TASKS];
+        let mut columns = [0u64; 3 * MANY_TASKS];
+        return order_with(rows, n, &mut many, &mut columns);
+    }
+    let mut sets = [UNKNOWN; 1 << MAX_TASKS];
+    let mut columns = [0u64; 3 * MAX_TASKS];
     order_with(rows, n, &mut sets, &mut columns)
 }
 

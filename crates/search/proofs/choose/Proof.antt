@@ -19,6 +19,12 @@ fewTasks = 6
 abbrev someTasks : ℕ
 someTasks = 9
 
+abbrev moreTasks : ℕ
+moreTasks = 12
+
+abbrev manyTasks : ℕ
+manyTasks = 14
+
 slice-aggregate-order-with : tie.Need-slice-aggregate-order-with
 slice-aggregate-order-with c = search needs
 
@@ -50,18 +56,48 @@ returns-2 : tie.Need-returns-2
 returns-2 c = search needs
 
 slice-aggregate-order-with-5 : tie.Need-slice-aggregate-order-with-5
-slice-aggregate-order-with-5 c = sym (length-replicate {A = ℕ} (2 ^ maxTasks) unknown)
+slice-aggregate-order-with-5 c = sym (length-replicate {A = ℕ} (2 ^ moreTasks) unknown)
 
 slice-aggregate-order-with-6 : tie.Need-slice-aggregate-order-with-6
 slice-aggregate-order-with-6 c = search needs
 
 order-with-requires-3 : tie.Need-order-with-requires-3
 order-with-requires-3 c κs =
-    let s = c .before .before .before .before .before in
-    (s .pre, fresh (s .args .n) (2 ^ maxTasks) (pow-mono (s .pre .few)), omega (arith, s .pre .few))
+    let s = c .before .before .before .before .before .before in
+    let few = c .before .before .if3 .taken in
+    (s .pre, fresh (s .args .n) (2 ^ moreTasks) (pow-mono few), omega (arith, few))
 
 returns-3 : tie.Need-returns-3
 returns-3 c = search needs
+
+slice-aggregate-order-with-7 : tie.Need-slice-aggregate-order-with-7
+slice-aggregate-order-with-7 c = sym (length-replicate {A = ℕ} (2 ^ manyTasks) unknown)
+
+slice-aggregate-order-with-8 : tie.Need-slice-aggregate-order-with-8
+slice-aggregate-order-with-8 c = search needs
+
+order-with-requires-4 : tie.Need-order-with-requires-4
+order-with-requires-4 c κs =
+    let s = c .before .before .before .before .before .before .before in
+    let few = c .before .before .if4 .taken in
+    (s .pre, fresh (s .args .n) (2 ^ manyTasks) (pow-mono few), omega (arith, few))
+
+returns-4 : tie.Need-returns-4
+returns-4 c = search needs
+
+slice-aggregate-order-with-9 : tie.Need-slice-aggregate-order-with-9
+slice-aggregate-order-with-9 c = sym (length-replicate {A = ℕ} (2 ^ maxTasks) unknown)
+
+slice-aggregate-order-with-10 : tie.Need-slice-aggregate-order-with-10
+slice-aggregate-order-with-10 c = search needs
+
+order-with-requires-5 : tie.Need-order-with-requires-5
+order-with-requires-5 c κs =
+    let s = c .before .before .before .before .before .before .before in
+    (s .pre, fresh (s .args .n) (2 ^ maxTasks) (pow-mono (s .pre .few)), omega (arith, s .pre .few))
+
+returns-5 : tie.Need-returns-5
+returns-5 c = search needs
 
 pub choose-spec : {M : Type 1} → statement M
 choose-spec =
@@ -78,4 +114,12 @@ choose-spec =
     slice-aggregate-order-with-5
     slice-aggregate-order-with-6
     order-with-requires-3
-    returns-3)
+    returns-3
+    slice-aggregate-order-with-7
+    slice-aggregate-order-with-8
+    order-with-requires-4
+    returns-4
+    slice-aggregate-order-with-9
+    slice-aggregate-order-with-10
+    order-with-requires-5
+    returns-5)
