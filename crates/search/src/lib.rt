@@ -217,8 +217,30 @@ fn order_with(rows: &[u64], n: usize, sets: &mut [u8], columns: &mut [u64]) -> C
     }
 }
 
+// The order of n rows by the rule, with the longer records of sets. They are in a frame of their own, for which a table
+// of few tasks does not wait.
+fn choose_long(rows: &[u64], n: usize) -> Choice
+    requires { ⌜ Lent n (now rows) ⌝ }
+    ensures { λ r. ⌜ Chooses (rowsOf n (now (rows .entry))) r ⌝ }
+{
+    if n <= MORE_TASKS {
+        let mut more = [UNKNOWN; 1 << MORE_TASKS];
+        let mut columns = [0u64; 3 * MORE_TASKS];
+        return order_with(rows, n, &mut more, &mut columns);
+    }
+    if n <= MANY_TASKS {
+        let mut many = [UNKNOWN; 1 << MANY_TASKS];
+        let mut columns = [0u64; 3 * MANY_TASKS];
+        return order_with(rows, n, &mut many, &mut columns);
+    }
+    let mut sets = [UNKNOWN; 1 << MAX_TASKS];
+    let mut columns = [0u64; 3 * MAX_TASKS];
+    order_with(rows, n, &mut sets, &mut columns)
+}
+
 // The order of n rows by the rule. n rows have 2 to the power n sets: fewer rows have a shorter record, which is sooner
-// filled.
+// filled. The longer records' function is called in two places: one with a single caller is put in its place by the
+// compiler, frame and all.
 pub fn choose(rows: &[u64], n: usize) -> Choice
     requires { ⌜ Lent n (now rows) ⌝ }
     ensures { λ r. ⌜ Chooses (rowsOf n (now (rows .entry))) r ⌝ }
@@ -233,19 +255,10 @@ pub fn choose(rows: &[u64], n: usize) -> Choice
         let mut columns = [0u64; 3 * SOME_TASKS];
         return order_with(rows, n, &mut some, &mut columns);
     }
-    if n <= MORE_TASKS {
-        let mut more = [UNKNOWN; 1 << MORE_TASKS];
-        let mut columns = [0u64; 3 * MORE_TASKS];
-        return order_with(rows, n, &mut more, &mut columns);
+    if n < MAX_TASKS {
+        return choose_long(rows, n);
     }
-    if n <= MANY_TASKS {
-        let mut many = [UNKNOWN; 1 << MANY_TASKS];
-        let mut columns = [0u64; 3 * MANY_TASKS];
-        return order_with(rows, n, &mut many, &mut columns);
-    }
-    let mut sets = [UNKNOWN; 1 << MAX_TASKS];
-    let mut columns = [0u64; 3 * MAX_TASKS];
-    order_with(rows, n, &mut sets, &mut columns)
+    choose_long(rows, MAX_TASKS)
 }
 
 // The same of the first rows of an array, which is lent as a slice.

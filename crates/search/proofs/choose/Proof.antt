@@ -1,29 +1,26 @@
 -- `choose` meets its contract: the record of sets, by the number of rows, has room for their sets, and has none of them
--- yet.
-use mathlib.Core.Path.{sym}
+-- yet; or a longer one is asked for.
+use mathlib.Core.Path.{_≡_, sym, subst}
 use Prim.Native.Nat.{ℕ, _^_}
 use native.Mathlib.Omega.{arith}
 use lib.ListN.{length-replicate}
 use lib.Pow.{pow-mono}
 use borrow.Author.Needs.{needs}
+use denote.Ref.{now}
 use Rattle.rows.specs.Rows.{maxTasks}
+use Rattle.rows.specs.inside.Numbers.{rowsOf}
 use Rattle.search.specs.inside.Sets.{unknown}
+use Rattle.search.specs.inside.Search.{Lent, Chooses}
 use Rattle.search.proofs.Record.{fresh}
 use Rattle.search.proofs.choose.Statement.{statement}
 use Rattle.search.proofs.choose.Tie as tie
 
--- the rows that the shorter records have room for
+-- the rows that the records have room for
 abbrev fewTasks : ℕ
 fewTasks = 6
 
 abbrev someTasks : ℕ
 someTasks = 9
-
-abbrev moreTasks : ℕ
-moreTasks = 12
-
-abbrev manyTasks : ℕ
-manyTasks = 14
 
 slice-aggregate-order-with : tie.Need-slice-aggregate-order-with
 slice-aggregate-order-with c = search needs
@@ -55,49 +52,26 @@ order-with-requires-2 c κs =
 returns-2 : tie.Need-returns-2
 returns-2 c = search needs
 
-slice-aggregate-order-with-5 : tie.Need-slice-aggregate-order-with-5
-slice-aggregate-order-with-5 c = sym (length-replicate {A = ℕ} (2 ^ moreTasks) unknown)
-
-slice-aggregate-order-with-6 : tie.Need-slice-aggregate-order-with-6
-slice-aggregate-order-with-6 c = search needs
-
-order-with-requires-3 : tie.Need-order-with-requires-3
-order-with-requires-3 c κs =
-    let s = c .before .before .before .before .before .before in
-    let few = c .before .before .if3 .taken in
-    (s .pre, fresh (s .args .n) (2 ^ moreTasks) (pow-mono few), omega (arith, few))
+choose-long-requires : tie.Need-choose-long-requires
+choose-long-requires c κs = search needs
 
 returns-3 : tie.Need-returns-3
 returns-3 c = search needs
 
-slice-aggregate-order-with-7 : tie.Need-slice-aggregate-order-with-7
-slice-aggregate-order-with-7 c = sym (length-replicate {A = ℕ} (2 ^ manyTasks) unknown)
+-- a table that has not fewer rows than the most has the most
+full : (c : tie.Else3) → c .before .before .before .before .args .n ≡ maxTasks
+full c = omega (arith, c .before .before .before .before .pre .few)
 
-slice-aggregate-order-with-8 : tie.Need-slice-aggregate-order-with-8
-slice-aggregate-order-with-8 c = search needs
-
-order-with-requires-4 : tie.Need-order-with-requires-4
-order-with-requires-4 c κs =
-    let s = c .before .before .before .before .before .before .before in
-    let few = c .before .before .if4 .taken in
-    (s .pre, fresh (s .args .n) (2 ^ manyTasks) (pow-mono few), omega (arith, few))
+choose-long-requires-2 : tie.Need-choose-long-requires-2
+choose-long-requires-2 c κs =
+    let s = c .before .before .before .before in
+    subst (λ (n : ℕ). Lent n (now (s .args .rows))) (full c) (s .pre)
 
 returns-4 : tie.Need-returns-4
-returns-4 c = search needs
-
-slice-aggregate-order-with-9 : tie.Need-slice-aggregate-order-with-9
-slice-aggregate-order-with-9 c = sym (length-replicate {A = ℕ} (2 ^ maxTasks) unknown)
-
-slice-aggregate-order-with-10 : tie.Need-slice-aggregate-order-with-10
-slice-aggregate-order-with-10 c = search needs
-
-order-with-requires-5 : tie.Need-order-with-requires-5
-order-with-requires-5 c κs =
-    let s = c .before .before .before .before .before .before .before in
-    (s .pre, fresh (s .args .n) (2 ^ maxTasks) (pow-mono (s .pre .few)), omega (arith, s .pre .few))
-
-returns-5 : tie.Need-returns-5
-returns-5 c = search needs
+returns-4 c =
+    let s = c .before .before .before .before .before in
+    subst (λ (n : ℕ). Chooses (rowsOf n (now (s .args .rows))) (c .choose-long2 .result)) (sym (full (c .before)))
+    (c .choose-long2 .ensures)
 
 pub choose-spec : {M : Type 1} → statement M
 choose-spec =
@@ -111,15 +85,7 @@ choose-spec =
     slice-aggregate-order-with-4
     order-with-requires-2
     returns-2
-    slice-aggregate-order-with-5
-    slice-aggregate-order-with-6
-    order-with-requires-3
+    choose-long-requires
     returns-3
-    slice-aggregate-order-with-7
-    slice-aggregate-order-with-8
-    order-with-requires-4
-    returns-4
-    slice-aggregate-order-with-9
-    slice-aggregate-order-with-10
-    order-with-requires-5
-    returns-5)
+    choose-long-requires-2
+    returns-4)
