@@ -31,8 +31,10 @@ const RANK_ROOM: usize = 79;
 // Room for every plan.
 pub const ROOM: usize = HEAD_ROOM + MAX_TASKS * RANK_ROOM;
 
-// Room for the columns of every order.
-const COLUMNS: usize = 3 * MAX_TASKS;
+// An order of few tasks has a room of its own, which is sooner filled.
+const FEW_TASKS: usize = 8;
+
+const FEW_ROOM: usize = HEAD_ROOM + FEW_TASKS * RANK_ROOM;
 
 pub fn buffer() -> [u8; ROOM]
     ensures { λ r. ⌜ r ≡ replicate planRoom 0 ⌝ }
@@ -152,8 +154,13 @@ pub fn plan_order(out: &mut [u8], board: u16, rows: &[u64], positions: &[usize],
     ensures { λ r. ⌜ Written (ifInTime (length (now (out .entry))) board
         (rowsIn (now (rows .entry)) (take n (now (positions .entry))))) (now (out .entry)) (now (out .exit)) r ⌝ }
 {
+    if n <= FEW_TASKS {
+        let mut few = [0; FEW_ROOM];
+        let mut columns = [0u64; 3 * FEW_TASKS];
+        return plan_in(out, &mut few, &mut columns, board, rows, positions, n);
+    }
     let mut text = [0; ROOM];
-    let mut columns = [0u64; COLUMNS];
+    let mut columns = [0u64; 3 * MAX_TASKS];
     plan_in(out, &mut text, &mut columns, board, rows, positions, n)
 }
 
