@@ -1,33 +1,84 @@
 -- What is read of each text is found by computing, and the demands of that text say the rest: what it meets, and that
 -- no other outcome than its own meets them.
-use mathlib.Core.Path.{_≡_, refl, sym, ap, _∙_}
+use mathlib.Core.Path.{_≡_, refl, sym, ap, ap₂, _∙_}
 use mathlib.Core.Bool.{true, false}
-use mathlib.Core.List.{[], _∷_}
-use Prim.Native.Nat.{ℕ}
+use mathlib.Core.List.{List, [], _∷_, map}
+use Prim.Native.Nat.{ℕ, _-_, _*_, _/_, _≤_}
 use native.Mathlib.Omega.{arith}
 use lib.ListN.{length}
 use Rattle.text.specs.Text.{digits, decimal, signed, keyLine}
 use Rattle.text.specs.Lines.{numberOf, lineAt}
 use Rattle.grammars.specs.Forms.{formAt}
 use Rattle.grammars.specs.Grammars.{readFor}
-use Rattle.rows.specs.Rows.{cost}
+use Rattle.rows.specs.Rows.{maxTask, maxTicks, cost}
+use Rattle.rows.specs.declared.Row.{Row}
 use Rattle.tables.specs.TableLines.{TableRead, readTable}
 use Rattle.responses.specs.Extremes.{smallest, largest}
-use Rattle.responses.specs.Figures.{blocking}
+use Rattle.responses.specs.Figures.{worstLoad, bestLoad, worstIn, bestIn, blocking, isLate, latest, earliest, marginAt}
+use Rattle.responses.specs.Claims.{Figured}
+use Rattle.responses.proofs.Responses.{figured}
+use Rattle.responses.proofs.Sums.{interference-mono}
 use Rattle.orders.specs.Orders.{overSet}
-use Rattle.plans.specs.Entries.{entries}
-use Rattle.plans.specs.Plans.{rankText, headText, planText}
+use Rattle.plans.specs.declared.Entry.{Entry}
+use Rattle.plans.specs.Entries.{entry, entries}
+use Rattle.plans.specs.Plans.{rankText, headText, planText, rankRoom}
 use Rattle.plans.specs.Outcomes.{refuses, ifInTime}
 use Rattle.demands.specs.Calls.{onTable, planned, reviewed}
 use Rattle.demands.specs.Cases.{table}
 use Rattle.boards.specs.Witnesses.{exampleOrder}
 use Rattle.boards.proofs.Witnesses.{runs-met}
 use Rattle.demands.specs.Witnesses.{example, exampleRows, timelyText, lateOrder, lateText, malformed}
+use Rattle.demands.specs.Witnesses.{tenth, tenths, mostText}
 use Rattle.demands.specs.Witnesses.{Met, Excluded}
 use Rattle.demands.proofs.Outcomes.{same-refusal, not-both}
 use Rattle.demands.proofs.Texts.{failing, telling, fails-only}
 use Rattle.demands.proofs.Planner as Planner
 use Rattle.demands.proofs.Reviewer as Reviewer
+
+-- ---- a rank that fills its room: W is the longest period, and E a tenth of it
+module _ where
+  abbrev lowest : Row
+  lowest = tenth maxTask
+
+  abbrev above : List Row
+  above = tenths 9
+
+  figures : Figured lowest above []
+  figures = figured lowest above [] refl refl
+
+  whole-period : (isLate lowest above [] ≡ false) × (latest lowest above [] ≤ maxTicks)
+  unfolding cost blocking
+  whole-period = figures .latest-least maxTicks (omega arith) refl (omega arith)
+
+  latest-whole : latest lowest above [] ≡ maxTicks
+  unfolding cost blocking
+  latest-whole =
+      let w = figures .latest-fixed (whole-period .0) in
+      let once : worstIn 1 above ≡ 9 * (maxTicks / 10) = refl in
+      omega (arith, w .0, w .2, once, interference-mono 0 1 (latest lowest above []) (map worstLoad above) (w .1))
+
+  earliest-tenth : earliest lowest above [] ≡ maxTicks / 10
+  earliest-tenth =
+      let e = figures .earliest-fixed (omega arith) (whole-period .0) in
+      let none : bestIn maxTicks above ≡ 0 = refl in
+      omega (
+        arith,
+        e .0,
+        none,
+        interference-mono 1 (earliest lowest above []) maxTicks (map bestLoad above)
+            (omega (arith, e .2, latest-whole)),
+      )
+
+  -- the entry of any two responses
+  abbrev entryOf : ℕ → ℕ → Entry
+  entryOf w e = record { task = maxTask; best = e; worst = w; jitter = w - e; margin = marginAt lowest w e }
+
+  filled-then : length (rankText 10 (entryOf maxTicks (maxTicks / 10))) ≡ rankRoom
+  unfolding digits decimal signed keyLine rankText
+  filled-then = refl
+
+  filled : length (rankText 10 (entry lowest above [])) ≡ rankRoom
+  filled = ap₂ (λ (w e : ℕ). length (rankText 10 (entryOf w e))) latest-whole earliest-tenth ∙ filled-then
 
 pub met : Met
 unfolding digits decimal signed keyLine numberOf lineAt formAt readFor readTable
@@ -57,6 +108,11 @@ met =
       tells-timely = timely-told;
       given-timely = timely .given 7 exampleRows (12 ∷ 11 ∷ 13 ∷ []) timely-told;
       none-late = runs-met .none-late;
+      tells-most = telling false mostText refl;
+      head-filled = refl;
+      rank-in-limits = refl;
+      rank-timely = whole-period .0;
+      rank-filled = filled;
     }
 
 -- a text that is no table has its refusal only

@@ -1,19 +1,22 @@
 -- Nothing is demanded in vain: texts and orders that meet each condition that the demands name (boards/specs/Witnesses
 -- has the runs). And outcomes that weaker demands would admit, each excluded.
+use mathlib.Core.Path.{_≡_}
 use mathlib.Core.Bool.{true, false}
 use mathlib.Core.List.{List, [], _∷_, _++_}
-use Prim.Native.Nat.{ℕ, suc, _<_}
+use Prim.Native.Nat.{ℕ, zero, suc, _/_, _<_}
 use Prim.Native.String.{String}
 use lib.ListN.{length}
 use Rattle.text.specs.Text.{bytes, lined, decimal, keyLine}
-use Rattle.rows.specs.Rows.{maxTasks}
+use Rattle.rows.specs.Rows.{maxTask, maxTicks, minAlpha, maxBeta, minHold, maxTasks, row}
 use Rattle.rows.specs.declared.Row.{Row}
 use Rattle.boards.specs.Claims.{NoneLate}
 use Rattle.boards.specs.Witnesses.{exampleOrder}
-use Rattle.plans.specs.Entries.{entries}
-use Rattle.plans.specs.Plans.{planText}
+use Rattle.responses.specs.Figures.{isLate, inLimits}
+use Rattle.plans.specs.Entries.{entry, entries}
+use Rattle.plans.specs.Plans.{rankText, headText, planText, headRoom, rankRoom}
 use Rattle.plans.specs.Outcomes.{writes, refuses}
 use Rattle.demands.specs.Cases.{row11, row12, row13, table}
+use Rattle.tables.specs.TableLines.{maxBoard}
 use Rattle.tables.specs.Claims.{Tells, Fails}
 use Rattle.demands.specs.Demands.{EveryOrderFails, ByRule, PlanDemands}
 use Rattle.demands.specs.Demands.{Given, FirstLate, ReviewDemands}
@@ -46,6 +49,25 @@ twoTasks more = lined ("board=7" ∷ "tasks=2" ∷ "task=1" ∷ "period=10" ∷ 
 abbrev pub tooMany : List ℕ
 tooMany = lined ("board=7" ∷ []) ++ keyLine (bytes "tasks=") (decimal (suc maxTasks))
 
+-- tasks that take a tenth of the longest period each; as many as a table can have, as text too
+abbrev pub tenth : ℕ → Row
+tenth task = row task maxTicks (maxTicks / 10) (maxTicks / 10) minAlpha maxBeta minHold
+
+abbrev pub tenths : ℕ → List Row
+tenths zero = []
+tenths (suc k) = tenth (suc k) ∷ tenths k
+
+abbrev pub tenthLines : ℕ → List ℕ
+tenthLines zero = []
+tenthLines (suc k) =
+    keyLine (bytes "task=") (decimal (suc k))
+    ++ lined (
+    "period=1000000" ∷ "worst=100000" ∷ "best=100000" ∷ "alpha=1000" ∷ "beta=200000000000" ∷ "hold=0" ∷ [])
+    ++ tenthLines k
+
+abbrev pub mostText : List ℕ
+mostText = lined ("board=7" ∷ []) ++ keyLine (bytes "tasks=") (decimal maxTasks) ++ tenthLines maxTasks
+
 pub record Met : Type 0 where
   -- refusals 1 to 6, each at its line
   pub missing : Fails false [] 1 1
@@ -68,6 +90,13 @@ pub record Met : Type 0 where
   pub tells-timely : Tells true timelyText 7 exampleRows (12 ∷ 11 ∷ 13 ∷ [])
   pub given-timely : Given exampleRows (12 ∷ 11 ∷ 13 ∷ []) exampleOrder
   pub none-late : NoneLate exampleOrder
+  -- as many tasks as a table can have
+  pub tells-most : Tells false mostText 7 (tenths maxTasks) []
+  -- the room of a plan's parts is no more than it must be: lines before the ranks, and those of a rank, that fill it
+  pub head-filled : length (headText maxBoard maxTasks) ≡ headRoom
+  pub rank-in-limits : inLimits (tenth maxTask) (tenths 9) [] ≡ true
+  pub rank-timely : isLate (tenth maxTask) (tenths 9) [] ≡ false
+  pub rank-filled : length (rankText 10 (entry (tenth maxTask) (tenths 9) [])) ≡ rankRoom
 
 pub record Excluded : Type 0 where
   -- a refusal of the text for a table that is accepted
