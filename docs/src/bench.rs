@@ -249,7 +249,8 @@ fn print_full_boards(
             half.push(table_text(&rows));
         }
     }
-    println!("planner, {} tables of {MOST_TASKS} tasks {title}, microseconds a call", 2 * FULL_BOARDS);
+    let count = 2 * FULL_BOARDS;
+    println!("planner, {count} tables of {MOST_TASKS} tasks {title}, microseconds a call");
     let mut total = Times::default();
     for (name, texts) in ["with an order", "with no order"].iter().zip(&texts) {
         let mut sum = Times::default();

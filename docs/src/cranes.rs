@@ -193,9 +193,13 @@ fn lines(dice: &mut Dice) -> Vec<u8> {
 }
 
 /// As many boards as there can be, or one more, with many tasks, betas that are no limit and no
-/// holds: the longest outputs. Seldom with twelve tasks, with which the model is slow.
+/// holds: the longest outputs. Seldom with the most tasks, with which the model is slow.
 fn full(dice: &mut Dice) -> Vec<u8> {
-    let tasks = if dice.once_in(5) { 12 } else { 7 };
+    let tasks = match dice.below(40) {
+        0 => MOST_TASKS,
+        1..=8 => 12,
+        _ => 7,
+    };
     let mut rows = tables::rows_without_holds(dice, Family::Huge, tasks, true);
     let mut text = Vec::new();
     for _ in 0..MOST_PIECES + dice.once_in(8) as usize {

@@ -907,12 +907,66 @@ mod tests {
         assert_eq!(says(&input), format!("{PLAN}{}", refusal_says(1, 1)).as_bytes());
     }
 
+    /// The longest lines of a plan, each number as long as it can be: W is E and the jitter
+    /// together, so that both have six digits where it has seven. They are 1,292 bytes for a plan,
+    /// and for a crane 41,344, which is within 64 KiB.
     #[test]
-    fn the_longest_output_is_shorter_than_the_programs_buffer() {
-        let rank = "rank=12\ntask=65535\nbest=1000000\nworst=1000000\njitter=1000000\n\
-            margin=200000000000\n";
-        let plan = format!("plan=1\nboard=65535\ntasks=12\n{}", rank.repeat(12));
-        assert!(plan.len() * MOST_PIECES <= 32_768, "{}", plan.len());
+    fn the_longest_lines_have_room() {
+        let head = "plan=1\nboard=65535\ntasks=16\n";
+        let rank = "rank=16\ntask=65535\nbest=100000\nworst=1000000\njitter=900000\n\
+            margin=199000000000\n";
+        assert_eq!(head.len() + MOST_TASKS * rank.len(), 1_292);
+        assert_eq!(MOST_PIECES * 1_292, 41_344);
+    }
+
+    /// A table with long numbers throughout, and its plan: keys, equals signs and line feeds first,
+    /// then the digits of ranks, tasks, bests, worsts, jitters and margins.
+    #[test]
+    fn a_plan_of_long_numbers_is_as_long_as_computed() {
+        let table = include_str!("../../examples/longest.table");
+        let keys = "rank=\ntask=\nbest=\nworst=\njitter=\nmargin=\n".len();
+        let digits = (9 + 7 * 2) + 16 * 5 + (9 * 6 + 7 * 5) + (15 * 6 + 7) + 16 * 6 + 16 * 12;
+        let length = 28 + 16 * keys + digits;
+        assert_eq!(planned(table.as_bytes()).map(|plan| plan.len()), Ok(length));
+        assert_eq!(crane_says(&table.repeat(32)).len(), 32 * length);
+        assert_eq!(32 * length, 40_352);
+    }
+
+    // ---- The most tasks -----------------------------------------------------------------
+
+    /// A table of so many loops, each of one tick, and the rank lines of the tasks from the last.
+    fn loops(tasks: u64) -> (String, String) {
+        let row = |task| {
+            format!("task={task}\nperiod=100\nworst=1\nbest=1\nalpha=1000\nbeta=100000\nhold=0\n")
+        };
+        let rows: String = (1..=tasks).map(row).collect();
+        let ranks = (1..=tasks).rev().map(|task| format!("rank={task}\n")).collect();
+        (format!("board=7\ntasks={tasks}\n{rows}"), ranks)
+    }
+
+    #[test]
+    fn sixteen_tasks_and_no_more() {
+        for tasks in [12, 13, 15, 16] {
+            // The first of the table is the lowest, for each is stable there.
+            let (table, ranks) = loops(tasks);
+            let plan = planned(table.as_bytes());
+            let last = format!("rank={tasks}\ntask=1\nbest=1\nworst={tasks}\n");
+            assert!(String::from_utf8(plan.clone().unwrap()).unwrap().contains(&last));
+            assert_eq!(reviewed(format!("{table}{ranks}").as_bytes()), plan);
+            assert_eq!(craned(table.as_bytes()), plan);
+        }
+        for tasks in [17, 18, 64] {
+            let (table, ranks) = loops(tasks);
+            assert_eq!(planned(table.as_bytes()), refused(3, 2));
+            assert_eq!(reviewed(format!("{table}{ranks}").as_bytes()), refused(3, 2));
+            let crane = crane_says(&format!("{TABLE}{table}"));
+            assert_eq!(crane, PLAN.to_owned() + &refusal_says(3, 2));
+        }
+        let (table, ranks) = loops(16);
+        assert_eq!(planned(format!("{table}rank=1\n").as_bytes()), refused(1, 115));
+        assert_eq!(reviewed(format!("{table}{ranks}rank=1\n").as_bytes()), refused(1, 131));
+        let twice = table.replace("task=16\n", "task=1\n");
+        assert_eq!(planned(twice.as_bytes()), refused(5, 108));
     }
 
     /// Every text of six parts, each part something that a cut depends on.
