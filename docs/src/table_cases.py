@@ -217,8 +217,6 @@ case("a NUL after the last line", lined(table(ONE)) + b"\0")
 case("a space after the last rank", lined(table(ONE, [5])) + b" ", True)
 case("a table after the table", lined(table(ONE)) * 2)
 case("a row too many", lined(table(TWO, tasks=1)))
-case("a row more than can be", lined(table(FULL + [(116, 9, 8, 7, 1000, 0)])))
-case("a row and a rank more than can be", lined(table(FULL + [(116, 9, 8, 7, 1000, 0)], ORDER + [116])), True)
 case("a byte after all the rows", lined(table(FULL)) + b"b")
 case("a byte after all the ranks", lined(table(FULL, ORDER)) + b"r", True)
 

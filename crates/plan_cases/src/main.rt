@@ -183,7 +183,7 @@ fn line_cases() {
     refuses(b"empty input", false, b"", 1, 1);
     refuses(b"empty input, reviewer", true, b"", 1, 1);
     refuses(b"board=07", false, b"board=07\n", 2, 1);
-    refuses(b"tasks=13", false, b"board=7\ntasks=13\n", 3, 2);
+    refuses(b"tasks=17", false, b"board=7\ntasks=17\n", 3, 2);
 }
 
 fn row_plans() {
