@@ -298,6 +298,87 @@ fn print_cranes(dice: &mut Dice, count: usize, rounds: u32) -> Result<(), Differ
     Ok(())
 }
 
+// ---- The stack --------------------------------------------------------------------------
+
+/// The bytes of stack that a call is lent to measure it, more than any needs, and what they hold
+/// before it.
+const STACK: usize = 1 << 20;
+const UNTOUCHED: u8 = 0xa5;
+
+/// A thread's attributes, as the C library lays them out for 64 bits on Linux.
+type Attributes = [u64; 7];
+
+unsafe extern "C" {
+    fn pthread_attr_init(attributes: *mut Attributes) -> i32;
+    fn pthread_attr_setstack(attributes: *mut Attributes, stack: *mut u8, size: usize) -> i32;
+    fn pthread_create(
+        thread: *mut u64,
+        attributes: *const Attributes,
+        start: extern "C" fn(*mut u8) -> *mut u8,
+        job: *mut u8,
+    ) -> i32;
+    fn pthread_join(thread: u64, result: *mut *mut u8) -> i32;
+}
+
+/// A call to be made on a stack of its own.
+struct Job<'a> {
+    function: Function,
+    text: &'a [u8],
+    buffer: Vec<u8>,
+}
+
+#[repr(align(4096))]
+#[derive(Clone)]
+struct Page([u8; 4096]);
+
+extern "C" fn run_job(job: *mut u8) -> *mut u8 {
+    // SAFETY: a job of `stack_touched`, which waits for the thread before it looks at it.
+    let Job { function, text, buffer } = unsafe { &mut *job.cast::<Job>() };
+    black_box(function(text, buffer));
+    job
+}
+
+/// How far down a thread's stack is touched when it makes a call.
+fn stack_touched(function: Function, text: &[u8]) -> usize {
+    let mut stack = vec![Page([UNTOUCHED; 4096]); STACK / 4096];
+    let mut job = Job { function, text, buffer: vec![0; AMPLE] };
+    let (mut attributes, mut thread, mut result) = ([0; 7], 0, std::ptr::null_mut());
+    // SAFETY: the stack is aligned to a page and lives until the thread has ended.
+    let statuses = unsafe {
+        [
+            pthread_attr_init(&mut attributes),
+            pthread_attr_setstack(&mut attributes, stack.as_mut_ptr().cast(), STACK),
+            pthread_create(&mut thread, &attributes, run_job, (&raw mut job).cast()),
+            pthread_join(thread, &mut result),
+        ]
+    };
+    assert_eq!(statuses, [0; 4], "a thread with a stack of its own");
+    let bytes = black_box(&stack).iter().flat_map(|page| page.0);
+    STACK - bytes.take_while(|&byte| byte == UNTOUCHED).count()
+}
+
+fn nothing(_: &[u8], _: &mut [u8]) -> Answer {
+    Answer { number: 0, place: 0, length: 0 }
+}
+
+/// The stack that each call needs on full boards, beside what a thread needs that does nothing.
+fn print_stack(dice: &mut Dice, count: usize) {
+    let tables: Vec<Vec<Row>> = (0..count).map(|_| slow(dice, MOST_TASKS)).collect();
+    let crane: Vec<u8> = tables.iter().flat_map(|rows| table_text(rows)).collect();
+    let most = |function, texts: &[Vec<u8>]| {
+        let touched = texts.iter().map(|text| stack_touched(function, text)).max().unwrap_or(0);
+        touched - stack_touched(nothing, b"")
+    };
+    let plans: Vec<Vec<u8>> = tables.iter().map(|rows| table_text(rows)).collect();
+    let reviews: Vec<Vec<u8>> = tables.iter().map(|rows| ranked_text(rows)).collect();
+    println!(
+        "stack of a call with {MOST_TASKS} tasks, bytes: planner {}, reviewer {}, crane {}",
+        most(PLAN.library, &plans),
+        most(REVIEW.library, &reviews),
+        most(CRANE.library, &[crane])
+    );
+}
+
 // ---- The search for a slow table --------------------------------------------------------
 
 fn near(dice: &mut Dice, number: u64, low: u64, high: u64) -> u64 {
@@ -446,6 +527,7 @@ fn run(options: &Options) -> Result<(), Different> {
     // Dice of its own, so that the tables of the other parts stay what they were.
     print_cranes(&mut Dice::new(options.seed ^ 1 << 32), options.tables / 4 + 1, options.rounds)?;
     print_holding(&mut Dice::new(options.seed ^ 2 << 32), options)?;
+    print_stack(&mut Dice::new(options.seed ^ 3 << 32), options.tables.min(MOST_PIECES));
     if options.climb > 0 {
         print_slowest(&mut dice, options.climb, options.rounds)?;
     }
