@@ -156,6 +156,7 @@ module _ (text : List ℕ) where
       only-singles = λ ws s. only-singles s;
       listed = listed cases;
       outcome = outcome;
+      room-short = omega arith;
       has-room = has-room;
       prints-few = prints-few;
       prints-many = prints-many;

@@ -9,6 +9,7 @@ use lib.ListN.{length, getD}
 use Rattle.basics.specs.Basics.{isIn}
 use Rattle.text.specs.Text.{bytes, joined}
 use Rattle.text.specs.Lines.{begins}
+use Rattle.rows.specs.Rows.{maxBuffer}
 use Rattle.tables.specs.TableLines.{readTable}
 use Rattle.plans.specs.declared.Answer.{Answer}
 use Rattle.plans.specs.Plans.{refusalText, planRoom}
@@ -77,7 +78,9 @@ pub record CraneDemands (text : List ℕ) (room : ℕ) (w : Outcome) : Type 0 wh
   pub listed : (n p : ℕ) → w ≡ refuses n p → (isIn n craneRefusals ≡ true) × (p ≡ 0)
   pub outcome :
       (ps : List (List ℕ)) (ws : List Outcome) → CutOf boardKey text ps → Singles ps ws → CraneOf room ps ws w
-  -- a program's buffer has room for every output, so the program prints that, or the lines of refusal 10
+  -- a program's buffer, of at most 64 KiB, has room for every output, so the program prints that, or the lines of
+  -- refusal 10
+  pub room-short : craneRoom ≤ maxBuffer
   pub has-room : craneRoom ≤ room → (p : ℕ) → w ≡ refuses 9 p → ⊥
   pub prints-few : length (pieces text) ≤ maxPieces → cranePrints text ≡ craneText text
   pub prints-many : maxPieces < length (pieces text) → cranePrints text ≡ refusalText 10 0

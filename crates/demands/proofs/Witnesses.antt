@@ -109,6 +109,7 @@ met =
       given-timely = timely .given 7 exampleRows (12 ∷ 11 ∷ 13 ∷ []) timely-told;
       none-late = runs-met .none-late;
       tells-most = telling false mostText refl;
+      record-short = omega arith;
       head-filled = refl;
       rank-in-limits = refl;
       rank-timely = whole-period .0;

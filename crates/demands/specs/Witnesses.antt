@@ -3,11 +3,11 @@
 use mathlib.Core.Path.{_≡_}
 use mathlib.Core.Bool.{true, false}
 use mathlib.Core.List.{List, [], _∷_, _++_}
-use Prim.Native.Nat.{ℕ, zero, suc, _/_, _<_}
+use Prim.Native.Nat.{ℕ, zero, suc, _/_, _^_, _≤_, _<_}
 use Prim.Native.String.{String}
 use lib.ListN.{length}
 use Rattle.text.specs.Text.{bytes, lined, decimal, keyLine}
-use Rattle.rows.specs.Rows.{maxTask, maxTicks, minAlpha, maxBeta, minHold, maxTasks, row}
+use Rattle.rows.specs.Rows.{maxTask, maxTicks, minAlpha, maxBeta, minHold, maxTasks, maxBuffer, row}
 use Rattle.rows.specs.declared.Row.{Row}
 use Rattle.boards.specs.Claims.{NoneLate}
 use Rattle.boards.specs.Witnesses.{exampleOrder}
@@ -90,8 +90,9 @@ pub record Met : Type 0 where
   pub tells-timely : Tells true timelyText 7 exampleRows (12 ∷ 11 ∷ 13 ∷ [])
   pub given-timely : Given exampleRows (12 ∷ 11 ∷ 13 ∷ []) exampleOrder
   pub none-late : NoneLate exampleOrder
-  -- as many tasks as a table can have
+  -- as many tasks as a table can have; a byte for each set of them is no longer than a buffer may be
   pub tells-most : Tells false mostText 7 (tenths maxTasks) []
+  pub record-short : 2 ^ maxTasks ≤ maxBuffer
   -- the room of a plan's parts is no more than it must be: lines before the ranks, and those of a rank, that fill it
   pub head-filled : length (headText maxBoard maxTasks) ≡ headRoom
   pub rank-in-limits : inLimits (tenth maxTask) (tenths 9) [] ≡ true

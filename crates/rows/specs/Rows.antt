@@ -49,6 +49,10 @@ minTasks = 1
 abbrev pub maxTasks : ℕ
 maxTasks = 16
 
+-- the bytes of a program's buffer at most, 64 KiB
+abbrev pub maxBuffer : ℕ
+maxBuffer = 65536
+
 -- a row of seven numbers; what stands past the rows that count
 abbrev pub row : ℕ → ℕ → ℕ → ℕ → ℕ → ℕ → ℕ → Row
 row t p w b a e h = record { task = t; period = p; worst = w; best = b; alpha = a; beta = e; hold = h }
