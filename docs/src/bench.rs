@@ -1,16 +1,9 @@
 //! Times the proved planner against the same algorithm in plain Rust (`plain.rs`), on the same
 //! texts in one run, and looks for a slow table. See `docs/TESTING.md`.
-//!
-//! Built with `--cfg model_only` it needs no library: the model stands in for it.
-
-// The flag is given to rustc by hand, so that no list of known flags names it.
-#![allow(unexpected_cfgs)]
 
 mod dice;
-// Of these files only a part is needed here.
-#[cfg(not(model_only))]
-#[allow(dead_code)]
 mod library;
+// Of these files only a part is needed here.
 #[allow(dead_code)]
 mod model;
 #[allow(dead_code)]
@@ -18,30 +11,13 @@ mod plain;
 #[allow(dead_code)]
 mod tables;
 
-#[cfg(model_only)]
-mod library {
-    use crate::model::{self, Answer};
-
-    pub fn plan(text: &[u8], buffer: &mut [u8]) -> Answer {
-        model::written(&model::planned(text), buffer)
-    }
-
-    pub fn review(text: &[u8], buffer: &mut [u8]) -> Answer {
-        model::written(&model::reviewed(text), buffer)
-    }
-
-    pub fn crane(text: &[u8], buffer: &mut [u8]) -> Answer {
-        model::written(&model::craned(text), buffer)
-    }
-}
-
 use dice::Dice;
 use model::{Answer, Row, MOST_PIECES, MOST_TASKS};
 use std::hint::black_box;
 use std::process::ExitCode;
 
-/// Full boards, this many with an order and as many without.
-const FULL_BOARDS: usize = 120;
+/// Full boards for each table of a number of tasks: this many with an order and as many without.
+const FULL_BOARDS: usize = 6;
 /// The terms that the search adds up at the least where it is the search that is to be timed, and
 /// not reading and writing.
 const MUCH_WORK: u64 = 3_000;
@@ -54,9 +30,6 @@ const CRANES: [usize; 6] = [1, 2, 4, 8, 16, 32];
 const BATCH: f64 = 1e-3;
 /// A slow table is the slowest of this many.
 const DRAWN_FOR_A_SLOW_ONE: usize = 100;
-
-/// What is timed against plain Rust.
-const NAME: &str = if cfg!(model_only) { "model" } else { "library" };
 
 const USAGE: &str = "usage: bench [--tables N] [--rounds N] [--climb MILLIONS] [--seed S]";
 
@@ -148,7 +121,7 @@ fn print_times(
     rounds: u32,
 ) -> Result<(), Different> {
     println!("{title}, microseconds a call");
-    println!("  tasks      plain {NAME:>10}   ratio  growth");
+    println!("  tasks      plain    library   ratio  growth");
     let (mut total, mut before) = (Times::default(), None);
     for (tasks, texts) in texts.iter().enumerate() {
         let mut sum = Times::default();
@@ -166,7 +139,7 @@ fn print_times(
         total.library += sum.library;
     }
     let (plain, library) = (total.plain * 1e3, total.library * 1e3);
-    println!("  total: plain {plain:.3} ms, {NAME} {library:.3} ms, ratio {:.3}", total.ratio());
+    println!("  total: plain {plain:.3} ms, library {library:.3} ms, ratio {:.3}", total.ratio());
     Ok(())
 }
 
@@ -236,32 +209,31 @@ fn print_full_boards(
     title: &str,
     dice: &mut Dice,
     least: u64,
-    rounds: u32,
+    options: &Options,
 ) -> Result<(), Different> {
-    let mut texts = [Vec::new(), Vec::new()];
-    while texts.iter().any(|texts| texts.len() < FULL_BOARDS) {
+    let (boards, mut texts) = (FULL_BOARDS * options.tables, [Vec::new(), Vec::new()]);
+    while texts.iter().any(|texts| texts.len() < boards) {
         let rows = typical(dice, MOST_TASKS);
         if work(&rows) < least {
             continue;
         }
         let half = &mut texts[usize::from(plain::chosen::<false>(&rows).0.is_none())];
-        if half.len() < FULL_BOARDS {
+        if half.len() < boards {
             half.push(table_text(&rows));
         }
     }
-    let count = 2 * FULL_BOARDS;
-    println!("planner, {count} tables of {MOST_TASKS} tasks {title}, microseconds a call");
+    println!("planner, {} tables of {MOST_TASKS} tasks {title}, microseconds a call", 2 * boards);
     let mut total = Times::default();
     for (name, texts) in ["with an order", "with no order"].iter().zip(&texts) {
         let mut sum = Times::default();
         for text in texts {
-            let times = measure(&PLAN, text, rounds)?;
+            let times = measure(&PLAN, text, options.rounds)?;
             sum.plain += times.plain;
             sum.library += times.library;
         }
         let micros = 1e6 / texts.len() as f64;
         let (plain, library) = (sum.plain * micros, sum.library * micros);
-        println!("  {name}: plain {plain:.2}, {NAME} {library:.2}, ratio {:.3}", sum.ratio());
+        println!("  {name}: plain {plain:.2}, library {library:.2}, ratio {:.3}", sum.ratio());
         total.plain += sum.plain;
         total.library += sum.library;
     }
@@ -273,7 +245,7 @@ fn print_full_boards(
 /// single calls on the same boards.
 fn print_cranes(dice: &mut Dice, count: usize, rounds: u32) -> Result<(), Different> {
     println!("crane, boards of 1 to {MOST_TASKS} tasks, microseconds a call");
-    println!("  boards     plain {NAME:>10}   ratio  to single calls");
+    println!("  boards     plain    library   ratio  to single calls");
     for boards in CRANES {
         let (mut sum, mut single) = (Times::default(), 0.0);
         for _ in 0..count {
@@ -468,7 +440,7 @@ fn print_slowest(dice: &mut Dice, millions: u64, rounds: u32) -> Result<(), Diff
     let times = measure(&PLAN, &text, rounds)?;
     let (plain, library) = (times.plain * 1e3, times.library * 1e3);
     println!(
-        "slowest table found: plain {plain:.3} ms, {NAME} {library:.3} ms, ratio {:.3}",
+        "slowest table found: plain {plain:.3} ms, library {library:.3} ms, ratio {:.3}",
         times.ratio()
     );
     print!("{}", String::from_utf8_lossy(&text));
@@ -522,8 +494,8 @@ fn run(options: &Options) -> Result<(), Different> {
         &texts_of(&typical, ranked_text),
         options.rounds,
     )?;
-    print_full_boards("as drawn", &mut dice, 0, options.rounds)?;
-    print_full_boards("with much to search", &mut dice, MUCH_WORK, options.rounds)?;
+    print_full_boards("as drawn", &mut dice, 0, options)?;
+    print_full_boards("with much to search", &mut dice, MUCH_WORK, options)?;
     // Dice of its own, so that the tables of the other parts stay what they were.
     print_cranes(&mut Dice::new(options.seed ^ 1 << 32), options.tables / 4 + 1, options.rounds)?;
     print_holding(&mut Dice::new(options.seed ^ 2 << 32), options)?;
@@ -543,6 +515,6 @@ fn main() -> ExitCode {
     let Err(Different(text)) = run(&options) else {
         return ExitCode::SUCCESS;
     };
-    println!("DIFFERENCE between plain and {NAME}, text:\n  \"{}\"", text.escape_ascii());
+    println!("DIFFERENCE between plain and library, text:\n  \"{}\"", text.escape_ascii());
     ExitCode::FAILURE
 }
