@@ -394,8 +394,8 @@ fn step_from(dice: &mut Dice, rows: &[Row]) -> Vec<Row> {
     rows
 }
 
-/// A table made to be slow: short tasks that leave one tick in 1806 free, so that the search of a
-/// latest response creeps; long tasks that all fit below them, so that every set of these is
+/// A table made to be slow: short tasks that leave one tick in 87,639 free, so that the search of a
+/// latest response creeps; long tasks that all just fit below them, so that every set of these is
 /// tried; and, last in the table, a task that is never stable, so that all of it is in vain.
 fn creeping() -> Vec<Row> {
     let loose = |period| Row {
@@ -407,7 +407,7 @@ fn creeping() -> Vec<Row> {
         beta: 200_000_000_000,
         hold: 0,
     };
-    let (short, never) = ([43, 7, 3, 2], 1);
+    let (short, never) = ([1_844, 43, 7, 3, 2], 1);
     let long = std::iter::repeat_n(1_000_000, MOST_TASKS - short.len() - never);
     let mut rows = long.chain(short).map(loose).collect::<Vec<_>>();
     rows.push(Row { beta: 0, ..rows[0] });

@@ -9,7 +9,7 @@ use crate::model::{Answer, Refusal, Row, MOST_PIECES, MOST_TASKS};
 
 /// The bytes of a plan's three first lines at the most, and of a rank's.
 const HEAD_ROOM: usize = 28;
-const RANK_ROOM: usize = 82;
+const RANK_ROOM: usize = 79;
 /// Room for any plan.
 const PLAN_ROOM: usize = HEAD_ROOM + MOST_TASKS * RANK_ROOM;
 const UNKNOWN: u8 = 255;

@@ -21,7 +21,7 @@ use Rattle.orders.specs.Orders.{overSet}
 use Rattle.plans.specs.Plans.{rankText, headText, planText, refusalText}
 use Rattle.plans.specs.Outcomes.{fitted, ifInTime}
 use Rattle.demands.specs.Calls.{onTable, ifOrdered}
-use Rattle.demands.specs.Cases.{HasFigures, AllSo, row11, row12, row13, starred, unstarred, ofHolds}
+use Rattle.demands.specs.Cases.{HasFigures, AllSo, row11, row12, row13, starred, unstarred, ofTasks, ofHolds}
 
 -- the rows below count by their blocking time, which is that of none
 none-blocks : (below : List Row) → NoneHolds below → blocking below ≡ blocking []
@@ -70,6 +70,10 @@ pub unstarred-so : AllSo unstarred
 unfolding digits decimal signed keyLine numberOf lineAt formAt readFor readTable
     cost blocking smallest largest overSet rankText headText planText refusalText fitted ifInTime onTable ifOrdered
 unstarred-so = (refl, (refl, (refl, (refl, (refl, (refl, (refl, tt)))))))
+
+pub tasks-so : AllSo ofTasks
+unfolding digits decimal keyLine numberOf lineAt formAt readFor readTable refusalText onTable
+tasks-so = (refl, tt)
 
 pub holds-so : AllSo ofHolds
 unfolding digits decimal signed keyLine numberOf lineAt formAt readFor readTable

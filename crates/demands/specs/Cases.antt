@@ -138,6 +138,10 @@ unstarred =
     ∷ []))
     ∷ []
 
+-- ---- sixteen tasks are not too many: it is their first line that is missing
+abbrev pub ofTasks : List Case
+ofTasks = planner (lined ("board=7" ∷ "tasks=16" ∷ [])) (lined ("plan=0" ∷ "refusal=1" ∷ "line=3" ∷ [])) ∷ []
+
 -- ---- holds
 -- the paper's task 13 with a hold
 abbrev pub holding13 : ℕ → Row

@@ -3,7 +3,7 @@
 use mathlib.Core.Path.{_≡_}
 use mathlib.Core.Bool.{true, false}
 use mathlib.Core.List.{List, [], _∷_, _++_}
-use Prim.Native.Nat.{ℕ, zero, suc, _/_, _^_, _≤_, _<_}
+use Prim.Native.Nat.{ℕ, zero, suc, _+_, _-_, _*_, _/_, _^_, _≤_, _<_}
 use Prim.Native.String.{String}
 use lib.ListN.{length}
 use Rattle.text.specs.Text.{bytes, lined, decimal, keyLine}
@@ -13,7 +13,7 @@ use Rattle.boards.specs.Claims.{NoneLate}
 use Rattle.boards.specs.Witnesses.{exampleOrder}
 use Rattle.responses.specs.Figures.{isLate, inLimits}
 use Rattle.plans.specs.Entries.{entry, entries}
-use Rattle.plans.specs.Plans.{rankText, headText, planText, headRoom, rankRoom}
+use Rattle.plans.specs.Plans.{rankText, headText, planText, headRoom, rankRoom, planRoom}
 use Rattle.plans.specs.Outcomes.{writes, refuses}
 use Rattle.demands.specs.Cases.{row11, row12, row13, table}
 use Rattle.tables.specs.TableLines.{maxBoard}
@@ -93,7 +93,11 @@ pub record Met : Type 0 where
   -- as many tasks as a table can have; a byte for each set of them is no longer than a buffer may be
   pub tells-most : Tells false mostText 7 (tenths maxTasks) []
   pub record-short : 2 ^ maxTasks ≤ maxBuffer
+  -- a row's figures are asked for beside one row fewer, and beside no more
+  pub beside-most : inLimits (tenth maxTask) (tenths (maxTasks - 1)) [] ≡ true
+  pub beside-more : inLimits (tenth maxTask) (tenths maxTasks) [] ≡ false
   -- the room of a plan's parts is no more than it must be: lines before the ranks, and those of a rank, that fill it
+  pub room-is : planRoom ≡ headRoom + maxTasks * rankRoom
   pub head-filled : length (headText maxBoard maxTasks) ≡ headRoom
   pub rank-in-limits : inLimits (tenth maxTask) (tenths 9) [] ≡ true
   pub rank-timely : isLate (tenth maxTask) (tenths 9) [] ≡ false

@@ -31,10 +31,10 @@ const RANK_ROOM: usize = 79;
 // Room for every plan.
 pub const ROOM: usize = HEAD_ROOM + MAX_TASKS * RANK_ROOM;
 
-// An order of few tasks has a room of its own, which is sooner filled.
-const FEW_TASKS: usize = 8;
+// A small order has a room of its own, which is sooner filled.
+const SMALL_ORDER: usize = 8;
 
-const FEW_ROOM: usize = HEAD_ROOM + FEW_TASKS * RANK_ROOM;
+const SMALL_ROOM: usize = HEAD_ROOM + SMALL_ORDER * RANK_ROOM;
 
 pub fn buffer() -> [u8; ROOM]
     ensures { λ r. ⌜ r ≡ replicate planRoom 0 ⌝ }
@@ -154,10 +154,10 @@ pub fn plan_order(out: &mut [u8], board: u16, rows: &[u64], positions: &[usize],
     ensures { λ r. ⌜ Written (ifInTime (length (now (out .entry))) board
         (rowsIn (now (rows .entry)) (take n (now (positions .entry))))) (now (out .entry)) (now (out .exit)) r ⌝ }
 {
-    if n <= FEW_TASKS {
-        let mut few = [0; FEW_ROOM];
-        let mut columns = [0u64; 3 * FEW_TASKS];
-        return plan_in(out, &mut few, &mut columns, board, rows, positions, n);
+    if n <= SMALL_ORDER {
+        let mut small = [0; SMALL_ROOM];
+        let mut columns = [0u64; 3 * SMALL_ORDER];
+        return plan_in(out, &mut small, &mut columns, board, rows, positions, n);
     }
     let mut text = [0; ROOM];
     let mut columns = [0u64; 3 * MAX_TASKS];

@@ -28,7 +28,8 @@ unfolding signed
 margin-length (pos v) h = omega (arith, decimal-short v 11 (omega arith))
 margin-length (negsuc v) h = omega (arith, decimal-short (suc v) 10 (omega arith))
 
--- W has seven digits only at the limit of ticks; then E has six and so has the jitter, or E is W and there is no jitter
+-- W has seven digits only at the limit of ticks; then E has at most six and so has the jitter, or E is W and there is no
+-- jitter
 times-length : (e j w : ℕ) → minTicks ≤ e → e + j ≡ w → w ≤ maxTicks
     → length (decimal e) + length (decimal w) + length (decimal j) ≤ 19
 times-length e j w some is most = elim (le-or-lt maxTicks e) [

@@ -11,6 +11,7 @@ use borrow.Author.Tests.{eq-eqb, ne-eqb}
 use lib.Dec.{eqb}
 use lib.ListN.{getD, set, length, length-set, replicate, length-replicate, getD-replicate}
 use lib.Seq.{getD-set-same, getD-set-other}
+use Rattle.rows.specs.Rows.{maxBuffer}
 use Rattle.rows.specs.declared.Row.{Row}
 use Rattle.orders.specs.Orders.{theOrder}
 use Rattle.search.specs.inside.Sets as S
@@ -18,9 +19,10 @@ use Rattle.search.specs.inside.Sets.{hasBit, isSome, unknown, noOrder}
 use Rattle.search.proofs.Scan.{at-empty}
 
 -- every byte says that its set isn't known
-pub fresh : (n k : ℕ) → 2 ^ n ≤ k → S.Fresh n (replicate k unknown)
-fresh n k h = record {
+pub fresh : (n k : ℕ) → 2 ^ n ≤ k → k ≤ maxBuffer → S.Fresh n (replicate k unknown)
+fresh n k h s = record {
   room = rw (length-replicate {A = ℕ} k unknown) h;
+  short = rw (length-replicate {A = ℕ} k unknown) s;
   none-known = λ m l. getD-replicate {A = ℕ} k m unknown 0 (omega arith);
 }
 

@@ -32,13 +32,13 @@ order-with-requires : tie.Need-order-with-requires
 order-with-requires c κs =
     let s = c .before .before .before .before in
     let few = c .before .before .if1 .taken in
-    (s .pre, fresh (s .args .n) (2 ^ fewTasks) (pow-mono few), omega (arith, few))
+    (s .pre, fresh (s .args .n) (2 ^ fewTasks) (pow-mono few) (omega arith), omega (arith, few))
 
 returns : tie.Need-returns
 returns c = search needs
 
 slice-aggregate-order-with-3 : tie.Need-slice-aggregate-order-with-3
-slice-aggregate-order-with-3 c = sym (length-replicate {A = ℕ} (2 ^ someTasks) unknown)
+slice-aggregate-order-with-3 c = sym (length-replicate {A = ℕ} _ unknown)
 
 slice-aggregate-order-with-4 : tie.Need-slice-aggregate-order-with-4
 slice-aggregate-order-with-4 c = search needs
@@ -47,7 +47,7 @@ order-with-requires-2 : tie.Need-order-with-requires-2
 order-with-requires-2 c κs =
     let s = c .before .before .before .before .before in
     let few = c .before .before .if2 .taken in
-    (s .pre, fresh (s .args .n) (2 ^ someTasks) (pow-mono few), omega (arith, few))
+    (s .pre, fresh (s .args .n) (2 ^ someTasks) (pow-mono few) (omega arith), omega (arith, few))
 
 returns-2 : tie.Need-returns-2
 returns-2 c = search needs

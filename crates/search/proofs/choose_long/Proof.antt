@@ -19,7 +19,7 @@ abbrev manyTasks : ℕ
 manyTasks = 14
 
 slice-aggregate-order-with : tie.Need-slice-aggregate-order-with
-slice-aggregate-order-with c = sym (length-replicate {A = ℕ} (2 ^ moreTasks) unknown)
+slice-aggregate-order-with c = sym (length-replicate {A = ℕ} _ unknown)
 
 slice-aggregate-order-with-2 : tie.Need-slice-aggregate-order-with-2
 slice-aggregate-order-with-2 c = search needs
@@ -28,13 +28,13 @@ order-with-requires : tie.Need-order-with-requires
 order-with-requires c κs =
     let s = c .before .before .before .before in
     let few = c .before .before .if1 .taken in
-    (s .pre, fresh (s .args .n) (2 ^ moreTasks) (pow-mono few), omega (arith, few))
+    (s .pre, fresh (s .args .n) (2 ^ moreTasks) (pow-mono few) (omega arith), omega (arith, few))
 
 returns : tie.Need-returns
 returns c = search needs
 
 slice-aggregate-order-with-3 : tie.Need-slice-aggregate-order-with-3
-slice-aggregate-order-with-3 c = sym (length-replicate {A = ℕ} (2 ^ manyTasks) unknown)
+slice-aggregate-order-with-3 c = sym (length-replicate {A = ℕ} _ unknown)
 
 slice-aggregate-order-with-4 : tie.Need-slice-aggregate-order-with-4
 slice-aggregate-order-with-4 c = search needs
@@ -43,13 +43,13 @@ order-with-requires-2 : tie.Need-order-with-requires-2
 order-with-requires-2 c κs =
     let s = c .before .before .before .before .before in
     let few = c .before .before .if2 .taken in
-    (s .pre, fresh (s .args .n) (2 ^ manyTasks) (pow-mono few), omega (arith, few))
+    (s .pre, fresh (s .args .n) (2 ^ manyTasks) (pow-mono few) (omega arith), omega (arith, few))
 
 returns-2 : tie.Need-returns-2
 returns-2 c = search needs
 
 slice-aggregate-order-with-5 : tie.Need-slice-aggregate-order-with-5
-slice-aggregate-order-with-5 c = sym (length-replicate {A = ℕ} (2 ^ maxTasks) unknown)
+slice-aggregate-order-with-5 c = sym (length-replicate {A = ℕ} _ unknown)
 
 slice-aggregate-order-with-6 : tie.Need-slice-aggregate-order-with-6
 slice-aggregate-order-with-6 c = search needs
@@ -57,7 +57,7 @@ slice-aggregate-order-with-6 c = search needs
 order-with-requires-3 : tie.Need-order-with-requires-3
 order-with-requires-3 c κs =
     let s = c .before .before .before .before .before in
-    (s .pre, fresh (s .args .n) (2 ^ maxTasks) (pow-mono (s .pre .few)), omega (arith, s .pre .few))
+    (s .pre, fresh (s .args .n) (2 ^ maxTasks) (pow-mono (s .pre .few)) (omega arith), omega (arith, s .pre .few))
 
 returns-3 : tie.Need-returns-3
 returns-3 c = search needs

@@ -8,7 +8,7 @@ use mathlib.Core.Logic.{_⊎_}
 use Prim.Native.Nat.{ℕ, _-_, _/_, _%_, _^_, _≤_, _<_}
 use lib.Dec.{eqb}
 use lib.ListN.{length, getD}
-use Rattle.rows.specs.Rows.{rowAt}
+use Rattle.rows.specs.Rows.{maxBuffer, rowAt}
 use Rattle.rows.specs.declared.Row.{Row}
 use Rattle.orders.specs.Orders.{ByLowest, overSet, theOrder}
 
@@ -42,9 +42,10 @@ unknown = 254
 abbrev pub noOrder : ℕ
 noOrder = 255
 
--- a record with room for the sets of n rows that has none of them yet
+-- a record with room for the sets of n rows, and no longer than a buffer may be, that has none of them yet
 pub record Fresh (n : ℕ) (sets : List ℕ) : Type 0 where
   pub room : 2 ^ n ≤ length sets
+  pub short : length sets ≤ maxBuffer
   pub none-known : (m : ℕ) → m < 2 ^ n → getD sets m 0 ≡ unknown
 
 module _ {A : Type 0} (known : ByLowest A) (test : Row → List Row → List Row → Bool) (table : List Row) where
