@@ -1,5 +1,6 @@
 -- Nothing is demanded in vain: texts and orders that meet each condition that the demands name (boards/specs/Witnesses
--- has the runs). And outcomes that weaker demands would admit, each excluded.
+-- has the runs), both sides of the most tasks, and lines that fill the room of a plan. And outcomes that weaker demands
+-- would admit, each excluded.
 use mathlib.Core.Path.{_≡_}
 use mathlib.Core.Bool.{true, false}
 use mathlib.Core.List.{List, [], _∷_, _++_}

@@ -10,6 +10,7 @@ use native.Mathlib.Omega.{arith}
 use borrow.Author.Tests.{eq-eqb, ne-eqb}
 use lib.Dec.{eqb}
 use lib.ListN.{getD, set, length, length-set, replicate, length-replicate, getD-replicate}
+use lib.Pow.{pow-mono}
 use lib.Seq.{getD-set-same, getD-set-other}
 use Rattle.rows.specs.Rows.{maxBuffer}
 use Rattle.rows.specs.declared.Row.{Row}
@@ -18,13 +19,15 @@ use Rattle.search.specs.inside.Sets as S
 use Rattle.search.specs.inside.Sets.{hasBit, isSome, unknown, noOrder}
 use Rattle.search.proofs.Scan.{at-empty}
 
--- every byte says that its set isn't known
-pub fresh : (n k : ℕ) → 2 ^ n ≤ k → k ≤ maxBuffer → S.Fresh n (replicate k unknown)
-fresh n k h s = record {
-  room = rw (length-replicate {A = ℕ} k unknown) h;
-  short = rw (length-replicate {A = ℕ} k unknown) s;
-  none-known = λ m l. getD-replicate {A = ℕ} k m unknown 0 (omega arith);
-}
+-- a record of the sets of k rows in which every byte says that its set isn't known, for no more than k rows
+pub fresh : {n k : ℕ} → n ≤ k → 2 ^ k ≤ maxBuffer → S.Fresh n (replicate (2 ^ k) unknown)
+fresh {n} {k} few short =
+    let fits : 2 ^ n ≤ 2 ^ k = pow-mono few in
+    record {
+      room = rw (length-replicate {A = ℕ} (2 ^ k) unknown) fits;
+      short = rw (length-replicate {A = ℕ} (2 ^ k) unknown) short;
+      none-known = λ m l. getD-replicate {A = ℕ} (2 ^ k) m unknown 0 (omega (arith, fits));
+    }
 
 module _ (test : Row → List Row → List Row → Bool) (table : List Row) where
   abbrev orderAt : ℕ → Option (List Row)

@@ -1,10 +1,9 @@
 -- `choose` meets its contract: the record of sets, by the number of rows, has room for their sets, and has none of them
 -- yet; or a longer one is asked for.
 use mathlib.Core.Path.{_≡_, sym, subst}
-use Prim.Native.Nat.{ℕ, _^_}
+use Prim.Native.Nat.{ℕ}
 use native.Mathlib.Omega.{arith}
 use lib.ListN.{length-replicate}
-use lib.Pow.{pow-mono}
 use borrow.Author.Needs.{needs}
 use denote.Ref.{now}
 use Rattle.rows.specs.Rows.{maxTasks}
@@ -14,13 +13,6 @@ use Rattle.search.specs.inside.Search.{Lent, Chooses}
 use Rattle.search.proofs.Record.{fresh}
 use Rattle.search.proofs.choose.Statement.{statement}
 use Rattle.search.proofs.choose.Tie as tie
-
--- the rows that the records have room for
-abbrev fewTasks : ℕ
-fewTasks = 6
-
-abbrev someTasks : ℕ
-someTasks = 9
 
 slice-aggregate-order-with : tie.Need-slice-aggregate-order-with
 slice-aggregate-order-with c = search needs
@@ -32,7 +24,7 @@ order-with-requires : tie.Need-order-with-requires
 order-with-requires c κs =
     let s = c .before .before .before .before in
     let few = c .before .before .if1 .taken in
-    (s .pre, fresh (s .args .n) (2 ^ fewTasks) (pow-mono few) (omega arith), omega (arith, few))
+    (s .pre, fresh few (omega arith), omega (arith, few))
 
 returns : tie.Need-returns
 returns c = search needs
@@ -47,7 +39,7 @@ order-with-requires-2 : tie.Need-order-with-requires-2
 order-with-requires-2 c κs =
     let s = c .before .before .before .before .before in
     let few = c .before .before .if2 .taken in
-    (s .pre, fresh (s .args .n) (2 ^ someTasks) (pow-mono few) (omega arith), omega (arith, few))
+    (s .pre, fresh few (omega arith), omega (arith, few))
 
 returns-2 : tie.Need-returns-2
 returns-2 c = search needs

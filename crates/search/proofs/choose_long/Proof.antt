@@ -1,22 +1,13 @@
 -- `choose_long` meets its contract: each record has room for the sets of its number of rows, and has none of them yet.
 use mathlib.Core.Path.{sym}
-use Prim.Native.Nat.{ℕ, _^_}
+use Prim.Native.Nat.{ℕ}
 use native.Mathlib.Omega.{arith}
 use lib.ListN.{length-replicate}
-use lib.Pow.{pow-mono}
 use borrow.Author.Needs.{needs}
-use Rattle.rows.specs.Rows.{maxTasks}
 use Rattle.search.specs.inside.Sets.{unknown}
 use Rattle.search.proofs.Record.{fresh}
 use Rattle.search.proofs.choose_long.Statement.{statement}
 use Rattle.search.proofs.choose_long.Tie as tie
-
--- the rows that the shorter ones have room for
-abbrev moreTasks : ℕ
-moreTasks = 12
-
-abbrev manyTasks : ℕ
-manyTasks = 14
 
 slice-aggregate-order-with : tie.Need-slice-aggregate-order-with
 slice-aggregate-order-with c = sym (length-replicate {A = ℕ} _ unknown)
@@ -28,7 +19,7 @@ order-with-requires : tie.Need-order-with-requires
 order-with-requires c κs =
     let s = c .before .before .before .before in
     let few = c .before .before .if1 .taken in
-    (s .pre, fresh (s .args .n) (2 ^ moreTasks) (pow-mono few) (omega arith), omega (arith, few))
+    (s .pre, fresh few (omega arith), omega (arith, few))
 
 returns : tie.Need-returns
 returns c = search needs
@@ -43,7 +34,7 @@ order-with-requires-2 : tie.Need-order-with-requires-2
 order-with-requires-2 c κs =
     let s = c .before .before .before .before .before in
     let few = c .before .before .if2 .taken in
-    (s .pre, fresh (s .args .n) (2 ^ manyTasks) (pow-mono few) (omega arith), omega (arith, few))
+    (s .pre, fresh few (omega arith), omega (arith, few))
 
 returns-2 : tie.Need-returns-2
 returns-2 c = search needs
@@ -57,7 +48,7 @@ slice-aggregate-order-with-6 c = search needs
 order-with-requires-3 : tie.Need-order-with-requires-3
 order-with-requires-3 c κs =
     let s = c .before .before .before .before .before in
-    (s .pre, fresh (s .args .n) (2 ^ maxTasks) (pow-mono (s .pre .few)) (omega arith), omega (arith, s .pre .few))
+    (s .pre, fresh (s .pre .few) (omega arith), omega (arith, s .pre .few))
 
 returns-3 : tie.Need-returns-3
 returns-3 c = search needs
