@@ -11,7 +11,7 @@ use Rattle.basics.specs.Basics.{within}
 use Rattle.basics.proofs.Tests.{and-left, and-right, and-both, Within, within-true}
 use Rattle.rows.specs.declared.Row.{Row}
 use Rattle.rows.specs.Rows.{minTask, maxTask, minTicks, maxTicks, minAlpha, maxAlpha, minBeta, maxBeta}
-use Rattle.rows.specs.Rows.{minHold, maxHold}
+use Rattle.rows.specs.Rows.{minHold, maxHold, minSwitch, maxSwitch}
 use Rattle.rows.specs.Rows.{cost, inRange, timesInRange, allRows, noRow}
 
 -- ---- every limit
@@ -23,12 +23,13 @@ pub record Limits (r : Row) : Type 0 where
   pub alpha : Within minAlpha maxAlpha (r .alpha)
   pub beta : Within minBeta maxBeta (r .beta)
   pub hold : Within minHold maxHold (r .hold)
-  pub worst-period : r .worst ≤ r .period
+  pub switch : Within minSwitch maxSwitch (r .switch)
+  pub cost-period : cost r ≤ r .period
   pub best-worst : r .best ≤ r .worst
   pub hold-worst : r .hold ≤ r .worst
 
 pub limits : (r : Row) → inRange r ≡ true → Limits r
-limits r h₁₀ =
+limits r h₁₁ =
     let t₁ = within minTask maxTask (r .task) in
     let t₂ = within minTicks maxTicks (r .period) in
     let t₃ = within minTicks maxTicks (r .worst) in
@@ -36,9 +37,11 @@ limits r h₁₀ =
     let t₅ = within minAlpha maxAlpha (r .alpha) in
     let t₆ = within minBeta maxBeta (r .beta) in
     let t₇ = within minHold maxHold (r .hold) in
-    let t₈ = leb (r .worst) (r .period) in
-    let t₉ = leb (r .best) (r .worst) in
-    let t₁₀ = leb (r .hold) (r .worst) in
+    let t₈ = within minSwitch maxSwitch (r .switch) in
+    let t₉ = leb (cost r) (r .period) in
+    let t₁₀ = leb (r .best) (r .worst) in
+    let t₁₁ = leb (r .hold) (r .worst) in
+    let h₁₀ = and-left (t₁ && t₂ && t₃ && t₄ && t₅ && t₆ && t₇ && t₈ && t₉ && t₁₀) t₁₁ h₁₁ in
     let h₉ = and-left (t₁ && t₂ && t₃ && t₄ && t₅ && t₆ && t₇ && t₈ && t₉) t₁₀ h₁₀ in
     let h₈ = and-left (t₁ && t₂ && t₃ && t₄ && t₅ && t₆ && t₇ && t₈) t₉ h₉ in
     let h₇ = and-left (t₁ && t₂ && t₃ && t₄ && t₅ && t₆ && t₇) t₈ h₈ in
@@ -55,10 +58,12 @@ limits r h₁₀ =
       alpha = within-true minAlpha maxAlpha (r .alpha) (and-right (t₁ && t₂ && t₃ && t₄) t₅ h₅);
       beta = within-true minBeta maxBeta (r .beta) (and-right (t₁ && t₂ && t₃ && t₄ && t₅) t₆ h₆);
       hold = within-true minHold maxHold (r .hold) (and-right (t₁ && t₂ && t₃ && t₄ && t₅ && t₆) t₇ h₇);
-      worst-period = leb-true (r .worst) (r .period) (and-right (t₁ && t₂ && t₃ && t₄ && t₅ && t₆ && t₇) t₈ h₈);
-      best-worst = leb-true (r .best) (r .worst) (and-right (t₁ && t₂ && t₃ && t₄ && t₅ && t₆ && t₇ && t₈) t₉ h₉);
+      switch = within-true minSwitch maxSwitch (r .switch) (and-right (t₁ && t₂ && t₃ && t₄ && t₅ && t₆ && t₇) t₈ h₈);
+      cost-period = leb-true (cost r) (r .period) (and-right (t₁ && t₂ && t₃ && t₄ && t₅ && t₆ && t₇ && t₈) t₉ h₉);
+      best-worst =
+          leb-true (r .best) (r .worst) (and-right (t₁ && t₂ && t₃ && t₄ && t₅ && t₆ && t₇ && t₈ && t₉) t₁₀ h₁₀);
       hold-worst =
-          leb-true (r .hold) (r .worst) (and-right (t₁ && t₂ && t₃ && t₄ && t₅ && t₆ && t₇ && t₈ && t₉) t₁₀ h₁₀);
+          leb-true (r .hold) (r .worst) (and-right (t₁ && t₂ && t₃ && t₄ && t₅ && t₆ && t₇ && t₈ && t₉ && t₁₀) t₁₁ h₁₁);
     }
 
 pub in-range : (r : Row) → Limits r → inRange r ≡ true
@@ -78,7 +83,9 @@ in-range r h =
       le-leb _ _ (h .beta .le-high),
       le-leb _ _ (h .hold .low-le),
       le-leb _ _ (h .hold .le-high),
-      le-leb _ _ (h .worst-period),
+      le-leb _ _ (h .switch .low-le),
+      le-leb _ _ (h .switch .le-high),
+      le-leb _ _ (h .cost-period),
       le-leb _ _ (h .best-worst),
       le-leb _ _ (h .hold-worst),
     )
@@ -91,28 +98,32 @@ pub record Times (r : Row) : Type 0 where
   pub period-max : r .period ≤ maxTicks
 
 pub times : (r : Row) → timesInRange r ≡ true → Times r
-unfolding cost
 times r h₄ =
     let t₁ = leb minTicks (r .best) in
-    let t₂ = leb (r .best) (r .worst) in
-    let t₃ = leb (r .worst) (r .period) in
+    let t₂ = leb (r .best) (cost r) in
+    let t₃ = leb (cost r) (r .period) in
     let t₄ = leb (r .period) maxTicks in
     let h₃ = and-left (t₁ && t₂ && t₃) t₄ h₄ in
     let h₂ = and-left (t₁ && t₂) t₃ h₃ in
     record {
       best-some = leb-true minTicks (r .best) (and-left t₁ t₂ h₂);
-      best-cost = leb-true (r .best) (r .worst) (and-right t₁ t₂ h₂);
-      cost-period = leb-true (r .worst) (r .period) (and-right (t₁ && t₂) t₃ h₃);
+      best-cost = leb-true (r .best) (cost r) (and-right t₁ t₂ h₂);
+      cost-period = leb-true (cost r) (r .period) (and-right (t₁ && t₂) t₃ h₃);
       period-max = leb-true (r .period) maxTicks (and-right (t₁ && t₂ && t₃) t₄ h₄);
     }
+
+-- the worst time is part of the cost
+pub worst-cost : (r : Row) → r .worst ≤ cost r
+unfolding cost
+worst-cost r = omega arith
 
 pub in-range-times : (r : Row) → inRange r ≡ true → timesInRange r ≡ true
 in-range-times r e =
     let h = limits r e in
     simp (
       le-leb _ _ (h .best .low-le),
-      le-leb _ _ (h .best-worst),
-      le-leb _ _ (h .worst-period),
+      le-leb (r .best) (cost r) (omega (arith, h .best-worst, worst-cost r)),
+      le-leb _ _ (h .cost-period),
       le-leb _ _ (h .period .le-high),
     )
 

@@ -44,7 +44,7 @@ written-there ns at d (v ∷ vs) (suc k) fits l =
 
 -- ---- a row put
 abbrev numbersOf : Row → List ℕ
-numbersOf r = r .task ∷ r .period ∷ r .worst ∷ r .best ∷ r .alpha ∷ r .beta ∷ r .hold ∷ []
+numbersOf r = r .task ∷ r .period ∷ r .worst ∷ r .best ∷ r .alpha ∷ r .beta ∷ r .hold ∷ r .switch ∷ []
 
 pub row-put : (ns : List ℕ) (i : ℕ) (r : Row) → RowPut ns i r (written ns (fieldCount * i) 0 (numbersOf r))
 row-put ns i r =

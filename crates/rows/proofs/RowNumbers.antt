@@ -12,8 +12,8 @@ use lib.ListN.{length, getD, take, drop, length-take, length-drop}
 use lib.ListN.{drop-of-length-le, List·getD-append}
 use lib.Seq.{drop-drop, drop-append-le, length-take-le, take-suc, getD-take, getD-drop, ext-getD}
 use Rattle.rows.specs.declared.Row.{Row}
-use Rattle.rows.specs.Rows.{taskAt, periodAt, worstAt, bestAt, alphaAt, betaAt, holdAt, fieldCount, rowOf}
-use Rattle.rows.specs.Rows.{row, noRow, rowAt, inRange, allRows, tasksOf, hasTask, positionOf}
+use Rattle.rows.specs.Rows.{taskAt, periodAt, worstAt, bestAt, alphaAt, betaAt, holdAt, switchAt, fieldCount}
+use Rattle.rows.specs.Rows.{rowOf, row, noRow, rowAt, inRange, allRows, tasksOf, hasTask, positionOf}
 use Rattle.rows.specs.inside.Numbers.{rowsOf, rowIn, rowsIn, rowsAt, Below, between}
 use Rattle.rows.proofs.Limits.{at-passes}
 
@@ -28,12 +28,13 @@ row-same xs ys h =
       h alphaAt (omega arith),
       h betaAt (omega arith),
       h holdAt (omega arith),
+      h switchAt (omega arith),
     )
 
 -- the row whose numbers begin at an index
 pub row-from : (ns : List ℕ) (at : ℕ) → rowOf (drop at ns)
     ≡ row (getD ns (at + taskAt) 0) (getD ns (at + periodAt) 0) (getD ns (at + worstAt) 0) (getD ns (at + bestAt) 0)
-    (getD ns (at + alphaAt) 0) (getD ns (at + betaAt) 0) (getD ns (at + holdAt) 0)
+    (getD ns (at + alphaAt) 0) (getD ns (at + betaAt) 0) (getD ns (at + holdAt) 0) (getD ns (at + switchAt) 0)
 row-from ns at =
     rw (
       getD-drop at ns taskAt 0,
@@ -43,6 +44,7 @@ row-from ns at =
       getD-drop at ns alphaAt 0,
       getD-drop at ns betaAt 0,
       getD-drop at ns holdAt 0,
+      getD-drop at ns switchAt 0,
     )
 
 -- ---- rows from their first number on

@@ -1,7 +1,7 @@
 -- A task's row: the limits of its numbers, each once and by name, and rows in range.
 use mathlib.Core.Bool.{Bool, true, false, _&&_}
 use mathlib.Core.List.{List, [], _∷_}
-use Prim.Native.Nat.{ℕ, suc}
+use Prim.Native.Nat.{ℕ, suc, _+_}
 use lib.Dec.{eqb, leb}
 use lib.ListN.{length, getD}
 use Rattle.basics.specs.Basics.{within, isIn, distinct}
@@ -42,6 +42,13 @@ minHold = 0
 abbrev pub maxHold : ℕ
 maxHold = 1000000
 
+-- the ticks that a board spends when a job first gets the processor
+abbrev pub minSwitch : ℕ
+minSwitch = 0
+
+abbrev pub maxSwitch : ℕ
+maxSwitch = 1000
+
 -- the rows of a table; the code's MAX_TASKS is the same
 abbrev pub minTasks : ℕ
 minTasks = 1
@@ -53,12 +60,21 @@ maxTasks = 16
 abbrev pub maxBuffer : ℕ
 maxBuffer = 65536
 
--- a row of seven numbers; what stands past the rows that count
-abbrev pub row : ℕ → ℕ → ℕ → ℕ → ℕ → ℕ → ℕ → Row
-row t p w b a e h = record { task = t; period = p; worst = w; best = b; alpha = a; beta = e; hold = h }
+-- a row of eight numbers, those of its lines and the switch of its table; what stands past the rows that count
+abbrev pub row : ℕ → ℕ → ℕ → ℕ → ℕ → ℕ → ℕ → ℕ → Row
+row t p w b a e h s = record {
+  task = t;
+  period = p;
+  worst = w;
+  best = b;
+  alpha = a;
+  beta = e;
+  hold = h;
+  switch = s;
+}
 
 abbrev pub noRow : Row
-noRow = row 0 0 0 0 0 0 0
+noRow = row 0 0 0 0 0 0 0 0
 
 -- ---- a row as its numbers: where each stands among them
 abbrev pub taskAt : ℕ
@@ -82,25 +98,35 @@ betaAt = 5
 abbrev pub holdAt : ℕ
 holdAt = 6
 
+abbrev pub switchAt : ℕ
+switchAt = 7
+
 abbrev pub fieldCount : ℕ
-fieldCount = suc holdAt
+fieldCount = suc switchAt
 
 -- the row that its numbers make
 abbrev pub rowOf : List ℕ → Row
 rowOf vs =
     row (getD vs taskAt 0) (getD vs periodAt 0) (getD vs worstAt 0) (getD vs bestAt 0) (getD vs alphaAt 0)
-    (getD vs betaAt 0) (getD vs holdAt 0)
+    (getD vs betaAt 0) (getD vs holdAt 0) (getD vs switchAt 0)
+
+-- a row under another switch
+abbrev pub withSwitch : ℕ → Row → Row
+withSwitch s r = row (r .task) (r .period) (r .worst) (r .best) (r .alpha) (r .beta) (r .hold) s
 
 -- ---- some rows
 -- row i of a table
 abbrev pub rowAt : List Row → ℕ → Row
 rowAt table i = getD table i noRow
 
--- the most ticks that a job of a row takes (its worst-case execution time)
-unfoldable pub cost : Row → ℕ
-cost r = r .worst
+-- the most ticks that a job takes: its worst-case execution time, and the switch to it
+abbrev pub fullCost : ℕ → ℕ → ℕ
+fullCost switch worst = worst + switch
 
--- each number is within its limits, best ≤ worst ≤ period, and hold ≤ worst
+unfoldable pub cost : Row → ℕ
+cost r = fullCost (r .switch) (r .worst)
+
+-- each number is within its limits, cost ≤ period, best ≤ worst, and hold ≤ worst
 abbrev pub inRange : Row → Bool
 inRange r =
     within minTask maxTask (r .task)
@@ -110,16 +136,17 @@ inRange r =
     && within minAlpha maxAlpha (r .alpha)
     && within minBeta maxBeta (r .beta)
     && within minHold maxHold (r .hold)
-    && leb (r .worst) (r .period)
+    && within minSwitch maxSwitch (r .switch)
+    && leb (cost r) (r .period)
     && leb (r .best) (r .worst)
     && leb (r .hold) (r .worst)
 
--- the times alone: 1 ≤ best ≤ worst ≤ period, and the period within its limit
+-- the times alone: 1 ≤ best ≤ cost ≤ period, and the period within its limit
 abbrev pub timesInRange : Row → Bool
 timesInRange r =
     leb minTicks (r .best)
-    && leb (r .best) (r .worst)
-    && leb (r .worst) (r .period)
+    && leb (r .best) (cost r)
+    && leb (cost r) (r .period)
     && leb (r .period) maxTicks
 
 -- every row passes

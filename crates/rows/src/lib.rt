@@ -1,5 +1,6 @@
 ghost use mathlib.Core.Path.{_≡_};
-ghost use Rattle.rows.specs.Rows.{cost, inRange, row, noRow};
+ghost use lib.Dec.{leb};
+ghost use Rattle.rows.specs.Rows.{fullCost, cost, inRange, row, noRow};
 ghost use Rattle.rows.specs.inside.Constructor.{checked};
 use basics::within;
 pub use numbers::ALPHA;
@@ -9,6 +10,7 @@ pub use numbers::FIELDS;
 pub use numbers::HOLD;
 pub use numbers::NUMBERS;
 pub use numbers::PERIOD;
+pub use numbers::SWITCH;
 pub use numbers::TASK;
 pub use numbers::WORST;
 pub use numbers::cost_at;
@@ -28,7 +30,7 @@ mod numbers;
 pub const MAX_TASKS: usize = 16;
 
 // A task's row. Times are in ticks, alpha in thousandths, beta in thousandths of a tick. A job of it may keep the
-// processor for a stretch of at most `hold` ticks.
+// processor for a stretch of at most `hold` ticks, and its board spends `switch` ticks when it first gets it.
 pub struct Row {
     pub task: u32,
     pub period: u32,
@@ -37,6 +39,7 @@ pub struct Row {
     pub alpha: u32,
     pub beta: u64,
     pub hold: u32,
+    pub switch: u32,
 }
 
 // An order, highest rank first: at most MAX_TASKS task numbers and a count.
@@ -72,7 +75,21 @@ impl Row {
 
     pub const HOLD_MAX: u64 = 1_000_000;
 
-    // Whether seven numbers keep the limits of a row.
+    pub const SWITCH_MIN: u64 = 0;
+
+    pub const SWITCH_MAX: u64 = 1_000;
+
+    // Whether a job of so many ticks at most, with the switch to it, fits a period.
+    pub fn fits(worst: u64, switch: u64, period: u64) -> bool
+        ensures { λ r. ⌜ r ≡ leb (fullCost switch worst) period ⌝ }
+    {
+        if period < switch {
+            return false;
+        }
+        worst <= period - switch
+    }
+
+    // Whether eight numbers keep the limits of a row.
     fn keeps(
         task: u64,
         period: u64,
@@ -81,8 +98,9 @@ impl Row {
         alpha: u64,
         beta: u64,
         hold: u64,
+        switch: u64,
     ) -> bool
-        ensures { λ r. ⌜ r ≡ inRange (row task period worst best alpha beta hold) ⌝ }
+        ensures { λ r. ⌜ r ≡ inRange (row task period worst best alpha beta hold switch) ⌝ }
     {
         within(Row::TASK_MIN, Row::TASK_MAX, task)
             & within(Row::TICKS_MIN, Row::TICKS_MAX, period)
@@ -91,12 +109,13 @@ impl Row {
             & within(Row::ALPHA_MIN, Row::ALPHA_MAX, alpha)
             & within(Row::BETA_MIN, Row::BETA_MAX, beta)
             & within(Row::HOLD_MIN, Row::HOLD_MAX, hold)
-            & (worst <= period)
+            & within(Row::SWITCH_MIN, Row::SWITCH_MAX, switch)
+            & Row::fits(worst, switch, period)
             & (best <= worst)
             & (hold <= worst)
     }
 
-    // The row of seven numbers, if they keep its limits.
+    // The row of eight numbers, if they keep its limits.
     pub fn new(
         task: u64,
         period: u64,
@@ -105,10 +124,11 @@ impl Row {
         alpha: u64,
         beta: u64,
         hold: u64,
+        switch: u64,
     ) -> Checked
-        ensures { λ r. ⌜ r ≡ checked (row task period worst best alpha beta hold) ⌝ }
+        ensures { λ r. ⌜ r ≡ checked (row task period worst best alpha beta hold switch) ⌝ }
     {
-        if !Row::keeps(task, period, worst, best, alpha, beta, hold) {
+        if !Row::keeps(task, period, worst, best, alpha, beta, hold, switch) {
             return Checked {
                 in_range: false,
                 row: no_row(),
@@ -122,6 +142,7 @@ impl Row {
             alpha: alpha as u32,
             beta,
             hold: hold as u32,
+            switch: switch as u32,
         };
         Checked {
             in_range: true,
@@ -133,7 +154,7 @@ impl Row {
     pub fn cost(self) -> u64
         ensures { λ r. ⌜ r ≡ cost self ⌝ }
     {
-        self.worst as u64
+        self.worst as u64 + self.switch as u64
     }
 
     // Whether the row keeps its limits.
@@ -148,6 +169,7 @@ impl Row {
             self.alpha as u64,
             self.beta,
             self.hold as u64,
+            self.switch as u64,
         )
     }
 }
@@ -164,5 +186,6 @@ pub fn no_row() -> Row
         alpha: 0,
         beta: 0,
         hold: 0,
+        switch: 0,
     }
 }

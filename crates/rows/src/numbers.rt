@@ -5,7 +5,7 @@ ghost use mathlib.Core.List.{_++_};
 ghost use Prim.Native.Nat.{suc, _+_, _*_, _≤_};
 ghost use lib.ListN.{length, take, drop};
 ghost use Rattle.basics.specs.Basics.{isIn};
-ghost use Rattle.rows.specs.Rows.{maxTasks, fieldCount, cost, inRange, tasksOf, hasTask, positionOf};
+ghost use Rattle.rows.specs.Rows.{maxTicks, maxTasks, fieldCount, cost, inRange, tasksOf, hasTask, positionOf};
 ghost use Rattle.rows.specs.inside.Arrays.{ranking};
 ghost use Rattle.rows.specs.inside.Numbers.{rowIn, rowsOf, RowPut, RowsPut, positionsFor};
 ghost use Rattle.rows.specs.inside.Numbers.{between, TaskNumbers};
@@ -28,7 +28,9 @@ pub const BETA: usize = 5;
 
 pub const HOLD: usize = 6;
 
-pub const FIELDS: usize = HOLD + 1;
+pub const SWITCH: usize = 7;
+
+pub const FIELDS: usize = SWITCH + 1;
 
 // Room for the numbers of a table's rows.
 pub const NUMBERS: usize = FIELDS * MAX_TASKS;
@@ -47,6 +49,7 @@ pub fn row_at(numbers: &[u64], i: usize) -> Row
         alpha: numbers[at + ALPHA] as u32,
         beta: numbers[at + BETA],
         hold: numbers[at + HOLD] as u32,
+        switch: numbers[at + SWITCH] as u32,
     }
 }
 
@@ -64,16 +67,18 @@ pub fn in_range_at(numbers: &[u64], i: usize) -> bool
         numbers[at + ALPHA],
         numbers[at + BETA],
         numbers[at + HOLD],
+        numbers[at + SWITCH],
     );
     checked.in_range
 }
 
 // The most ticks that a job of row i takes.
 pub fn cost_at(numbers: &[u64], i: usize) -> u64
-    requires { ⌜ fieldCount * suc i ≤ length (now numbers) ⌝ }
+    requires { ⌜ (fieldCount * suc i ≤ length (now numbers)) × (cost (rowIn (now numbers) i) ≤ maxTicks) ⌝ }
     ensures { λ r. ⌜ r ≡ cost (rowIn (now (numbers .entry)) i) ⌝ }
 {
-    numbers[FIELDS * i + WORST]
+    let at = FIELDS * i;
+    numbers[at + WORST] + numbers[at + SWITCH]
 }
 
 // The most ticks for which a job of row i may keep the processor.
@@ -97,6 +102,7 @@ fn put_row(numbers: &mut [u64; NUMBERS], i: usize, row: Row)
         numbers[at + ALPHA] = row.alpha as u64;
         numbers[at + BETA] = row.beta;
         numbers[at + HOLD] = row.hold as u64;
+        numbers[at + SWITCH] = row.switch as u64;
     }
 }
 

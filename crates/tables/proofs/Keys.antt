@@ -6,7 +6,7 @@ use lib.ListN.{length}
 use Rattle.basics.specs.Basics.{isIn}
 use Rattle.text.specs.Text.{lineFeed}
 use Rattle.grammars.specs.Grammars.{Plain}
-use Rattle.tables.specs.TableLines.{rowLineAt, at-board, at-tasks, at-field, at-rank, at-end, table}
+use Rattle.tables.specs.TableLines.{rowLineAt, at-board, at-tasks, at-switch, at-field, at-rank, at-end, table}
 use Rattle.tables.proofs.RowLines.{at-each}
 
 key-plain : (i : ℕ) → isIn lineFeed (rowLineAt i .key) ≡ false
@@ -16,6 +16,7 @@ key-plain i =
 pub table-plain : (ranked : Bool) → Plain (table ranked)
 table-plain ranked at-board = refl
 table-plain ranked (at-tasks b) = refl
-table-plain ranked (at-field n b rs vs) = key-plain (length vs)
+table-plain ranked (at-switch n b) = refl
+table-plain ranked (at-field n b s rs vs) = key-plain (length vs)
 table-plain ranked (at-rank n b rs os) = refl
 table-plain ranked (at-end b rs os) = refl

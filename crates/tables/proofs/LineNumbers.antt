@@ -10,7 +10,7 @@ use Rattle.rows.specs.Rows.{fieldCount, rowOf}
 use Rattle.rows.specs.declared.Row.{Row}
 use Rattle.rows.specs.inside.Numbers.{rowsOf}
 use Rattle.rows.proofs.RowNumbers.{rows-snoc, rows-kept}
-use Rattle.tables.specs.inside.Numbers.{headCount, rowStart, boardIn, rowsIn}
+use Rattle.tables.specs.inside.Numbers.{headCount, rowStart, boardIn, switchIn, rowsIn}
 
 -- the row that begins behind n rows
 rows-next : (ws : List ℕ) (n : ℕ) → rowsIn (suc n) ws ≡ rowsIn n ws ++ (rowOf (drop (rowStart n) ws) ∷ [])
@@ -21,6 +21,9 @@ rows-next ws n =
 pub board-stays : (ws ys : List ℕ) → 1 ≤ length ws → boardIn (ws ++ ys) ≡ boardIn ws
 board-stays ws ys h = List·getD-append ws ys 0 0 h
 
+pub switch-stays : (ws ys : List ℕ) → headCount ≤ length ws → switchIn (ws ++ ys) ≡ switchIn ws
+switch-stays ws ys h = List·getD-append ws ys 0 2 h
+
 module _ (ws ys : List ℕ) (n : ℕ) (h : rowStart n ≤ length ws) where
   pub rows-stay : rowsIn n (ws ++ ys) ≡ rowsIn n ws
   rows-stay =
@@ -30,11 +33,11 @@ module _ (ws ys : List ℕ) (n : ℕ) (h : rowStart n ≤ length ws) where
   behind-grows : drop (rowStart n) (ws ++ ys) ≡ drop (rowStart n) ws ++ ys
   behind-grows = drop-append-le (rowStart n) ws ys h
 
-  -- whatever is made of the three
-  pub grows : {A : Type 0} (F : ℕ → List Row → List ℕ → A)
-      → F (boardIn (ws ++ ys)) (rowsIn n (ws ++ ys)) (drop (rowStart n) (ws ++ ys))
-      ≡ F (boardIn ws) (rowsIn n ws) (drop (rowStart n) ws ++ ys)
-  grows F = rw (board-stays ws ys (omega arith), rows-stay, behind-grows)
+  -- whatever is made of the four
+  pub grows : {A : Type 0} (F : ℕ → ℕ → List Row → List ℕ → A)
+      → F (boardIn (ws ++ ys)) (switchIn (ws ++ ys)) (rowsIn n (ws ++ ys)) (drop (rowStart n) (ws ++ ys))
+      ≡ F (boardIn ws) (switchIn ws) (rowsIn n ws) (drop (rowStart n) ws ++ ys)
+  grows F = rw (board-stays ws ys (omega arith), switch-stays ws ys (omega arith), rows-stay, behind-grows)
 
   -- the last number of a row makes one row more
   pub row-made : rowsIn (suc n) (ws ++ ys) ≡ rowsIn n ws ++ (rowOf (drop (rowStart n) ws ++ ys) ∷ [])

@@ -12,8 +12,8 @@ use Rattle.grammars.proofs.Steps.{no-line}
 use Rattle.grammars.proofs.Decision.{decides, refused-some}
 use Rattle.grammars.proofs.Invariants.{holds}
 use Rattle.rows.specs.declared.Row.{Row}
-use Rattle.tables.specs.TableLines.{Stage, at-board, at-tasks, at-field, at-rank, at-end, expected, table}
-use Rattle.tables.specs.TableLines.{TableRead, turnedDown, tableOf, onVerdict, readTable}
+use Rattle.tables.specs.TableLines.{Stage, at-board, at-tasks, at-switch, at-field, at-rank, at-end}
+use Rattle.tables.specs.TableLines.{expected, table, TableRead, turnedDown, tableOf, onVerdict, readTable}
 use Rattle.tables.specs.Claims.{Accepted, Tells, Fails, Read}
 use Rattle.tables.proofs.Keys.{table-plain}
 use Rattle.tables.proofs.Soundness.{Known, sound}
@@ -25,7 +25,8 @@ pub data Ending : Stage → Type 0 where
 pub ending : (s : Stage) → expected s ≡ the-end → Ending s
 ending at-board e = no-line e
 ending (at-tasks b) e = no-line e
-ending (at-field n b rs vs) e = no-line e
+ending (at-switch n b) e = no-line e
+ending (at-field n b s rs vs) e = no-line e
 ending (at-rank n b rs os) e = no-line e
 ending (at-end b rs os) e = at-last b rs os
 

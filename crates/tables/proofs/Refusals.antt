@@ -12,10 +12,10 @@ use Rattle.basics.proofs.Tests.{true-not-false}
 use Rattle.grammars.specs.Forms.{size}
 use Rattle.grammars.proofs.Decision.{refused-some, refused-small}
 use Rattle.grammars.proofs.Invariants.{holds}
-use Rattle.rows.specs.Rows.{periodAt, worstAt, hasTask}
+use Rattle.rows.specs.Rows.{periodAt, worstAt, fullCost, hasTask}
 use Rattle.rows.specs.declared.Row.{Row}
 use Rattle.tables.specs.TableLines.{exceeding, repeated, impossible, rowLineAt}
-use Rattle.tables.specs.TableLines.{Stage, at-board, at-tasks, at-field, at-rank, at-end, fault, table}
+use Rattle.tables.specs.TableLines.{Stage, at-board, at-tasks, at-switch, at-field, at-rank, at-end, fault, table}
 use Rattle.tables.specs.Claims.{Fails}
 use Rattle.tables.proofs.RowLines.{at-each}
 use Rattle.tables.proofs.Soundness.{Known, sound}
@@ -25,19 +25,19 @@ picked : (b : Bool) (m n high : ℕ) → m ≤ high → n ≤ high → pick b m 
 picked true m n high h l = h
 picked false m n high h l = l
 
-field-small : (i : ℕ) (rs : List Row) (vs : List ℕ) (v : ℕ) → rowLineAt i .fault rs vs v ≤ 5
+field-small : (i s : ℕ) (rs : List Row) (vs : List ℕ) (v : ℕ) → rowLineAt i .fault s rs vs v ≤ 5
 field-small =
     let small : (b : Bool) (n : ℕ) → n ≤ 5 → pick b n 0 ≤ 5 = λ b n h. picked b n 0 5 h (omega arith) in
-    let none : (rs : List Row) (vs : List ℕ) (v : ℕ) → 0 ≤ 5 = λ rs vs v. omega arith in
-    at-each (λ l. (rs : List Row) (vs : List ℕ) (v : ℕ) → l .fault rs vs v ≤ 5) none (
-      λ rs vs v. small (hasTask v rs) repeated (omega arith),
+    let none : (s : ℕ) (rs : List Row) (vs : List ℕ) (v : ℕ) → 0 ≤ 5 = λ s rs vs v. omega arith in
+    at-each (λ l. (s : ℕ) (rs : List Row) (vs : List ℕ) (v : ℕ) → l .fault s rs vs v ≤ 5) none (
+      λ s rs vs v. small (hasTask v rs) repeated (omega arith),
       (
         none,
         (
-          λ rs vs v. small (ltb (getD vs periodAt 0) v) exceeding (omega arith),
+          λ s rs vs v. small (ltb (getD vs periodAt 0) (fullCost s v)) exceeding (omega arith),
           (
-            λ rs vs v. small (ltb (getD vs worstAt 0) v) exceeding (omega arith),
-            (none, (none, (λ rs vs v. small (ltb (getD vs worstAt 0) v) exceeding (omega arith), tt))),
+            λ s rs vs v. small (ltb (getD vs worstAt 0) v) exceeding (omega arith),
+            (none, (none, (λ s rs vs v. small (ltb (getD vs worstAt 0) v) exceeding (omega arith), tt))),
           ),
         ),
       ),
@@ -46,14 +46,16 @@ field-small =
 fault-small : (s : Stage) (v : ℕ) → fault s v ≤ 6
 fault-small at-board v = omega arith
 fault-small (at-tasks b) v = omega arith
-fault-small (at-field n b rs vs) v = omega (arith, field-small (length vs) rs vs v)
+fault-small (at-switch n b) v = omega arith
+fault-small (at-field n b s rs vs) v = omega (arith, field-small (length vs) s rs vs v)
 fault-small (at-rank n b rs os) v = picked (hasTask v rs && not (isIn v os)) 0 impossible 6 (omega arith) (omega arith)
 fault-small (at-end b rs os) v = omega arith
 
 fault-unranked : (s : Stage) (v : ℕ) → Known false s → fault s v ≤ 5
 fault-unranked at-board v h = omega arith
 fault-unranked (at-tasks b) v h = omega arith
-fault-unranked (at-field n b rs vs) v h = field-small (length vs) rs vs v
+fault-unranked (at-switch n b) v h = omega arith
+fault-unranked (at-field n b s rs vs) v h = field-small (length vs) s rs vs v
 fault-unranked (at-rank n b rs os) v h = absurd (true-not-false false (h .asked) refl)
 fault-unranked (at-end b rs os) v h = omega arith
 

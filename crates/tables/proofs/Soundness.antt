@@ -24,38 +24,46 @@ use Rattle.grammars.proofs.Naturals.{natural-passes}
 use Rattle.rows.specs.Rows.{minTasks, maxTasks, inRange, allRows, tasksOf, hasTask, distinctRows, allTasks, isPossible}
 use Rattle.rows.specs.declared.Row.{Row}
 use Rattle.rows.proofs.Tasks.{tasks-last, all-tasks-last}
-use Rattle.rows.proofs.Limits.{in-range, append-passes}
-use Rattle.rows.specs.Rows.{taskAt, periodAt, worstAt, bestAt, alphaAt, betaAt, holdAt, fieldCount, rowOf}
+use Rattle.rows.proofs.Limits.{in-range, append-passes, at-passes}
+use Rattle.rows.specs.Rows.{taskAt, periodAt, worstAt, bestAt, alphaAt, betaAt, holdAt, switchAt, rowOf}
+use Rattle.rows.specs.Rows.{minSwitch, maxSwitch, fullCost, cost, rowAt}
 use Rattle.tables.specs.TableLines.{minBoard, maxBoard, exceeding, repeated, impossible}
 use Rattle.tables.specs.TableLines.{rowLineAt, atMost, newRank}
-use Rattle.tables.specs.TableLines.{Stage, at-board, at-tasks, at-field, at-rank, at-end, ranksStage, rowsStage}
-use Rattle.tables.specs.TableLines.{fault, after, table, tableOf}
+use Rattle.tables.specs.TableLines.{Stage, at-board, at-tasks, at-switch, at-field, at-rank, at-end}
+use Rattle.tables.specs.TableLines.{ranksStage, rowsStage, fault, after, table, tableOf}
 use Rattle.tables.specs.Claims.{Accepted}
 
 -- ---- what is known at each stage
+-- a row has the switch
+abbrev under : ℕ → Row → Bool
+under s r = eqb (r .switch) s
+
 -- the rows so far, of n in all
-pub record Rows (b n : ℕ) (rs : List Row) : Type 0 where
+pub record Rows (b n s : ℕ) (rs : List Row) : Type 0 where
   board : Within minBoard maxBoard b
   count : Within minTasks maxTasks n
+  switch : Within minSwitch maxSwitch s
   ranges : allRows inRange rs ≡ true
   once : distinctRows rs ≡ true
+  same : allRows (under s) rs ≡ true
 
 -- each number of a row passed where it stands
-pub record FieldPasses (rs : List Row) (vs : List ℕ) (i v : ℕ) : Type 0 where
+pub record FieldPasses (s : ℕ) (rs : List Row) (vs : List ℕ) (i v : ℕ) : Type 0 where
   between : Within (rowLineAt i .low) (rowLineAt i .high) v
-  no-fault : rowLineAt i .fault rs vs v ≡ 0
+  no-fault : rowLineAt i .fault s rs vs v ≡ 0
 
-abbrev pub Good : List Row → List ℕ → Type 0
-Good rs vs = (i : ℕ) → i < length vs → FieldPasses rs (take i vs) i (getD vs i 0)
+abbrev pub Good : ℕ → List Row → List ℕ → Type 0
+Good s rs vs = (i : ℕ) → i < length vs → FieldPasses s rs (take i vs) i (getD vs i 0)
 
-pub record Values (n b : ℕ) (rs : List Row) (vs : List ℕ) : Type 0 where
-  rows : Rows b (length rs + suc n) rs
-  short : length vs < fieldCount
-  good : Good rs vs
+pub record Values (n b s : ℕ) (rs : List Row) (vs : List ℕ) : Type 0 where
+  rows : Rows b (length rs + suc n) s rs
+  short : length vs < switchAt
+  good : Good s rs vs
 
 -- the ranks so far, with n left
 pub record Ranks (ranked : Bool) (n b : ℕ) (rs : List Row) (os : List ℕ) : Type 0 where
-  rows : Rows b (length rs) rs
+  switch : ℕ
+  rows : Rows b (length rs) switch rs
   pub asked : ranked ≡ true
   left : length os + n ≡ length rs
   once : distinct os ≡ true
@@ -64,13 +72,14 @@ pub record Ranks (ranked : Bool) (n b : ℕ) (rs : List Row) (os : List ℕ) : T
 abbrev pub Known : Bool → Stage → Type 0
 Known ranked at-board = Unit {0}
 Known ranked (at-tasks b) = Within minBoard maxBoard b
-Known ranked (at-field n b rs vs) = Values n b rs vs
+Known ranked (at-switch n b) = Within minBoard maxBoard b × Within minTasks maxTasks n
+Known ranked (at-field n b s rs vs) = Values n b s rs vs
 Known ranked (at-rank n b rs os) = Ranks ranked (suc n) b rs os
 Known ranked (at-end b rs os) = Accepted ranked (tableOf b rs os)
 
 -- ---- a row whose numbers passed is in range, and its task is new
-module _ (rs : List Row) where
-  good-next : (vs : List ℕ) (v : ℕ) → Good rs vs → FieldPasses rs vs (length vs) v → Good rs (vs ++ (v ∷ []))
+module _ (s : ℕ) (rs : List Row) where
+  good-next : (vs : List ℕ) (v : ℕ) → Good s rs vs → FieldPasses s rs vs (length vs) v → Good s rs (vs ++ (v ∷ []))
   good-next vs v g p i h =
       elim (le-or-lt (length vs) i) [
         | inl l ↦
@@ -79,21 +88,36 @@ module _ (rs : List Row) where
         | inr l ↦ rw (take-append-le i vs (v ∷ []) (omega arith), List·getD-append vs (v ∷ []) 0 i l) (g i l)
       ]
 
-  module _ (vs : List ℕ) (whole : length vs ≡ fieldCount) (g : Good rs vs) where
-    -- a number that was held to the one at a position before it
-    at-most : (i j : ℕ) → j < i → (i < fieldCount) → rowLineAt i .fault rs (take i vs) (getD vs i 0)
-        ≡ atMost (getD (take i vs) j 0) (getD vs i 0) → getD vs i 0 ≤ getD vs j 0
-    at-most i j h l is =
+  module _ (vs : List ℕ) (whole : length vs ≡ switchAt) (g : Good s rs vs) where
+    -- what was held to the number at a position before it
+    at-most : (i j m : ℕ) → j < i → (i < switchAt) → rowLineAt i .fault s rs (take i vs) (getD vs i 0)
+        ≡ atMost (getD (take i vs) j 0) m → m ≤ getD vs j 0
+    at-most i j m h l is =
         let passed = sym is ∙ g i (omega arith) .no-fault in
         let limit = getD-take i vs j 0 h in
-        let test = not-refused (ltb (getD (take i vs) j 0) (getD vs i 0)) exceeding (omega arith) passed in
-        omega (arith, limit, ltb-false (getD (take i vs) j 0) (getD vs i 0) test)
+        let test = not-refused (ltb (getD (take i vs) j 0) m) exceeding (omega arith) passed in
+        omega (arith, limit, ltb-false (getD (take i vs) j 0) m test)
 
-    row-in-range : inRange (rowOf vs) ≡ true
-    row-in-range =
-        let in-limits : (i : ℕ) → i < fieldCount → Within (rowLineAt i .low) (rowLineAt i .high) (getD vs i 0) =
-        λ i h. g i (omega arith) .between in
-        in-range (rowOf vs) (record {
+    -- the row: its numbers and the switch
+    abbrev numbers : List ℕ
+    numbers = vs ++ (s ∷ [])
+
+    of-line : (i : ℕ) → i < switchAt → getD numbers i 0 ≡ getD vs i 0
+    of-line i h = List·getD-append vs (s ∷ []) 0 i (omega arith)
+
+    of-switch : getD numbers switchAt 0 ≡ s
+    of-switch = getD-at vs s [] 0 switchAt whole
+
+    row-in-range : Within minSwitch maxSwitch s → inRange (rowOf numbers) ≡ true
+    unfolding cost
+    row-in-range sw =
+        let in-limits : (i : ℕ) → i < switchAt → Within (rowLineAt i .low) (rowLineAt i .high) (getD numbers i 0) =
+        λ i h. subst (Within (rowLineAt i .low) (rowLineAt i .high)) (sym (of-line i h)) (g i (omega arith) .between) in
+        let period = of-line periodAt (omega arith) in
+        let worst = of-line worstAt (omega arith) in
+        let best = of-line bestAt (omega arith) in
+        let hold = of-line holdAt (omega arith) in
+        in-range (rowOf numbers) (record {
           task = in-limits taskAt (omega arith);
           period = in-limits periodAt (omega arith);
           worst = in-limits worstAt (omega arith);
@@ -101,67 +125,95 @@ module _ (rs : List Row) where
           alpha = in-limits alphaAt (omega arith);
           beta = in-limits betaAt (omega arith);
           hold = in-limits holdAt (omega arith);
-          worst-period = at-most worstAt periodAt (omega arith) (omega arith) refl;
-          best-worst = at-most bestAt worstAt (omega arith) (omega arith) refl;
-          hold-worst = at-most holdAt worstAt (omega arith) (omega arith) refl;
+          switch = subst (Within minSwitch maxSwitch) (sym of-switch) sw;
+          cost-period =
+              omega (
+                arith,
+                period,
+                worst,
+                of-switch,
+                at-most worstAt periodAt (fullCost s (getD vs worstAt 0)) (omega arith) (omega arith) refl,
+              );
+          best-worst =
+              omega (arith, worst, best, at-most bestAt worstAt (getD vs bestAt 0) (omega arith) (omega arith) refl);
+          hold-worst =
+              omega (arith, worst, hold, at-most holdAt worstAt (getD vs holdAt 0) (omega arith) (omega arith) refl);
         })
 
-    row-new : hasTask (rowOf vs .task) rs ≡ false
-    row-new = not-refused (hasTask (getD vs taskAt 0) rs) repeated (omega arith) (g taskAt (omega arith) .no-fault)
+    row-new : hasTask (rowOf numbers .task) rs ≡ false
+    row-new =
+        ap (λ t. hasTask t rs) (of-line taskAt (omega arith))
+        ∙ not-refused (hasTask (getD vs taskAt 0) rs) repeated (omega arith) (g taskAt (omega arith) .no-fault)
 
     -- and the rows with it are as the rows before it
-    rows-next : (b n : ℕ) → Rows b (length rs + suc n) rs
-        → let more = rs ++ (rowOf vs ∷ []) in Rows b (length more + n) more
+    rows-next : (b n : ℕ) → Rows b (length rs + suc n) s rs
+        → let more = rs ++ (rowOf numbers ∷ []) in Rows b (length more + n) s more
     rows-next b n h = record {
       board = h .board;
-      count = subst (Within minTasks maxTasks) (omega (arith, length-append rs (rowOf vs ∷ []))) (h .count);
-      ranges = append-passes inRange rs (rowOf vs ∷ []) (h .ranges) (rw row-in-range);
-      once = ap distinct (tasks-last rs (rowOf vs)) ∙ distinct-last (tasksOf rs) (rowOf vs .task) (h .once) row-new;
+      count = subst (Within minTasks maxTasks) (omega (arith, length-append rs (rowOf numbers ∷ []))) (h .count);
+      switch = h .switch;
+      ranges = append-passes inRange rs (rowOf numbers ∷ []) (h .ranges) (rw (row-in-range (h .switch)));
+      once =
+          ap distinct (tasks-last rs (rowOf numbers))
+          ∙ distinct-last (tasksOf rs) (rowOf numbers .task) (h .once) row-new;
+      same = append-passes (under s) rs (rowOf numbers ∷ []) (h .same) (rw (eq-eqb _ s of-switch));
     }
 
 -- ---- every number that passes keeps it
-table-known : (ranked : Bool) (b : ℕ) (rs : List Row) (os : List ℕ) → Rows b (length rs) rs
+table-known : (ranked : Bool) (b s : ℕ) (rs : List Row) (os : List ℕ) → Rows b (length rs) s rs
     → (ranked ≡ true → isPossible os rs ≡ true) → (ranked ≡ false → os ≡ []) → Accepted ranked (tableOf b rs os)
-table-known ranked b rs os h possible none = record {
+table-known ranked b s rs os h possible none = record {
   board-low = h .board .low-le;
   board-high = h .board .le-high;
   some-rows = h .count .low-le;
   few-rows = h .count .le-high;
   rows-in-range = h .ranges;
   rows-distinct = h .once;
+  one-switch = λ i j l m. switch-at i l ∙ sym (switch-at j m);
   ranks-possible = possible;
   no-ranks = none;
 }
+  where
+    switch-at : (i : ℕ) → i < length rs → rowAt rs i .switch ≡ s
+    switch-at i l = eqb-true (rowAt rs i .switch) s (at-passes (under s) rs i (h .same) l)
 
 ranks-known : (ranked : Bool) (n b : ℕ) (rs : List Row) (os : List ℕ) → Ranks ranked n b rs os
     → Known ranked (ranksStage n b rs os)
 ranks-known ranked zero b rs os h =
-    table-known ranked b rs os (h .rows)
+    table-known ranked b (h .switch) rs os (h .rows)
     (λ e. rw (eq-eqb (length os) (length rs) (omega (arith, h .left)), h .once) (h .there))
     (λ e. absurd (true-not-false ranked (h .asked) e))
 ranks-known ranked (suc n) b rs os h = h
 
-rows-known : (ranked : Bool) (n b : ℕ) (rs : List Row) → Rows b (length rs + n) rs
-    → Known ranked (rowsStage ranked n b rs)
-rows-known true zero b rs h =
+rows-known : (ranked : Bool) (n b s : ℕ) (rs : List Row) → Rows b (length rs + n) s rs
+    → Known ranked (rowsStage ranked n b s rs)
+rows-known true zero b s rs h =
     ranks-known true (length rs) b rs []
-    (record { rows = rw (add-zero (length rs)) at h; asked = refl; left = omega arith; once = refl; there = refl })
-rows-known false zero b rs h =
-    table-known false b rs [] (rw (add-zero (length rs)) at h) never (λ e. refl)
-rows-known ranked (suc n) b rs h = record { rows = h; short = omega arith; good = λ i l. absurd (omega arith) }
+    (record {
+      switch = s;
+      rows = rw (add-zero (length rs)) at h;
+      asked = refl;
+      left = omega arith;
+      once = refl;
+      there = refl;
+    })
+rows-known false zero b s rs h =
+    table-known false b s rs [] (rw (add-zero (length rs)) at h) never (λ e. refl)
+rows-known ranked (suc n) b s rs h = record { rows = h; short = omega arith; good = λ i l. absurd (omega arith) }
 
-field-known : (ranked : Bool) (n b : ℕ) (rs : List Row) (vs : List ℕ) (v : ℕ) → Values n b rs vs
-    → FieldPasses rs vs (length vs) v → Known ranked (after ranked (at-field n b rs vs) v)
-field-known ranked n b rs vs v h p =
+field-known : (ranked : Bool) (n b s : ℕ) (rs : List Row) (vs : List ℕ) (v : ℕ) → Values n b s rs vs
+    → FieldPasses s rs vs (length vs) v → Known ranked (after ranked (at-field n b s rs vs) v)
+field-known ranked n b s rs vs v h p =
     let ws = vs ++ (v ∷ []) in
     let long = length-append vs (v ∷ []) in
-    let good = good-next rs vs v (h .good) p in
-    elim (test-of (eqb (length ws) fieldCount)) [
+    let good = good-next s rs vs v (h .good) p in
+    elim (test-of (eqb (length ws) switchAt)) [
       | inl t ↦
-          let whole = eqb-true (length ws) fieldCount t in
-          rw t (rows-known ranked n b (rs ++ (rowOf ws ∷ [])) (rows-next rs ws whole good b n (h .rows)))
+          let whole = eqb-true (length ws) switchAt t in
+          let rows = rows-next s rs ws whole good b n (h .rows) in
+          rw t (rows-known ranked n b s (rs ++ (rowOf (ws ++ (s ∷ [])) ∷ [])) rows)
       | inr t ↦
-          let short : length ws < fieldCount = omega (arith, h .short, eqb-false (length ws) fieldCount t) in
+          let short : length ws < switchAt = omega (arith, h .short, eqb-false (length ws) switchAt t) in
           rw t (record { rows = h .rows; short = short; good = good })
     ]
 
@@ -172,6 +224,7 @@ rank-known ranked n b rs os v h e =
     let new = not-true (isIn v os) (and-right (hasTask v rs) (not (isIn v os)) both) in
     ranks-known ranked n b rs (os ++ (v ∷ []))
     (record {
+      switch = h .switch;
       rows = h .rows;
       asked = h .asked;
       left = omega (arith, h .left, length-append os (v ∷ []));
@@ -185,13 +238,20 @@ sound ranked = record { begins = tt; keeps = keeps }
     keeps : (s : Stage) (key : List ℕ) (z : ℤ) → Known ranked s → Passes (table ranked) s key z
         → Known ranked (after ranked s (size z))
     keeps at-board key z h p = natural-passes p (bytes "board=") minBoard maxBoard refl
-    keeps (at-tasks b) key z h p =
-        let count = natural-passes p (bytes "tasks=") minTasks maxTasks refl in
-        rows-known ranked (size z) b []
-        (record { board = h; count = rw (zero-add (size z)) count; ranges = refl; once = refl })
-    keeps (at-field n b rs vs) key z h p =
+    keeps (at-tasks b) key z h p = (h, natural-passes p (bytes "tasks=") minTasks maxTasks refl)
+    keeps (at-switch n b) key z h p =
+        rows-known ranked n b (size z) []
+        (record {
+          board = h .0;
+          count = rw (zero-add n) (h .1);
+          switch = natural-passes p (bytes "switch=") minSwitch maxSwitch refl;
+          ranges = refl;
+          once = refl;
+          same = refl;
+        })
+    keeps (at-field n b s rs vs) key z h p =
         let l = rowLineAt (length vs) in
-        field-known ranked n b rs vs (size z) h
+        field-known ranked n b s rs vs (size z) h
         (record { between = natural-passes p (l .key) (l .low) (l .high) refl; no-fault = p .no-fault })
     keeps (at-rank n b rs os) key z h p = rank-known ranked n b rs os (size z) h (p .no-fault)
     keeps (at-end b rs os) key z h p = no-line (sym (p .is-expected))

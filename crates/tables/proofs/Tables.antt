@@ -51,6 +51,7 @@ shown-end : (p : Part) (s : Stand) (ns : List ℕ) → readBy p s ≤ length ns
     × (rowStart (s .count) + s .position ≤ length ns)
 shown-end P.Board s ns long e = no-line e
 shown-end P.Tasks s ns long e = no-line e
+shown-end P.Switch s ns long e = no-line e
 shown-end P.Row s ns long e = no-line e
 shown-end P.Rank s ns long e = no-line e
 shown-end P.End s ns long e =

@@ -29,7 +29,7 @@ module _ (ranked : Bool) (text : List ℕ) where
   pub begins : (ns : List ℕ) → Room text ns → Standing (begun ranked) ns (suc (length text - 0))
   begins ns room =
       let here : Stands text 0 (start ranked) 1 ns =
-      record { room = room; bytes = omega arith; long = omega arith; line = refl; counted = refl } in
+      record { room = room; bytes = omega arith; long = omega arith; line = refl; counted = (refl, refl) } in
       Loops.goes refl (record { stands = (refl, here); same = refl })
 
   -- a turn

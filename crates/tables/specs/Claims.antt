@@ -3,10 +3,10 @@
 use mathlib.Core.Path.{_≡_}
 use mathlib.Core.Bool.{Bool, true, false}
 use mathlib.Core.List.{List, []}
-use Prim.Native.Nat.{ℕ, suc, _≤_}
+use Prim.Native.Nat.{ℕ, suc, _≤_, _<_}
 use lib.ListN.{length}
 use Rattle.grammars.specs.Claims.{AsWritten, Reason}
-use Rattle.rows.specs.Rows.{minTasks, maxTasks, fieldCount, inRange, allRows, distinctRows, isPossible}
+use Rattle.rows.specs.Rows.{minTasks, maxTasks, switchAt, rowAt, inRange, allRows, distinctRows, isPossible}
 use Rattle.rows.specs.declared.Row.{Row}
 use Rattle.tables.specs.TableLines.{minBoard, maxBoard, rowLines, at-board, at-end, table}
 use Rattle.tables.specs.TableLines.{TableRead, tableOf, turnedDown, readTable}
@@ -19,6 +19,8 @@ pub record Accepted (ranked : Bool) (a : TableRead) : Type 0 where
   pub few-rows : length (a .rows) ≤ maxTasks
   pub rows-in-range : allRows inRange (a .rows) ≡ true
   pub rows-distinct : distinctRows (a .rows) ≡ true
+  pub one-switch :
+      (i j : ℕ) → i < length (a .rows) → j < length (a .rows) → rowAt (a .rows) i .switch ≡ rowAt (a .rows) j .switch
   pub ranks-possible : ranked ≡ true → isPossible (a .order) (a .rows) ≡ true
   pub no-ranks : ranked ≡ false → a .order ≡ []
 
@@ -32,8 +34,8 @@ Fails ranked text n k = Reason (table ranked) at-board text n k
 
 -- every text is accepted as it is written, or refused for its reason
 pub record Read (ranked : Bool) (text : List ℕ) : Type 0 where
-  -- a row has as many numbers as its lines
-  pub each-line : length rowLines ≡ fieldCount
+  -- a row has as many numbers as its lines, and the switch
+  pub each-line : length rowLines ≡ switchAt
   pub sound : readTable ranked text .refused ≡ 0 → Accepted ranked (readTable ranked text)
   pub as-written :
       readTable ranked text .refused ≡ 0

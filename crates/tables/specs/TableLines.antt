@@ -10,7 +10,8 @@ use Rattle.text.specs.Text.{bytes}
 use Rattle.grammars.specs.Forms.{natural, size}
 use Rattle.grammars.specs.Grammars.{Expected, the-end, a-line, Grammar, Verdict, accepted, refused, read}
 use Rattle.rows.specs.Rows.{minTask, maxTask, minTicks, maxTicks, minAlpha, maxAlpha, minBeta, maxBeta}
-use Rattle.rows.specs.Rows.{minHold, maxHold, minTasks, maxTasks, periodAt, worstAt, fieldCount, rowOf, hasTask}
+use Rattle.rows.specs.Rows.{minHold, maxHold, minSwitch, maxSwitch, minTasks, maxTasks, fullCost}
+use Rattle.rows.specs.Rows.{periodAt, worstAt, switchAt, rowOf, hasTask}
 use Rattle.rows.specs.declared.Row.{Row}
 
 -- board numbers
@@ -21,7 +22,7 @@ abbrev pub maxBoard : ℕ
 maxBoard = 65535
 
 -- ---- refusals of a number in its range
--- worst > period, best > worst, hold > worst
+-- worst + switch > period, best > worst, hold > worst
 abbrev pub exceeding : ℕ
 exceeding = 4
 
@@ -34,15 +35,15 @@ abbrev pub impossible : ℕ
 impossible = 6
 
 -- ---- the lines of a row, in fixed order
--- a line of a row: its key, its range, and the refusal of a number in that range, 0 for none, given the rows before and
--- the row's numbers before it
+-- a line of a row: its key, its range, and the refusal of a number in that range, 0 for none, given the table's switch,
+-- the rows before and the row's numbers before it
 pub record RowLine : Type 0 where
   pub key : List ℕ
   pub low : ℕ
   pub high : ℕ
-  pub fault : List Row → List ℕ → ℕ → ℕ
+  pub fault : ℕ → List Row → List ℕ → ℕ → ℕ
 
-abbrev pub rowLine : List ℕ → ℕ → ℕ → (List Row → List ℕ → ℕ → ℕ) → RowLine
+abbrev pub rowLine : List ℕ → ℕ → ℕ → (ℕ → List Row → List ℕ → ℕ → ℕ) → RowLine
 rowLine key low high fault = record { key = key; low = low; high = high; fault = fault }
 
 -- the tests: none; a task number that none of some rows has; a number at most another; a rank that names one of some
@@ -61,26 +62,27 @@ newRank rs os v = pick (hasTask v rs && not (isIn v os)) 0 impossible
 
 abbrev pub rowLines : List RowLine
 rowLines =
-    rowLine (bytes "task=") minTask maxTask (λ rs vs. newTask rs)
-    ∷ rowLine (bytes "period=") minTicks maxTicks (λ rs vs. anyNumber)
-    ∷ rowLine (bytes "worst=") minTicks maxTicks (λ rs vs. atMost (getD vs periodAt 0))
-    ∷ rowLine (bytes "best=") minTicks maxTicks (λ rs vs. atMost (getD vs worstAt 0))
-    ∷ rowLine (bytes "alpha=") minAlpha maxAlpha (λ rs vs. anyNumber)
-    ∷ rowLine (bytes "beta=") minBeta maxBeta (λ rs vs. anyNumber)
-    ∷ rowLine (bytes "hold=") minHold maxHold (λ rs vs. atMost (getD vs worstAt 0))
+    rowLine (bytes "task=") minTask maxTask (λ s rs vs. newTask rs)
+    ∷ rowLine (bytes "period=") minTicks maxTicks (λ s rs vs. anyNumber)
+    ∷ rowLine (bytes "worst=") minTicks maxTicks (λ s rs vs v. atMost (getD vs periodAt 0) (fullCost s v))
+    ∷ rowLine (bytes "best=") minTicks maxTicks (λ s rs vs. atMost (getD vs worstAt 0))
+    ∷ rowLine (bytes "alpha=") minAlpha maxAlpha (λ s rs vs. anyNumber)
+    ∷ rowLine (bytes "beta=") minBeta maxBeta (λ s rs vs. anyNumber)
+    ∷ rowLine (bytes "hold=") minHold maxHold (λ s rs vs. atMost (getD vs worstAt 0))
     ∷ []
 
 -- the line at a position in a row
 abbrev pub rowLineAt : ℕ → RowLine
-rowLineAt i = getD rowLines i (rowLine [] 0 0 (λ rs vs. anyNumber))
+rowLineAt i = getD rowLines i (rowLine [] 0 0 (λ s rs vs. anyNumber))
 
 -- ---- what has been read
--- the rows so far and how many are left after the one that is being read, with its numbers so far; the ranks so far and
--- how many are left after the next
+-- the tasks that are to come; the rows so far and how many are left after the one that is being read, with its numbers
+-- so far; the ranks so far and how many are left after the next
 pub data Stage : Type 0 where
   at-board : Stage
   at-tasks : (board : ℕ) → Stage
-  at-field : (left board : ℕ) (rows : List Row) (values : List ℕ) → Stage
+  at-switch : (tasks board : ℕ) → Stage
+  at-field : (left board switch : ℕ) (rows : List Row) (values : List ℕ) → Stage
   at-rank : (left board : ℕ) (rows : List Row) (order : List ℕ) → Stage
   at-end : (board : ℕ) (rows : List Row) (order : List ℕ) → Stage
 
@@ -90,15 +92,16 @@ ranksStage zero b rs os = at-end b rs os
 ranksStage (suc n) b rs os = at-rank n b rs os
 
 -- as many rows, then as many rank lines as rows, if they are expected
-abbrev pub rowsStage : Bool → ℕ → ℕ → List Row → Stage
-rowsStage ranked zero b rs = ranksStage (pick ranked (length rs) 0) b rs []
-rowsStage ranked (suc n) b rs = at-field n b rs []
+abbrev pub rowsStage : Bool → ℕ → ℕ → ℕ → List Row → Stage
+rowsStage ranked zero b s rs = ranksStage (pick ranked (length rs) 0) b rs []
+rowsStage ranked (suc n) b s rs = at-field n b s rs []
 
 -- ---- the line that is expected
 abbrev pub expected : Stage → Expected
 expected at-board = a-line (bytes "board=") (natural minBoard maxBoard)
 expected (at-tasks b) = a-line (bytes "tasks=") (natural minTasks maxTasks)
-expected (at-field n b rs vs) = let l = rowLineAt (length vs) in a-line (l .key) (natural (l .low) (l .high))
+expected (at-switch n b) = a-line (bytes "switch=") (natural minSwitch maxSwitch)
+expected (at-field n b s rs vs) = let l = rowLineAt (length vs) in a-line (l .key) (natural (l .low) (l .high))
 expected (at-rank n b rs os) = a-line (bytes "rank=") (natural minTask maxTask)
 expected (at-end b rs os) = the-end
 
@@ -106,17 +109,21 @@ expected (at-end b rs os) = the-end
 abbrev pub fault : Stage → ℕ → ℕ
 fault at-board v = 0
 fault (at-tasks b) v = 0
-fault (at-field n b rs vs) v = rowLineAt (length vs) .fault rs vs v
+fault (at-switch n b) v = 0
+fault (at-field n b s rs vs) v = rowLineAt (length vs) .fault s rs vs v
 fault (at-rank n b rs os) v = newRank rs os v
 fault (at-end b rs os) v = 0
 
--- what is to be read after a number
+-- what is to be read after a number; the switch stands behind the numbers of each row
 abbrev pub after : Bool → Stage → ℕ → Stage
 after ranked at-board v = at-tasks v
-after ranked (at-tasks b) v = rowsStage ranked v b []
-after ranked (at-field n b rs vs) v =
+after ranked (at-tasks b) v = at-switch v b
+after ranked (at-switch n b) v = rowsStage ranked n b v []
+after ranked (at-field n b s rs vs) v =
     let more = vs ++ (v ∷ []) in
-    pick (eqb (length more) fieldCount) (rowsStage ranked n b (rs ++ (rowOf more ∷ []))) (at-field n b rs more)
+    pick (eqb (length more) switchAt)
+    (rowsStage ranked n b s (rs ++ (rowOf (more ++ (s ∷ [])) ∷ [])))
+    (at-field n b s rs more)
 after ranked (at-rank n b rs os) v = ranksStage n b rs (os ++ (v ∷ []))
 after ranked (at-end b rs os) v = at-end b rs os
 
@@ -147,7 +154,8 @@ tableOf b rs os = record { refused = 0; line = 0; board = b; rows = rs; order = 
 abbrev pub tableAt : Stage → TableRead
 tableAt at-board = turnedDown 0 0
 tableAt (at-tasks b) = turnedDown 0 0
-tableAt (at-field n b rs vs) = turnedDown 0 0
+tableAt (at-switch n b) = turnedDown 0 0
+tableAt (at-field n b s rs vs) = turnedDown 0 0
 tableAt (at-rank n b rs os) = turnedDown 0 0
 tableAt (at-end b rs os) = tableOf b rs os
 

@@ -3,7 +3,7 @@ ghost use mathlib.Core.Path.{_≡_};
 ghost use Prim.Native.Nat.{_*_};
 ghost use lib.Dec.{leb};
 ghost use lib.ListN.{length};
-ghost use Rattle.tables.specs.inside.Numbers.{lineBytes, fewLines, Room};
+ghost use Rattle.tables.specs.inside.Numbers.{numberBytes, fewNumbers, Room};
 ghost use Rattle.tables.specs.inside.Readings.{ReadAs};
 use reader::read_lines;
 use rows::FIELDS;
@@ -13,24 +13,26 @@ mod lines;
 mod progress;
 mod reader;
 
-// How many lines a table's head has, and where its board stands.
-pub const HEAD: usize = 2;
+// How many lines a table's head has, and where its board and its switch stand.
+pub const HEAD: usize = 3;
 
 pub const BOARD: usize = 0;
 
-// A number for each line of the longest table with its rank lines.
-pub const LINES: usize = HEAD + FIELDS * MAX_TASKS + MAX_TASKS;
+pub const BOARD_SWITCH: usize = 2;
 
-// The fewest bytes of a line, and the lines of a short text, at most.
-pub const LINE_BYTES: usize = 7;
+// Room for the numbers of the longest table with its ranks.
+pub const MOST_NUMBERS: usize = HEAD + FIELDS * MAX_TASKS + MAX_TASKS;
 
-pub const FEW_LINES: usize = 32;
+// The fewest bytes of a text for each number of its table, and the numbers of a short text, at most.
+pub const NUMBER_BYTES: usize = 6;
 
-// Whether a text is short, so that FEW_LINES numbers are room enough.
+pub const FEW_NUMBERS: usize = 40;
+
+// Whether a text is short, so that FEW_NUMBERS are room enough.
 pub fn is_short(text: &[u8]) -> bool
-    ensures { λ r. ⌜ r ≡ leb (length (now (text .entry))) (lineBytes * fewLines) ⌝ }
+    ensures { λ r. ⌜ r ≡ leb (length (now (text .entry))) (numberBytes * fewNumbers) ⌝ }
 {
-    text.len() <= LINE_BYTES * FEW_LINES
+    text.len() <= NUMBER_BYTES * FEW_NUMBERS
 }
 
 // What a text reads as: refusal 0 and how many rows the table has, its numbers standing where they were lent; or a
@@ -41,8 +43,8 @@ pub struct Reading {
     pub count: usize,
 }
 
-// A table as the planner takes it, or with rank lines as the reviewer does: the numbers of its lines stand where they
-// were lent, one after another.
+// A table as the planner takes it, or with rank lines as the reviewer does: its numbers stand where they were lent, one
+// after another.
 pub fn read_table(text: &[u8], ranked: bool, numbers: &mut [u64]) -> Reading
     requires { ⌜ Room (now text) (now numbers) ⌝ }
     ensures { λ r. ⌜ ReadAs ranked (now (text .entry)) (now (numbers .exit)) r ⌝ }

@@ -3,11 +3,11 @@ ghost use mathlib.Core.Path.{_≡_};
 ghost use Prim.Native.Nat.{_+_, _≤_, _<_};
 ghost use lib.ListN.{length};
 ghost use Rattle.grammars.specs.inside.Answers.{tested};
-ghost use Rattle.rows.specs.Rows.{maxTasks};
-ghost use Rattle.rows.specs.Rows.{fieldCount};
+ghost use Rattle.rows.specs.Rows.{maxTasks, switchAt, fullCost};
 ghost use Rattle.tables.specs.TableLines.{atMost, newTask, newRank};
 ghost use Rattle.tables.specs.inside.Numbers.{rowStart, rowsIn, behind};
 ghost use Rattle.tables.specs.inside.Stands.{rowLineTested, lineHere, faultIn, Stands};
+use super::BOARD_SWITCH;
 use super::HEAD;
 use super::progress::Part;
 use super::progress::Stand;
@@ -56,6 +56,19 @@ fn at_most(limit: u64, answer: Line, line: u32) -> Line
     answer
 }
 
+// A worst time that does not fit its period with the switch is refused.
+fn fits_period(period: u64, switch: u64, answer: Line, line: u32) -> Line
+    ensures { λ r. ⌜ r ≡ tested (λ v. atMost period (fullCost switch v)) answer line ⌝ }
+{
+    let Line::Number(value, _) = answer else {
+        return answer;
+    };
+    if Row::fits(value, switch, period) {
+        return answer;
+    }
+    Line::Refused(EXCEEDING, line)
+}
+
 // A task of one of the first rows is refused.
 fn new_task(numbers: &[u64], count: usize, answer: Line, line: u32) -> Line
     requires { ⌜ (count ≤ maxTasks) × (rowStart count ≤ length (now numbers)) ⌝ }
@@ -97,7 +110,7 @@ fn row_line(
     position: usize,
     numbers: &[u64],
 ) -> Line
-    requires { ⌜ (position < fieldCount) × (count < maxTasks) ⌝ }
+    requires { ⌜ (position < switchAt) × (count < maxTasks) ⌝ }
     requires { ⌜ rowStart count + position ≤ length (now numbers) ⌝ }
     ensures { λ r. ⌜ r ≡ rowLineTested count position (now (numbers .entry)) (now (text .entry)) at line ⌝ }
 {
@@ -110,7 +123,7 @@ fn row_line(
         PERIOD => line_at(text, at, line, b"period=", Row::TICKS_MIN, Row::TICKS_MAX),
         WORST => {
             let answer = line_at(text, at, line, b"worst=", Row::TICKS_MIN, Row::TICKS_MAX);
-            at_most(numbers[start + PERIOD], answer, line)
+            fits_period(numbers[start + PERIOD], numbers[BOARD_SWITCH], answer, line)
         }
         BEST => {
             let answer = line_at(text, at, line, b"best=", Row::TICKS_MIN, Row::TICKS_MAX);
@@ -135,6 +148,7 @@ pub fn expected_line(text: &[u8], at: usize, line: u32, stand: Stand, numbers: &
     match part {
         Part::Board => line_at(text, at, line, b"board=", BOARD_MIN, BOARD_MAX),
         Part::Tasks => line_at(text, at, line, b"tasks=", TASKS_MIN, TASKS_MAX),
+        Part::Switch => { line_at(text, at, line, b"switch=", Row::SWITCH_MIN, Row::SWITCH_MAX) }
         Part::Row => row_line(text, at, line, stand.count, stand.position, numbers),
         Part::Rank => {
             let answer = line_at(text, at, line, b"rank=", Row::TASK_MIN, Row::TASK_MAX);

@@ -2,25 +2,28 @@
 ghost use mathlib.Core.Path.{_≡_};
 ghost use Prim.Native.Nat.{_<_};
 ghost use Rattle.basics.specs.Basics.{pick};
-ghost use Rattle.rows.specs.Rows.{maxTasks};
-ghost use Rattle.rows.specs.Rows.{fieldCount};
+ghost use Rattle.rows.specs.Rows.{maxTasks, switchAt};
 ghost use Rattle.tables.specs.inside.Stands.{begun, ranksNext, rowsNext, afterField, standAfter, Counted};
-ghost use Rattle.tables.specs.inside.Stands.{endedBy, Stands, TakesLine};
+ghost use Rattle.tables.specs.inside.Stands.{endsRow, PutAt, withNumber, endedBy, Stands, TakesLine};
+use super::BOARD_SWITCH;
 use super::lines::expected_line;
-use rows::FIELDS;
+use rows::HOLD;
+use rows::SWITCH;
 use text::Line;
 
 // The line that is expected next: one of the head, of a row, a rank, or none.
 pub enum Part {
     Board,
     Tasks,
+    Switch,
     Row,
     Rank,
     End,
 }
 
 // Where in the table the reading stands: the rows that are whole, how many are left after the one that is being read,
-// and how many of its numbers are there; or, behind the rows, the ranks that are left after the next and those so far.
+// and how many of its numbers are there; before the rows, how many are to come; or, behind them, the ranks that are left
+// after the next and those so far.
 pub struct Stand {
     pub part: Part,
     pub ranked: bool,
@@ -109,11 +112,11 @@ fn rows_next(ranked: bool, count: usize, left: usize) -> Stand
 impl Stand {
     // Behind one more number of a row.
     fn after_field(self) -> Stand
-        requires { ⌜ (self .position < fieldCount) × (self .count < maxTasks) ⌝ }
+        requires { ⌜ (self .position < switchAt) × (self .count < maxTasks) ⌝ }
         ensures { λ r. ⌜ r ≡ afterField self ⌝ }
     {
         let more = self.position + 1;
-        if more == FIELDS {
+        if more == SWITCH {
             return rows_next(self.ranked, self.count + 1, self.left);
         }
         Stand {
@@ -139,11 +142,39 @@ impl Stand {
                 left: 0,
                 position: 0,
             },
-            Part::Tasks => rows_next(self.ranked, 0, value as usize),
+            Part::Tasks => Stand {
+                part: Part::Switch,
+                ranked: self.ranked,
+                count: 0,
+                left: value as usize,
+                position: 0,
+            },
+            Part::Switch => rows_next(self.ranked, 0, self.left),
             Part::Row => self.after_field(),
             Part::Rank => ranks_next(self.ranked, self.count, self.position + 1, self.left),
             Part::End => self,
         }
+    }
+}
+
+// Whether the number at a position is the last of a row's lines.
+fn ends_row(part: Part, position: usize) -> bool
+    ensures { λ r. ⌜ r ≡ endsRow part position ⌝ }
+{
+    match part {
+        Part::Row => position == HOLD,
+        _ => false,
+    }
+}
+
+// A number is put at an index, and behind the last of a row the table's switch.
+fn put_number(numbers: &mut [u64], at: usize, value: u64, last: bool)
+    requires { ⌜ PutAt last at (now numbers) ⌝ }
+    ensures { λ _. ⌜ now (numbers .exit) ≡ withNumber last at value (now (numbers .entry)) ⌝ }
+{
+    numbers[at] = value;
+    if last {
+        numbers[at + 1] = numbers[BOARD_SWITCH];
     }
 }
 
@@ -182,8 +213,9 @@ pub fn take_line(
     let Line::Number(value, next) = answer else {
         return ended_by(stand, answer);
     };
-    let at = line as usize - 1;
-    numbers[at] = value;
+    let part = stand.part;
+    let last = ends_row(part, stand.position);
+    put_number(numbers, line as usize - 1 + stand.count, value, last);
     let past = stand.after(value);
     Progress {
         stand: past,

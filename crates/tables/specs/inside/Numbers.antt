@@ -1,5 +1,5 @@
--- Promised between functions: a table as the numbers of its lines, one after another. The head's come first, then those
--- of each row, then the ranks.
+-- Promised between functions: a table as its numbers, one after another. Those of the head's lines come first, then
+-- those of each row, its lines' and the switch, then the ranks.
 use mathlib.Core.List.{List}
 use mathlib.Core.Logic.{_⊎_}
 use Prim.Native.Nat.{ℕ, _+_, _*_, _≤_}
@@ -8,25 +8,29 @@ use Rattle.rows.specs.Rows.{maxTasks, fieldCount}
 use Rattle.rows.specs.declared.Row.{Row}
 use Rattle.rows.specs.inside.Numbers.{rowsOf, between}
 
--- the lines of the head: the board's and the tasks'
+-- the lines of the head: the board's, the tasks' and the switch's
 abbrev pub headCount : ℕ
-headCount = 2
+headCount = 3
 
--- the lines of the longest table with its rank lines
-abbrev pub lineCount : ℕ
-lineCount = headCount + fieldCount * maxTasks + maxTasks
+-- the numbers of the longest table with its ranks
+abbrev pub mostNumbers : ℕ
+mostNumbers = headCount + fieldCount * maxTasks + maxTasks
 
 -- the fewest bytes of a line: the shortest key with its equals sign, a digit and a line feed
 abbrev pub lineBytes : ℕ
 lineBytes = 7
 
--- the lines of a short text, at most
-abbrev pub fewLines : ℕ
-fewLines = 32
+-- the fewest bytes of a text for each number of its table: a row has one more than it has lines
+abbrev pub numberBytes : ℕ
+numberBytes = 6
 
--- there is room for a text's numbers: for as many as any table has, or for one for each line that the text can have
+-- the numbers of a short text, at most
+abbrev pub fewNumbers : ℕ
+fewNumbers = 40
+
+-- there is room for a text's numbers: for as many as any table has, or for as many as the text can have
 abbrev pub Room : List ℕ → List ℕ → Type 0
-Room text ns = (lineCount ≤ length ns) ⊎ (length text ≤ lineBytes * length ns)
+Room text ns = (mostNumbers ≤ length ns) ⊎ (length text ≤ numberBytes * length ns)
 
 -- where row n begins, counted from 0
 abbrev pub rowStart : ℕ → ℕ
@@ -34,6 +38,9 @@ rowStart n = headCount + fieldCount * n
 
 abbrev pub boardIn : List ℕ → ℕ
 boardIn ws = getD ws 0 0
+
+abbrev pub switchIn : List ℕ → ℕ
+switchIn ws = getD ws 2 0
 
 -- the first n rows
 abbrev pub rowsIn : ℕ → List ℕ → List Row

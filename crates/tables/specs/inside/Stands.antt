@@ -4,7 +4,7 @@ use mathlib.Core.Bool.{Bool, true, false}
 use mathlib.Core.List.{List}
 use Prim.Native.Nat.{ℕ, zero, suc, _+_, _*_, _≤_, _<_}
 use lib.Dec.{eqb}
-use lib.ListN.{length, take, drop}
+use lib.ListN.{length, take, drop, set}
 use Rattle.basics.specs.Basics.{pick}
 use Rattle.text.specs.Text.{bytes}
 use Rattle.text.specs.Lines.{lineAt, endAt, refusal, place}
@@ -13,14 +13,14 @@ use Rattle.grammars.specs.inside.Answers.{tested}
 use Rattle.grammars.specs.inside.Readers.{Reader, Takes}
 use Rattle.grammars.specs.inside.Readers as Readers
 use Rattle.grammars.specs.Grammars.{Verdict, step}
-use Rattle.rows.specs.Rows.{minTask, maxTask, minTasks, maxTasks, fieldCount}
+use Rattle.rows.specs.Rows.{minTask, maxTask, minSwitch, maxSwitch, minTasks, maxTasks, holdAt, switchAt}
 use Rattle.tables.specs.declared.progress.Part.{Part}
 use Rattle.tables.specs.declared.progress.Part.the-variants as P
 use Rattle.tables.specs.declared.progress.Stand.{Stand}
 use Rattle.tables.specs.declared.progress.Progress.{Progress}
 use Rattle.tables.specs.TableLines.{minBoard, maxBoard, newRank, rowLineAt}
-use Rattle.tables.specs.TableLines.{Stage, at-board, at-tasks, at-field, at-rank, at-end, table}
-use Rattle.tables.specs.inside.Numbers.{lineBytes, Room, rowStart, boardIn, rowsIn, behind}
+use Rattle.tables.specs.TableLines.{Stage, at-board, at-tasks, at-switch, at-field, at-rank, at-end, table}
+use Rattle.tables.specs.inside.Numbers.{headCount, lineBytes, Room, rowStart, boardIn, switchIn, rowsIn, behind}
 
 -- ---- the line that is expected
 abbrev pub fieldLine : ℕ → List ℕ → ℕ → ℕ → Line
@@ -28,11 +28,13 @@ fieldLine i text at k = let l = rowLineAt i in lineAt (l .key) (l .low) (l .high
 
 -- with the test of its number, by the numbers so far
 abbrev pub rowLineTested : ℕ → ℕ → List ℕ → List ℕ → ℕ → ℕ → Line
-rowLineTested n i ns text at k = tested (rowLineAt i .fault (rowsIn n ns) (behind n i ns)) (fieldLine i text at k) k
+rowLineTested n i ns text at k =
+    tested (rowLineAt i .fault (switchIn ns) (rowsIn n ns) (behind n i ns)) (fieldLine i text at k) k
 
 abbrev pub lineHere : Part → ℕ → List ℕ → ℕ → ℕ → Line
 lineHere P.Board i text at k = lineAt (bytes "board=") minBoard maxBoard text at k
 lineHere P.Tasks i text at k = lineAt (bytes "tasks=") minTasks maxTasks text at k
+lineHere P.Switch i text at k = lineAt (bytes "switch=") minSwitch maxSwitch text at k
 lineHere P.Row i text at k = fieldLine i text at k
 lineHere P.Rank i text at k = lineAt (bytes "rank=") minTask maxTask text at k
 lineHere P.End i text at k = endAt text at k
@@ -41,7 +43,9 @@ lineHere P.End i text at k = endAt text at k
 abbrev pub faultIn : Part → Stand → List ℕ → ℕ → ℕ
 faultIn P.Board s ns v = 0
 faultIn P.Tasks s ns v = 0
-faultIn P.Row s ns v = rowLineAt (s .position) .fault (rowsIn (s .count) ns) (behind (s .count) (s .position) ns) v
+faultIn P.Switch s ns v = 0
+faultIn P.Row s ns v =
+    rowLineAt (s .position) .fault (switchIn ns) (rowsIn (s .count) ns) (behind (s .count) (s .position) ns) v
 faultIn P.Rank s ns v = newRank (rowsIn (s .count) ns) (behind (s .count) (s .position) ns) v
 faultIn P.End s ns v = 0
 
@@ -64,37 +68,67 @@ rowsNext ranked count (suc n) = stand P.Row ranked count n 0
 
 abbrev pub afterField : Stand → Stand
 afterField s =
-    pick (eqb (suc (s .position)) fieldCount)
+    pick (eqb (suc (s .position)) switchAt)
     (rowsNext (s .ranked) (suc (s .count)) (s .left))
     (stand P.Row (s .ranked) (s .count) (s .left) (suc (s .position)))
 
 abbrev pub standAfter : Part → Stand → ℕ → Stand
 standAfter P.Board s v = stand P.Tasks (s .ranked) 0 0 0
-standAfter P.Tasks s v = rowsNext (s .ranked) 0 v
+standAfter P.Tasks s v = stand P.Switch (s .ranked) 0 v 0
+standAfter P.Switch s v = rowsNext (s .ranked) 0 (s .left)
 standAfter P.Row s v = afterField s
 standAfter P.Rank s v = ranksNext (s .ranked) (s .count) (suc (s .position)) (s .left)
 standAfter P.End s v = s
 
--- how many numbers have been read, and what is known of the counts
+-- how many lines have been read, how many numbers there are, and what is known of the counts
+abbrev pub linesBy : Part → Stand → ℕ
+linesBy P.Board s = 0
+linesBy P.Tasks s = 1
+linesBy P.Switch s = 2
+linesBy P.Row s = headCount + switchAt * s .count + s .position
+linesBy P.Rank s = headCount + switchAt * s .count + s .position
+linesBy P.End s = headCount + switchAt * s .count + s .position
+
 abbrev pub readBy : Part → Stand → ℕ
 readBy P.Board s = 0
 readBy P.Tasks s = 1
+readBy P.Switch s = 2
 readBy P.Row s = rowStart (s .count) + s .position
 readBy P.Rank s = rowStart (s .count) + s .position
 readBy P.End s = rowStart (s .count) + s .position
 
 abbrev pub Counted : Part → Stand → Type 0
-Counted P.Board s = s .position ≡ 0
-Counted P.Tasks s = s .position ≡ 0
-Counted P.Row s = (s .position < fieldCount) × (s .count + suc (s .left) ≤ maxTasks)
+Counted P.Board s = (s .position ≡ 0) × (s .count ≡ 0)
+Counted P.Tasks s = (s .position ≡ 0) × (s .count ≡ 0)
+Counted P.Switch s = (s .position ≡ 0) × (s .count ≡ 0) × (s .left ≤ maxTasks)
+Counted P.Row s = (s .position < switchAt) × (s .count + suc (s .left) ≤ maxTasks)
 Counted P.Rank s = (s .position + suc (s .left) ≤ s .count) × (s .count ≤ maxTasks)
 Counted P.End s = (s .position ≤ s .count) × (s .count ≤ maxTasks)
+
+-- ---- a line's number is put behind those before it, and the switch behind the last of a row
+abbrev pub endsRow : Part → ℕ → Bool
+endsRow P.Board i = false
+endsRow P.Tasks i = false
+endsRow P.Switch i = false
+endsRow P.Row i = eqb i holdAt
+endsRow P.Rank i = false
+endsRow P.End i = false
+
+abbrev pub withNumber : Bool → ℕ → ℕ → List ℕ → List ℕ
+withNumber ends at v ns = let ms = set ns at v in pick ends (set ms (suc at) (switchIn ms)) ms
+
+-- there is room for it
+pub record PutAt (ends : Bool) (at : ℕ) (ns : List ℕ) : Type 0 where
+  pub here : at < length ns
+  pub behind : ends ≡ true → (2 < at) × (suc at < length ns)
 
 -- ---- what it shows of the text's reading, with the numbers so far
 abbrev pub stageIn : Part → Stand → List ℕ → Stage
 stageIn P.Board s ws = at-board
 stageIn P.Tasks s ws = at-tasks (boardIn ws)
-stageIn P.Row s ws = at-field (s .left) (boardIn ws) (rowsIn (s .count) ws) (drop (rowStart (s .count)) ws)
+stageIn P.Switch s ws = at-switch (s .left) (boardIn ws)
+stageIn P.Row s ws =
+    at-field (s .left) (boardIn ws) (switchIn ws) (rowsIn (s .count) ws) (drop (rowStart (s .count)) ws)
 stageIn P.Rank s ws = at-rank (s .left) (boardIn ws) (rowsIn (s .count) ws) (drop (rowStart (s .count)) ws)
 stageIn P.End s ws = at-end (boardIn ws) (rowsIn (s .count) ws) (drop (rowStart (s .count)) ws)
 
@@ -108,9 +142,9 @@ stageOf s ns = stageIn (s .part) s (soFar s ns)
 -- is room for more
 pub record Stands (text : List ℕ) (at : ℕ) (s : Stand) (k : ℕ) (ns : List ℕ) : Type 0 where
   pub room : Room text ns
-  pub bytes : lineBytes * readBy (s .part) s ≤ at
+  pub bytes : lineBytes * linesBy (s .part) s ≤ at
   pub long : readBy (s .part) s ≤ length ns
-  pub line : k ≡ suc (readBy (s .part) s)
+  pub line : k ≡ suc (linesBy (s .part) s)
   pub counted : Counted (s .part) s
 
 -- ---- a step taken

@@ -1,5 +1,6 @@
 -- `rows::Row::keeps` meets its contract: its tests are those of `inRange`, in their order.
 use borrow.Author.Needs.{needs}
+use Rattle.rows.specs.Rows as R
 use Rattle.rows.proofs.Row.keeps.Statement.{statement}
 use Rattle.rows.proofs.Row.keeps.Tie as tie
 
@@ -24,9 +25,18 @@ within-requires-6 c κs = search needs
 within-requires-7 : tie.Need-within-requires-7
 within-requires-7 c κs = search needs
 
+within-requires-8 : tie.Need-within-requires-8
+within-requires-8 c κs = search needs
+
+fits-requires : tie.Need-fits-requires
+fits-requires c κs = search needs
+
 returns : tie.Need-returns
+unfolding R.cost
 returns c =
-    let six = c .before in
+    let eight = c .before in
+    let seven = eight .before in
+    let six = seven .before in
     let five = six .before in
     let four = five .before in
     let three = four .before in
@@ -38,7 +48,9 @@ returns c =
       four .within4 .ensures,
       five .within5 .ensures,
       six .within6 .ensures,
-      c .within7 .ensures,
+      seven .within7 .ensures,
+      eight .within8 .ensures,
+      c .fits2 .ensures,
     )
 
 pub keeps-spec : {M : Type 1} → statement M
@@ -52,4 +64,6 @@ keeps-spec =
     within-requires-5
     within-requires-6
     within-requires-7
+    within-requires-8
+    fits-requires
     returns)

@@ -74,12 +74,21 @@ mul-new-7 c = search needs
 shared-slice-read-new-7 : tie.Need-shared-slice-read-new-7
 shared-slice-read-new-7 c = search needs
 
+add-new-8 : tie.Need-add-new-8
+add-new-8 c = search needs
+
+mul-new-8 : tie.Need-mul-new-8
+mul-new-8 c = search needs
+
+shared-slice-read-new-8 : tie.Need-shared-slice-read-new-8
+shared-slice-read-new-8 c = search needs
+
 new-requires : tie.Need-new-requires
 new-requires c κs = search needs
 
 returns : tie.Need-returns
 returns c =
-    let a = c .before .before .before .before .before .before .before .before .before .args in
+    let a = c .before .before .before .before .before .before .before .before .before .before .args in
     ap (λ (x : Checked). x .in_range) (c .new .ensures)
     ∙ ap inRange (sym (row-from (a .numbers .now) (fieldCount * a .i)))
 
@@ -109,5 +118,8 @@ in-range-at-spec =
     add-new-7
     mul-new-7
     shared-slice-read-new-7
+    add-new-8
+    mul-new-8
+    shared-slice-read-new-8
     new-requires
     returns)

@@ -1,4 +1,4 @@
--- `rows::numbers::put_row` meets its contract: seven numbers are written, or none.
+-- `rows::numbers::put_row` meets its contract: eight numbers are written, or none.
 use borrow.Author.Needs.{needs}
 use Rattle.rows.proofs.Putting.{row-put, row-left}
 use Rattle.rows.proofs.numbers.put_row.Statement.{statement}
@@ -88,9 +88,21 @@ mul-numbers-7 c = search needs
 element-write-numbers-7 : tie.Need-element-write-numbers-7
 element-write-numbers-7 c = search needs
 
+cast-numbers-7 : tie.Need-cast-numbers-7
+cast-numbers-7 c = search needs
+
+add-numbers-8 : tie.Need-add-numbers-8
+add-numbers-8 c = search needs
+
+mul-numbers-8 : tie.Need-mul-numbers-8
+mul-numbers-8 c = search needs
+
+element-write-numbers-8 : tie.Need-element-write-numbers-8
+element-write-numbers-8 c = search needs
+
 returns : tie.Need-returns
 returns c =
-    let a = c .before .before .before .before .before .before .before .args in
+    let a = c .before .before .before .before .before .before .before .before .args in
     row-put (a .numbers .now) (a .i) (a .row)
 
 returns-2 : tie.Need-returns-2
@@ -130,5 +142,9 @@ put-row-spec =
     add-numbers-7
     mul-numbers-7
     element-write-numbers-7
+    cast-numbers-7
+    add-numbers-8
+    mul-numbers-8
+    element-write-numbers-8
     returns
     returns-2)

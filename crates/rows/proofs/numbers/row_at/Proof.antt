@@ -4,8 +4,8 @@ use Prim.Native.Nat.{_+_, _*_}
 use native.Mathlib.Omega.{arith}
 use borrow.Author.Needs.{needs}
 use lib.ListN.{getD}
-use Rattle.rows.specs.Rows.{taskAt, periodAt, worstAt, bestAt, alphaAt, betaAt, holdAt, fieldCount, row}
-use Rattle.rows.specs.Rows.{inRange}
+use Rattle.rows.specs.Rows.{taskAt, periodAt, worstAt, bestAt, alphaAt, betaAt, holdAt, switchAt, fieldCount}
+use Rattle.rows.specs.Rows.{row, inRange}
 use Rattle.rows.proofs.Limits.{Limits, limits}
 use Rattle.rows.proofs.RowNumbers.{row-from}
 use Rattle.rows.proofs.numbers.row_at.Statement.{statement}
@@ -14,7 +14,7 @@ use Rattle.rows.proofs.numbers.row_at.Tie as tie
 kept : (c : tie.Start) → let ns = c .args .numbers .now in let at = fieldCount * c .args .i in
     Limits (row (getD ns (at + taskAt) 0) (getD ns (at + periodAt) 0) (getD ns (at + worstAt) 0)
     (getD ns (at + bestAt) 0) (getD ns (at + alphaAt) 0) (getD ns (at + betaAt) 0)
-    (getD ns (at + holdAt) 0))
+    (getD ns (at + holdAt) 0) (getD ns (at + switchAt) 0))
 kept c =
     limits _ (ap inRange (sym (row-from (c .args .numbers .now) (fieldCount * c .args .i))) ∙ c .pre .1)
 
@@ -104,9 +104,23 @@ cast-t37 c =
     let s = c .before .before .before .before .before .before .before in
     record { fits = omega (arith, kept s .hold .le-high) }
 
+add-t38 : tie.Need-add-t38
+add-t38 c = search needs
+
+mul-t39 : tie.Need-mul-t39
+mul-t39 c = search needs
+
+shared-slice-read-t41 : tie.Need-shared-slice-read-t41
+shared-slice-read-t41 c = search needs
+
+cast-t42 : tie.Need-cast-t42
+cast-t42 c =
+    let s = c .before .before .before .before .before .before .before .before in
+    record { fits = omega (arith, kept s .switch .le-high) }
+
 returns : tie.Need-returns
 returns c =
-    let a = c .before .before .before .before .before .before .before .args in
+    let a = c .before .before .before .before .before .before .before .before .args in
     sym (row-from (a .numbers .now) (fieldCount * a .i))
 
 pub row-at-spec : {M : Type 1} → statement M
@@ -141,4 +155,8 @@ row-at-spec =
     mul-t34
     shared-slice-read-t36
     cast-t37
+    add-t38
+    mul-t39
+    shared-slice-read-t41
+    cast-t42
     returns)

@@ -1,13 +1,16 @@
 -- `tables::lines::row_line` meets its contract: each arm asks for the key, the range and the test at its position.
-use mathlib.Core.Path.{_≡_, _∙_}
+use mathlib.Core.Path.{_≡_, sym, ap, _∙_}
 use Prim.Native.Nat.{ℕ, suc, _≤_, _<_}
 use native.Mathlib.Nat.{le-antisymm, le-of-suc-le-suc}
 use native.Mathlib.Omega.{arith}
 use borrow.Author.Needs.{needs}
+use Rattle.grammars.specs.inside.Answers.{tested}
 use Rattle.grammars.proofs.Answers.{no-test}
-use Rattle.rows.specs.Rows.{taskAt, periodAt, worstAt, bestAt, alphaAt, betaAt, holdAt, fieldCount}
+use Rattle.rows.specs.Rows.{taskAt, periodAt, worstAt, bestAt, alphaAt, betaAt, holdAt, switchAt, fullCost}
 use Rattle.rows.proofs.RowNumbers.{between-at}
-use Rattle.tables.specs.inside.Numbers.{rowStart}
+use Rattle.tables.specs.TableLines.{atMost}
+use Rattle.tables.specs.inside.Numbers.{rowStart, switchIn}
+use Rattle.tables.specs.inside.Stands.{fieldLine}
 use Rattle.tables.proofs.lines.row_line.Statement.{statement}
 use Rattle.tables.proofs.lines.row_line.Tie as tie
 
@@ -15,7 +18,7 @@ use Rattle.tables.proofs.lines.row_line.Tie as tie
 past : (p k : ℕ) → k ≤ p → (p ≡ k → ⊥) → suc k ≤ p
 past p k h n = omega (arith, n)
 
-none-else : (p : ℕ) → p < fieldCount
+none-else : (p : ℕ) → p < switchAt
     → (((((Unit {0} × (p ≡ taskAt → ⊥)) × (p ≡ periodAt → ⊥)) × (p ≡ worstAt → ⊥)) × (p ≡ bestAt → ⊥))
     × (p ≡ alphaAt → ⊥)) × (p ≡ betaAt → ⊥)
     → p ≡ holdAt
@@ -36,17 +39,21 @@ returns-2 c = rw (c .before .before .match .keys2) (c .line-at2 .ensures ∙ no-
 
 returns-3 : tie.Need-returns-3
 returns-3 c =
-    let m = c .before .before .before .before in
+    let m = c .before .before .before .before .before in
     let a = m .before .before .before .args in
-    rw (m .match .keys3, between-at (rowStart (a .count)) (a .numbers .now) worstAt periodAt (omega arith))
-    (rw (c .before .before .line-at3 .ensures) at (c .at-most .ensures))
+    let ns = a .numbers .now in
+    let limit = between-at (rowStart (a .count)) ns worstAt periodAt (omega arith) in
+    let line = fieldLine worstAt (a .text .now) (a .at) (a .line) in
+    rw (m .match .keys3)
+    ((rw (c .before .before .before .line-at3 .ensures) at (c .fits-period .ensures))
+    ∙ ap (λ x. tested (λ v. atMost x (fullCost (switchIn ns) v)) line (a .line)) (sym limit))
 
 returns-4 : tie.Need-returns-4
 returns-4 c =
     let m = c .before .before .before .before in
     let a = m .before .before .before .args in
     rw (m .match .keys4, between-at (rowStart (a .count)) (a .numbers .now) bestAt worstAt (omega arith))
-    (rw (c .before .before .line-at4 .ensures) at (c .at-most2 .ensures))
+    (rw (c .before .before .line-at4 .ensures) at (c .at-most .ensures))
 
 returns-5 : tie.Need-returns-5
 returns-5 c = rw (c .before .before .match .keys5) (c .line-at5 .ensures ∙ no-test _ _)
@@ -60,7 +67,7 @@ returns-7 c =
     let a = m .before .before .before .args in
     let last = none-else (a .position) (m .before .before .before .pre .0 .0) (m .match .rest) in
     rw (last, between-at (rowStart (a .count)) (a .numbers .now) holdAt worstAt (omega arith))
-    (rw (c .before .before .line-at7 .ensures) at (c .at-most3 .ensures))
+    (rw (c .before .before .line-at7 .ensures) at (c .at-most2 .ensures))
 
 pub row-line-spec : {M : Type 1} → statement M
 row-line-spec =
@@ -75,6 +82,7 @@ row-line-spec =
     (λ c κs. search needs)
     (λ c. search needs)
     (λ c κs. search needs)
+    (λ c. search needs)
     (λ c. search needs)
     (λ c. search needs)
     (λ c. search needs)
