@@ -1,5 +1,6 @@
--- Where no job may hold the processor past a tick, the figures are those of document 03, whose definitions stand here
--- as they stand there: a job takes at most the row's worst, and the rows below delay nobody.
+-- Where no job may hold the processor past a tick and a switch costs nothing, the figures are those of document 03,
+-- whose definitions stand here as they stand there: a job takes at most the row's worst, and the rows below delay
+-- nobody.
 use mathlib.Core.Path.{_≡_, refl, ap, ap₂, sym, _∙_}
 use mathlib.Core.Bool.{Bool, true, false, _&&_, not, cond}
 use mathlib.Core.Logic.{inl, inr}
@@ -11,20 +12,20 @@ use borrow.Author.Tests.{ltb-true, ltb-false, eqb-true, eqb-false, leb-true, leb
 use lib.Dec.{eqb, ltb, leb}
 use lib.IntN.{ℤ, pos, negsuc, subℕ}
 use lib.Signed.{leZ}
-use Rattle.rows.specs.Rows as R
 use Rattle.rows.specs.Rows.{timesInRange, allRows}
 use Rattle.rows.specs.declared.Row.{Row}
 use Rattle.rows.proofs.Limits.{times}
 use Rattle.responses.specs.declared.Figures.{Figures}
 use Rattle.responses.specs.Extremes.{largest}
-use Rattle.responses.specs.Interference.{ceiling, leastFixed, largestFixed}
+use Rattle.responses.specs.Interference.{ceiling, interference, leastFixed, largestFixed}
 use Rattle.basics.specs.Basics.{pick}
 use Rattle.basics.proofs.Tests.{test-of}
-use Rattle.responses.specs.Figures.{worstLoad, bestLoad, worstIn, bestIn}
+use Rattle.responses.specs.Figures.{bestLoad, bestIn}
 use Rattle.responses.specs.Figures as F
 use Rattle.responses.proofs.Margins.{not-below-zero}
 use Rattle.responses.proofs.FixedPoints.{demand-mono, least-is, least-none, largest-is}
-use Rattle.responses.specs.Claims.{NoneHolds}
+use Rattle.responses.specs.Claims.{plainLoad, NoneHolds, NoSwitch}
+use Rattle.responses.proofs.Switches.{cost-is}
 use Rattle.responses.proofs.Responses.{responses, limits-times, without-holds}
 
 -- ---- document 03
@@ -73,8 +74,10 @@ abbrev pub isStable : Row → List Row → Bool
 isStable t rs = not (isLate t rs) && leb (cost t rs) (t .beta)
 
 -- ---- sums
-worst-is : (x : ℕ) (rs : List Row) → worstSum x rs ≡ worstIn x rs
-unfolding R.cost
+abbrev plainIn : ℕ → List Row → ℕ
+plainIn x rs = interference 0 x (map plainLoad rs)
+
+worst-is : (x : ℕ) (rs : List Row) → worstSum x rs ≡ plainIn x rs
 worst-is x [] = refl
 worst-is x (r ∷ rs) = ap₂ (λ (k s : ℕ). k * r .worst + s) (sym (sub-zero (ceiling x (r .period)))) (worst-is x rs)
 
@@ -82,33 +85,28 @@ best-is : (x : ℕ) (rs : List Row) → bestSum x rs ≡ bestIn x rs
 best-is x [] = refl
 best-is x (r ∷ rs) = ap (λ (s : ℕ). (ceiling x (r .period) - 1) * r .best + s) (best-is x rs)
 
--- what W's equation adds to the interference
-base-is : (t : Row) → R.cost t ≡ t .worst
-unfolding R.cost
-base-is t = refl
-
 -- ---- the iterations: one step, by its tests
 abbrev step : Bool → Bool → ℕ → ℕ → ℕ
 step past same w next = elim past [ true ↦ 0 | false ↦ elim same [ true ↦ w | false ↦ next ] ]
 
 -- raised from w, which is at most what it takes and every fixed point, W is found
-raised : (t : Row) (rs : List Row) (f w : ℕ) → 1 ≤ w → w ≤ t .worst + worstIn w rs
-    → ((v : ℕ) → 1 ≤ v → v ≡ t .worst + worstIn v rs → v ≤ t .period → w ≤ v)
-    → t .period < f + w → latestFrom f t rs w ≡ leastFixed (t .worst) (t .period) (map worstLoad rs)
+raised : (t : Row) (rs : List Row) (f w : ℕ) → 1 ≤ w → w ≤ t .worst + plainIn w rs
+    → ((v : ℕ) → 1 ≤ v → v ≡ t .worst + plainIn v rs → v ≤ t .period → w ≤ v)
+    → t .period < f + w → latestFrom f t rs w ≡ leastFixed (t .worst) (t .period) (map plainLoad rs)
 raised t rs zero w h k l m =
-    least-none (t .worst) (t .period) (map worstLoad rs) (λ v a e b. omega (arith, l v a e b))
+    least-none (t .worst) (t .period) (map plainLoad rs) (λ v a e b. omega (arith, l v a e b))
 raised t rs (suc f) w h k l m =
     let x = t .worst + worstSum w rs in
     let q = worst-is w rs in
-    let up = demand-mono 0 (t .worst) (map worstLoad rs) in
+    let up = demand-mono 0 (t .worst) (map plainLoad rs) in
     elim (test-of (ltb (t .period) x)) [
       | inl a ↦ ap (λ (b : Bool). step b (eqb x w) w (latestFrom f t rs x)) a
           ∙ (let g = ltb-true (t .period) x a in
-          least-none (t .worst) (t .period) (map worstLoad rs) (λ v n e b. omega (arith, up w v (l v n e b))))
+          least-none (t .worst) (t .period) (map plainLoad rs) (λ v n e b. omega (arith, up w v (l v n e b))))
       | inr a ↦ (let g = ltb-false (t .period) x a in elim (test-of (eqb x w)) [
         | inl c ↦ ap₂ (λ (b d : Bool). step b d w (latestFrom f t rs x)) a c
             ∙ (let i = eqb-true x w c in
-            least-is (t .worst) (t .period) (map worstLoad rs) w h (omega arith) (omega arith) l)
+            least-is (t .worst) (t .period) (map plainLoad rs) w h (omega arith) (omega arith) l)
         | inr c ↦ ap₂ (λ (b d : Bool). step b d w (latestFrom f t rs x)) a c
             ∙ (let i = eqb-false x w c in
             raised t rs f x (omega arith) (omega (arith, up w x (omega arith)))
@@ -146,15 +144,14 @@ less-is a b = elim (test-of (leb b a)) [
 ]
 
 -- ---- figures of rows whose times are in range
-module _ (t : Row) (rs below : List Row) (own : t .hold ≤ 1) (none : NoneHolds below) (ht : timesInRange t ≡ true)
-    (hr : allRows timesInRange rs ≡ true) where
+module _ (t : Row) (rs below : List Row) (own : t .hold ≤ 1) (none : NoneHolds below) (free : t .switch ≡ 0)
+    (others : NoSwitch rs) (ht : timesInRange t ≡ true) (hr : allRows timesInRange rs ≡ true) where
   pub latest-is : latest t rs ≡ F.latest t rs below
-  unfolding R.cost
   latest-is =
       let l = times t ht in
-      raised t rs (suc (t .period)) (t .worst) (omega arith) (omega arith) (λ v a e b. omega arith) (omega arith)
-      ∙ sym (without-holds t rs below own none .latest-then
-      ∙ ap (λ (b : ℕ). leastFixed b (t .period) (map worstLoad rs)) (base-is t))
+      let some : 1 ≤ t .worst = omega (arith, l .best-some, l .best-cost, cost-is t, free) in
+      raised t rs (suc (t .period)) (t .worst) some (omega arith) (λ v a e b. omega arith) (omega arith)
+      ∙ sym (without-holds t rs below own none free others .latest-then)
 
   from-latest : (w : ℕ) → w ≡ F.latest t rs below → earliestFrom w t rs w ≡ largestFixed (t .best) w (map bestLoad rs)
   unfolding largest
@@ -168,18 +165,18 @@ module _ (t : Row) (rs below : List Row) (own : t .hold ≤ 1) (none : NoneHolds
   pub earliest-is : earliest t rs ≡ F.earliest t rs below
   earliest-is = from-latest (latest t rs) latest-is
       ∙ ap (λ (w : ℕ). largestFixed (t .best) w (map bestLoad rs)) latest-is
-      ∙ sym (without-holds t rs below own none .earliest-then)
+      ∙ sym (without-holds t rs below own none free others .earliest-then)
 
-  cost-is : cost t rs ≡ 1000 * F.earliest t rs below + t .alpha * F.jitter t rs below
-  cost-is = ap₂ (λ (w e : ℕ). 1000 * e + t .alpha * (w - e)) latest-is earliest-is
+  spent-is : cost t rs ≡ 1000 * F.earliest t rs below + t .alpha * F.jitter t rs below
+  spent-is = ap₂ (λ (w e : ℕ). 1000 * e + t .alpha * (w - e)) latest-is earliest-is
 
   pub margin-is : margin t rs ≡ F.margin t rs below
-  margin-is = less-is (t .beta) (cost t rs) ∙ ap (subℕ (t .beta)) cost-is
+  margin-is = less-is (t .beta) (cost t rs) ∙ ap (subℕ (t .beta)) spent-is
 
   pub stable-is : isStable t rs ≡ F.isStable t rs below
   stable-is =
       ap₂ (λ (w : ℕ) (b : Bool). not (eqb w 0) && b) latest-is
-      (sym (not-below-zero (t .beta) (cost t rs)) ∙ ap (λ (c : ℕ). leZ (pos 0) (subℕ (t .beta) c)) cost-is)
+      (sym (not-below-zero (t .beta) (cost t rs)) ∙ ap (λ (c : ℕ). leZ (pos 0) (subℕ (t .beta) c)) spent-is)
 
 -- ---- what the call promises: 03's FiguresSay, with the task's range among the rest
 abbrev Say : Bool → Bool → ℕ → ℕ → ℕ → ℤ → Bool → Figures → Type 0
@@ -208,13 +205,13 @@ said true l false w w′ e e′ m m′ s h =
     let g = h refl in
     rw (g .0, g .1, g .2, g .3, g .4) (refl, refl, refl, refl, refl, refl, refl)
 
-pub figures-say : (t : Row) (rs below : List Row) → t .hold ≤ 1 → NoneHolds below
+pub figures-say : (t : Row) (rs below : List Row) → t .hold ≤ 1 → NoneHolds below → t .switch ≡ 0 → NoSwitch rs
     → FiguresSay t rs below (F.figuresOf t rs below)
-figures-say t rs below own none =
+figures-say t rs below own none free others =
     said (F.inLimits t rs below) (isLate t rs) (F.isLate t rs below) (latest t rs) (F.latest t rs below)
     (earliest t rs) (F.earliest t rs below) (margin t rs) (F.margin t rs below) (isStable t rs) (λ ok.
     let h = limits-times t rs below ok in
-    let w = latest-is t rs below own none (h .0) (h .1) in
-    let e = earliest-is t rs below own none (h .0) (h .1) in
-    let m = margin-is t rs below own none (h .0) (h .1) in
-    (ap (λ (x : ℕ). eqb x 0) w, w, e, m, stable-is t rs below own none (h .0) (h .1)))
+    let w = latest-is t rs below own none free others (h .0) (h .1) in
+    let e = earliest-is t rs below own none free others (h .0) (h .1) in
+    let m = margin-is t rs below own none free others (h .0) (h .1) in
+    (ap (λ (x : ℕ). eqb x 0) w, w, e, m, stable-is t rs below own none free others (h .0) (h .1)))

@@ -21,10 +21,11 @@ use Rattle.responses.specs.Interference.{ceiling, leastFixed, largestFix
 use Rattle.responses.specs.Figures.{worstLoad, bestLoad, worstIn, bestIn, blocking, latest, isLate, earliest}
 use Rattle.responses.specs.Figures.{isStable, marginAt, margin, lateFigures, figuresAt, figuresUnder}
 use Rattle.responses.specs.Figures.{leastHold, mayHold, maxOthers, inLimits}
-use Rattle.responses.specs.Claims.{spent, Figured, WithoutHolds, Demand-2}
+use Rattle.responses.specs.Claims.{spent, Figured, plainLoad, WithoutHolds, Demand-2}
 use Rattle.responses.proofs.Sums.{rounds-up}
 use Rattle.responses.proofs.Margins.{sub-is, not-below-zero}
 use Rattle.responses.proofs.Blocking.{blocks, no-blocking}
+use Rattle.responses.proofs.Switches.{by-numbers, without-switch, switch-grows}
 use Rattle.responses.proofs.FixedPoints.{least-fixed, least-least, largest-fixed, largest-above}
 
 best-in-worst : (x : ℕ) (rs : List Row) → allRows timesInRange rs ≡ true → bestIn x rs ≤ worstIn x rs
@@ -132,17 +133,25 @@ figured t above below ht ha = record {
     known : 1 ≤ latest t above below → Responses t above below
     known = responses t above below ht ha
 
--- ---- where no hold counts
+-- ---- where neither a hold nor a switch counts
 pub without-holds : WithoutHolds
-without-holds t above below own none = record {
+without-holds t above below own none unswitched others = record {
   latest-then =
-      let base : cost t + blocking below ≡ cost t = omega (arith, no-blocking below none) in
-      ap (λ (b : ℕ). leastFixed b (t .period) (map worstLoad above)) base;
+      let base : t .worst + blocking below ≡ t .worst = omega (arith, no-blocking below none) in
+      without-switch t above below unswitched others .latest-then
+      ∙ ap (λ (b : ℕ). leastFixed b (t .period) (map plainLoad above)) base;
   earliest-then = earliest-formula t above below own;
 }
 
 pub demand-2 : Demand-2
-demand-2 = record { rounds-up = rounds-up; figured = figured; without-holds = without-holds }
+demand-2 = record {
+  rounds-up = rounds-up;
+  figured = figured;
+  by-numbers = by-numbers;
+  without-switch = without-switch;
+  without-holds = without-holds;
+  switch-grows = switch-grows;
+}
 
 -- ---- a row's figures as one answer
 module _ (t : Row) (above below : List Row) where

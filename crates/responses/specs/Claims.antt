@@ -1,18 +1,20 @@
 -- What is claimed of the figures: they are those of the published formulas (demand 2), the rows above and below count
--- as sets, those below by their blocking time alone; and where no job may hold the processor past a tick, they are
--- document 01's.
+-- as sets, those below by their blocking time alone; the switch counts beside each `worst` and nowhere else, and W never
+-- falls when it grows; where it is 0 they are those before it, and where no job may hold the processor past a tick
+-- either, document 01's.
 use mathlib.Core.Path.{_≡_}
 use mathlib.Core.Bool.{true, false}
 use mathlib.Core.List.{List, map, Perm}
 use Prim.Native.Nat.{ℕ, _+_, _*_, _≤_, _<_}
 use lib.ListN.{length}
 use lib.IntN.{pos, _-ℤ_}
-use Rattle.rows.specs.Rows.{cost, rowAt, timesInRange, allRows}
+use Rattle.basics.specs.Basics.{pick}
+use Rattle.rows.specs.Rows.{cost, rowAt, withSwitch, timesInRange, allRows}
 use Rattle.rows.specs.declared.Row.{Row}
 use Rattle.responses.specs.declared.Figures.{Figures}
-use Rattle.responses.specs.Interference.{ceiling, leastFixed, largestFixed}
-use Rattle.responses.specs.Figures.{worstLoad, bestLoad, worstIn, bestIn, blocking, latest, isLate}
-use Rattle.responses.specs.Figures.{earliest, jitter}
+use Rattle.responses.specs.Interference.{Load, load, ceiling, leastFixed, largestFixed}
+use Rattle.responses.specs.Figures.{bestLoad, worstIn, bestIn, blocking, latest, isLate}
+use Rattle.responses.specs.Figures.{mayHold, earliest, jitter}
 use Rattle.responses.specs.Figures.{margin, isStable, inLimits, figuresOf}
 
 -- k is a / p rounded up: the fewest periods that cover a
@@ -84,9 +86,37 @@ ByBlocking =
     (t : Row) (above below below′ : List Row) → blocking below ≡ blocking below′
     → SameFigures t above above below below′
 
+-- ---- W and E by the numbers of the rows: the switch stands beside each `worst`, and nowhere else
+abbrev pub switchedLoad : Row → Load
+switchedLoad r = load (r .period) (r .worst + r .switch)
+
+pub record ByNumbers (t : Row) (above below : List Row) : Type 0 where
+  pub latest-by :
+      latest t above below ≡ leastFixed (t .worst + t .switch + blocking below) (t .period) (map switchedLoad above)
+  pub earliest-by :
+      earliest t above below
+      ≡ pick (mayHold t) (t .best)
+      (largestFixed (t .best) (latest t above below) (map (λ r. load (r .period) (r .best)) above))
+
+-- ---- where a switch costs nothing: the figures as request 2 has them
+abbrev pub plainLoad : Row → Load
+plainLoad r = load (r .period) (r .worst)
+
+pub record AsRequest2 (t : Row) (above below : List Row) : Type 0 where
+  pub latest-then : latest t above below ≡ leastFixed (t .worst + blocking below) (t .period) (map plainLoad above)
+  pub earliest-then :
+      earliest t above below
+      ≡ pick (mayHold t) (t .best) (largestFixed (t .best) (latest t above below) (map bestLoad above))
+
+abbrev pub NoSwitch : List Row → Type 0
+NoSwitch rows = (i : ℕ) → i < length rows → rowAt rows i .switch ≡ 0
+
+abbrev pub WithoutSwitch : Type 0
+WithoutSwitch = (t : Row) (above below : List Row) → t .switch ≡ 0 → NoSwitch above → AsRequest2 t above below
+
 -- ---- document 01's figures: no task is delayed by those below it, and E is that of its equation for every task
 pub record AsDocument01 (t : Row) (above below : List Row) : Type 0 where
-  pub latest-then : latest t above below ≡ leastFixed (cost t) (t .period) (map worstLoad above)
+  pub latest-then : latest t above below ≡ leastFixed (t .worst) (t .period) (map plainLoad above)
   pub earliest-then :
       earliest t above below ≡ largestFixed (t .best) (latest t above below) (map bestLoad above)
 
@@ -94,22 +124,51 @@ pub record AsDocument01 (t : Row) (above below : List Row) : Type 0 where
 abbrev pub NoneHolds : List Row → Type 0
 NoneHolds rows = (i : ℕ) → i < length rows → rowAt rows i .hold ≤ 1
 
--- where no hold counts, they are these
+-- where neither a hold nor a switch counts, they are these
 abbrev pub WithoutHolds : Type 0
-WithoutHolds = (t : Row) (above below : List Row) → t .hold ≤ 1 → NoneHolds below → AsDocument01 t above below
+WithoutHolds =
+    (t : Row) (above below : List Row) → t .hold ≤ 1 → NoneHolds below
+    → t .switch ≡ 0 → NoSwitch above → AsDocument01 t above below
+
+-- ---- under a switch that is no less a late task stays late, and W does not fall
+abbrev pub switched : ℕ → List Row → List Row
+switched s rows = map (withSwitch s) rows
+
+pub record Grows (t : Row) (above below : List Row) (s : ℕ) : Type 0 where
+  pub late-stays :
+      isLate t above below ≡ true → isLate (withSwitch s t) (switched s above) (switched s below) ≡ true
+  pub latest-grows :
+      isLate (withSwitch s t) (switched s above) (switched s below) ≡ false
+      → latest t above below ≤ latest (withSwitch s t) (switched s above) (switched s below)
+
+-- no row has a greater switch
+abbrev pub SwitchUpTo : ℕ → List Row → Type 0
+SwitchUpTo s rows = (i : ℕ) → i < length rows → rowAt rows i .switch ≤ s
+
+abbrev pub SwitchGrows : Type 0
+SwitchGrows =
+    (t : Row) (above below : List Row) (s : ℕ) → timesInRange t ≡ true
+    → t .switch ≤ s → SwitchUpTo s above → Grows t above below s
 
 pub record Demand-2 : Type 0 where
   pub rounds-up : (a p : ℕ) → 1 ≤ p → RoundsUp a p (ceiling a p)
   pub figured :
       (t : Row) (above below : List Row)
       → timesInRange t ≡ true → allRows timesInRange above ≡ true → Figured t above below
+  pub by-numbers : (t : Row) (above below : List Row) → ByNumbers t above below
+  pub without-switch : WithoutSwitch
   pub without-holds : WithoutHolds
+  pub switch-grows : SwitchGrows
 
 -- ---- what a call that answers a row's figures promises
 pub record FiguresSay (t : Row) (above below : List Row) (x : Figures) : Type 0 where
   pub answer : x ≡ figuresOf t above below
   -- demand 2, of these very rows
   pub by-formulas : inLimits t above below ≡ true → Figured t above below
+  pub by-numbers : ByNumbers t above below
+  -- no W falls under a greater switch
+  pub switch-grows :
+      inLimits t above below ≡ true → (s : ℕ) → t .switch ≤ s → SwitchUpTo s above → Grows t above below s
   -- not by the sequence of the rows
   pub any-sequence :
       (above′ below′ : List Row) → Perm above above′ → Perm below below′ → x ≡ figuresOf t above′ below′
