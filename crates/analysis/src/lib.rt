@@ -5,7 +5,7 @@ ghost use mathlib.Core.Bool.{true};
 ghost use Prim.Native.Nat.{suc, _+_, _-_, _*_, _≤_, _<_};
 ghost use lib.ListN.{length, take, drop};
 ghost use Rattle.basics.specs.Basics.{pick};
-ghost use Rattle.rows.specs.Rows.{maxTicks, fieldCount, inRange};
+ghost use Rattle.rows.specs.Rows.{maxTicks, fieldCount, inRange, timesInRange};
 ghost use Rattle.responses.specs.Interference.{ceiling, interference, leastFixed, largestFixed};
 ghost use Rattle.responses.specs.Figures.{blocking, mayHold, marginAt, lateFigures};
 ghost use Rattle.rows.specs.inside.Numbers.{rowIn, rowsIn};
@@ -143,8 +143,8 @@ pub fn blocking_from(rows: &[u64], positions: &[usize], from: usize, n: usize) -
 
 // The times of row i, the numbers of it that figures take, are put at index k of three columns of n numbers.
 pub fn put_times(rows: &[u64], i: usize, columns: &mut [u64], n: usize, k: usize)
-    requires { ⌜ (fieldCount * suc i ≤ length (now rows)) × (k < n) × (n ≤ columnsMax)
-        × (3 * n ≤ length (now columns)) ⌝ }
+    requires { ⌜ (fieldCount * suc i ≤ length (now rows)) × (timesInRange (rowIn (now rows) i) ≡ true)
+        × (k < n) × (n ≤ columnsMax) × (3 * n ≤ length (now columns)) ⌝ }
     ensures { λ _. ⌜ now (columns .exit) ≡ withTimes (now (columns .entry)) n k (rowIn (now (rows .entry)) i) ⌝ }
 {
     let at = FIELDS * i;

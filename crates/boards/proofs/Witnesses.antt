@@ -1,4 +1,4 @@
--- Runs that meet the conditions of the claims, and runs past the figures that count no hold, by computing.
+-- Runs that meet the conditions of the claims, and runs past the figures that count no hold or no switch, by computing.
 use mathlib.Core.Path.{_≡_, refl}
 use mathlib.Core.Bool.{true, false}
 use mathlib.Core.List.{List, [], _∷_}
@@ -15,8 +15,8 @@ use Rattle.responses.specs.Figures.{rowsAbove, rowsBelow, blocking, isLate}
 use Rattle.responses.specs.Claims.{NoneHolds}
 use Rattle.boards.specs.Claims.{LastsInRange, NoneLate}
 use Rattle.boards.specs.Runs.{boardGoesTo}
-use Rattle.boards.specs.Witnesses.{withHolds, exampleOrder, heldOrder, atOnce, lasting, never}
-use Rattle.boards.specs.Witnesses.{RunsMet, HoldsCount}
+use Rattle.boards.specs.Witnesses.{withHolds, exampleOrder, heldOrder, switchedOrder, atOnce, lasting}
+use Rattle.boards.specs.Witnesses.{never, RunsMet, HoldsCount, SwitchCounts}
 
 -- of three ranks, each
 each : (P : ℕ → Type 0) → P 0 → P 1 → P 2 → (i : ℕ) → i < 3 → P i
@@ -103,4 +103,38 @@ holds-count = record {
   middle-latest = refl;
   middle-reached = refl;
   one-is-none = no-hold 1 1 (omega arith) (omega arith);
+}
+
+-- ---- under a switch
+in-time-switched : NoneLate switchedOrder
+unfolding smallest cost blocking
+in-time-switched = each (InTime switchedOrder) refl refl refl
+
+lasts-under : (a b c : ℕ) → (2 ≤ a) × (a ≤ 3) → (6 ≤ b) × (b ≤ 7) → (17 ≤ c) × (c ≤ 20)
+    → LastsInRange switchedOrder (lasting (a ∷ b ∷ c ∷ []))
+unfolding cost
+lasts-under a b c first second third i k l =
+    each (λ i. (rowAt switchedOrder i .best ≤ lasting (a ∷ b ∷ c ∷ []) i k)
+    × (lasting (a ∷ b ∷ c ∷ []) i k ≤ cost (rowAt switchedOrder i)))
+    first second third i l
+
+too-long : LastsInRange switchedOrder (lasting (3 ∷ 7 ∷ 21 ∷ [])) → ⊥
+unfolding cost
+too-long h = omega (arith, h 2 0 (omega arith) .1)
+
+pub switch-counts : SwitchCounts
+unfolding smallest largest cost blocking
+switch-counts = record {
+  none-late = in-time-switched;
+  latest-is = refl;
+  latest-without = refl;
+  lasts-latest =
+      lasts-under 3 7 20 (omega arith, omega arith) (omega arith, omega arith) (omega arith, omega arith);
+  latest-reached = refl;
+  earliest-is = refl;
+  held-early = λ j l. omega arith;
+  lasts-earliest =
+      lasts-under 2 6 17 (omega arith, omega arith) (omega arith, omega arith) (omega arith, omega arith);
+  earliest-reached = refl;
+  no-longer = too-long;
 }

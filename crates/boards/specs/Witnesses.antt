@@ -1,5 +1,5 @@
 -- Nothing is claimed of runs in vain: runs that meet each condition of a claim, of an order of document 01's example;
--- and with holds, runs past the figures that count none.
+-- with holds, runs past the figures that count none; and with a switch, a run past those that count none.
 use mathlib.Core.Path.{_≡_}
 use mathlib.Core.Bool.{Bool, true, false}
 use mathlib.Core.List.{List, [], _∷_, map}
@@ -12,14 +12,14 @@ use Rattle.rows.specs.Rows.{row, timesInRange, allRows, rowAt, cost}
 use Rattle.rows.specs.declared.Row.{Row}
 use Rattle.responses.specs.Interference.{leastFixed, largestFixed}
 use Rattle.responses.specs.Figures.{rowsAbove, worstLoad, bestLoad}
-use Rattle.responses.specs.Claims.{NoneHolds}
+use Rattle.responses.specs.Claims.{NoneHolds, switched}
 use Rattle.boards.specs.Claims.{LastsInRange, Finishes, AfterFirstReleases, latestAt, earliestAt, NoneLate}
 use Rattle.boards.specs.Runs.{boardGoesTo}
 
 -- the rows of document 01's example, with holds of the middle rank and of the lowest
 abbrev pub withHolds : ℕ → ℕ → List Row
 withHolds middle lowest =
-    row 12 18 2 2 1000 8000 0 ∷ row 11 24 6 6 1000 8000 middle ∷ row 13 200 19 17 3000 57000 lowest ∷ []
+    row 12 18 2 2 1000 8000 0 0 ∷ row 11 24 6 6 1000 8000 middle 0 ∷ row 13 200 19 17 3000 57000 lowest 0 ∷ []
 
 abbrev pub exampleOrder : List Row
 exampleOrder = withHolds 0 0
@@ -97,3 +97,23 @@ pub record HoldsCount : Type 0 where
   pub middle-reached : Finishes (withHolds 5 0) (aheadFrom 1) (lasting (2 ∷ 6 ∷ 19 ∷ [])) always 0 1 7
   -- a hold of 1 is none
   pub one-is-none : NoneHolds (withHolds 1 1)
+
+-- ---- each switch takes a tick
+abbrev pub switchedOrder : List Row
+switchedOrder = switched 1 exampleOrder
+
+pub record SwitchCounts : Type 0 where
+  pub none-late : NoneLate switchedOrder
+  -- the latest response of the lowest rank is 43, where it is 35 without the switch; in a run in which every job takes
+  -- its worst and a tick, one takes 43
+  pub latest-is : latestAt switchedOrder 2 ≡ 43
+  pub latest-without : latestAt exampleOrder 2 ≡ 35
+  pub lasts-latest : LastsInRange switchedOrder (lasting (3 ∷ 7 ∷ 20 ∷ []))
+  pub latest-reached : Finishes switchedOrder atOnce (lasting (3 ∷ 7 ∷ 20 ∷ [])) never 2 0 43
+  -- a job may take its best as before, and so the earliest response is 25 still, and reached
+  pub earliest-is : earliestAt switchedOrder 2 ≡ 25
+  pub held-early : AfterFirstReleases switchedOrder atOnce 2 200
+  pub lasts-earliest : LastsInRange switchedOrder (lasting (2 ∷ 6 ∷ 17 ∷ []))
+  pub earliest-reached : Finishes switchedOrder atOnce (lasting (2 ∷ 6 ∷ 17 ∷ [])) never 2 200 225
+  -- no job lasts longer
+  pub no-longer : LastsInRange switchedOrder (lasting (3 ∷ 7 ∷ 21 ∷ [])) → ⊥

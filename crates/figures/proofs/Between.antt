@@ -20,6 +20,7 @@ use Rattle.responses.specs.Figures.{maxOthers, inLimits, figuresUnder, noFigure
 use Rattle.responses.specs.Claims.{FiguresSay}
 use Rattle.responses.specs.declared.Figures.{Figures}
 use Rattle.responses.proofs.Responses.{limits-times, figured}
+use Rattle.responses.proofs.Switches.{by-numbers, switch-grows}
 use Rattle.responses.proofs.Sequences.{figures-permuted, figures-below}
 
 -- ---- few enough
@@ -97,6 +98,8 @@ pub say : (t : Row) (above below : List Row) (us us′ ls ls′ : List ℕ) (x :
 say t above below us us′ ls ls′ x upper put lower put′ e = record {
   answer = is;
   by-formulas = λ h. let k = limits-times t above below h in figured t above below (k .0) (k .1);
+  by-numbers = by-numbers t above below;
+  switch-grows = λ h s own others. switch-grows t above below s (limits-times t above below h .0) own others;
   any-sequence = λ above′ below′ p q. is ∙ figures-permuted t p q;
   by-blocking = λ below′ b h. is ∙ figures-below t above below below′ b h;
 }

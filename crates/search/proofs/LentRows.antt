@@ -6,8 +6,9 @@ use mathlib.Core.List.{List}
 use Prim.Native.Nat.{ℕ, suc, _*_, _^_, _≤_, _<_}
 use native.Mathlib.Omega.{arith}
 use lib.ListN.{length}
-use Rattle.rows.specs.Rows.{fieldCount, inRange}
+use Rattle.rows.specs.Rows.{fieldCount, inRange, timesInRange}
 use Rattle.rows.specs.inside.Numbers.{rowsOf, rowIn}
+use Rattle.rows.proofs.Limits.{in-range-times}
 use Rattle.rows.proofs.RowNumbers.{rows-length, row-ranged}
 use Rattle.search.specs.inside.Sets.{unknown}
 use Rattle.search.specs.inside.Search.{Lent}
@@ -27,3 +28,6 @@ module _ {n : ℕ} {ns : List ℕ} (l : Lent n ns) where
 
   pub ranged : (i : ℕ) → i < n → inRange (rowIn ns i) ≡ true
   ranged i h = row-ranged ns n i h (l .table .in-range)
+
+  pub times-ranged : (i : ℕ) → i < n → timesInRange (rowIn ns i) ≡ true
+  times-ranged i h = in-range-times (rowIn ns i) (ranged i h)

@@ -40,7 +40,7 @@ put-times-requires c κs =
     let s = c .before .before .before .before .before .before .before in
     let x = c .before .before .before .loop in
     let t = c .before .before .loop-test .taken in
-    (s .pre .held .rows-held (x .k) t, t, s .pre .few, x .inv .1 .room)
+    (s .pre .held .rows-held (x .k) t, s .pre .times-in-range (x .k) t, t, s .pre .few, x .inv .1 .room)
 
 add-k : tie.Need-add-k Inv-loop μ-loop
 add-k c =

@@ -6,6 +6,7 @@ use lib.ListN.{getD, set, length-set}
 use Rattle.rows.specs.Rows.{periodAt, fieldCount, cost}
 use Rattle.rows.specs.declared.Row.{Row}
 use Rattle.rows.specs.inside.Numbers.{rowIn}
+use Rattle.rows.proofs.Limits.{times}
 use Rattle.rows.proofs.RowNumbers.{row-from}
 use borrow.Author.Needs.{needs}
 use Rattle.analysis.proofs.put_times.Statement.{statement}
@@ -30,7 +31,10 @@ slice-write-columns : tie.Need-slice-write-columns
 slice-write-columns c = search needs
 
 cost-at-requires : tie.Need-cost-at-requires
-cost-at-requires c κs = search needs
+cost-at-requires c κs =
+    let s = c .before .before .before in
+    let h = times (rowIn (s .args .rows .now) (s .args .i)) (s .pre .1) in
+    (s .pre .0, omega (arith, h .cost-period, h .period-max))
 
 add-columns-2 : tie.Need-add-columns-2
 add-columns-2 c = search needs

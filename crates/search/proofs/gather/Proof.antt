@@ -7,7 +7,7 @@ use lib.ListN.{length}
 use Rattle.rows.specs.inside.Numbers.{rowsOf}
 use Rattle.rows.proofs.RowNumbers.{rows-length, rows-at}
 use Rattle.analysis.specs.inside.Columns.{withTimes}
-use Rattle.search.proofs.LentRows.{row-held}
+use Rattle.search.proofs.LentRows.{row-held, times-ranged}
 use Rattle.search.proofs.Gathering.{Gathering, gathering-none, gathering-next, gathered}
 use Rattle.search.proofs.gather.Statement.{statement}
 use Rattle.search.proofs.gather.Tie as tie
@@ -33,6 +33,7 @@ put-times-requires c κs =
     let x = c .before .before .loop in
     let more = c .before .loop-test .taken in (
       row-held (s .pre .0) (x .j) more,
+      times-ranged (s .pre .0) (x .j) more,
       omega (arith, x .inv .0 .few, more),
       omega (arith, s .pre .0 .few),
       omega (arith, s .pre .1, x .inv .1),
