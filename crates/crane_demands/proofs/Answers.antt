@@ -17,9 +17,10 @@ use Rattle.grammars.specs.Forms.{size}
 use Rattle.grammars.specs.Reasons.{Passes, Reaches, begin, line}
 use Rattle.grammars.proofs.Naturals.{natural-passes}
 use Rattle.grammars.proofs.Steps.{no-line}
-use Rattle.rows.specs.Rows.{minTasks, maxTasks, fieldCount, rowOf}
+use Rattle.rows.specs.Rows.{minTasks, maxTasks, switchAt, rowOf}
 use Rattle.rows.specs.declared.Row.{Row}
-use Rattle.tables.specs.TableLines.{Stage, at-board, at-tasks, at-field, at-rank, at-end, rowsStage, after, table, readTable}
+use Rattle.tables.specs.TableLines.{Stage, at-board, at-tasks, at-switch, at-field, at-rank, at-end, rowsStage, after}
+use Rattle.tables.specs.TableLines.{table, readTable}
 use Rattle.tables.specs.Claims.{Fails}
 use Rattle.tables.proofs.Refusals.{unranked-small}
 use Rattle.orders.specs.Stability.{chosenOrder}
@@ -37,35 +38,37 @@ use Rattle.crane_demands.specs.Calls.{answers}
 -- ---- lines
 -- the most lines of a table, with one too many
 abbrev mostLines : ℕ
-mostLines = 3 + maxTasks * fieldCount
+mostLines = 4 + maxTasks * switchAt
 
 -- line k may be the one that a stage expects
 abbrev pub Early : ℕ → Stage → Type 0
 Early k at-board = k ≤ 1
 Early k (at-tasks b) = k ≤ 2
-Early k (at-field n b rs vs) = (length vs < fieldCount) × (k + suc n * fieldCount ≤ mostLines + length vs)
+Early k (at-switch n b) = (k ≤ 3) × (n ≤ maxTasks)
+Early k (at-field n b s rs vs) = (length vs < switchAt) × (k + suc n * switchAt ≤ mostLines + length vs)
 Early k (at-rank n b rs os) = ⊥
 Early k (at-end b rs os) = k ≤ mostLines
 
-rows-early : (n k b : ℕ) (rs : List Row) → k + n * fieldCount ≤ mostLines → Early k (rowsStage false n b rs)
-rows-early zero k b rs h = omega arith
-rows-early (suc n) k b rs h = (omega arith, omega arith)
+rows-early : (n k b s : ℕ) (rs : List Row) → k + n * switchAt ≤ mostLines → Early k (rowsStage false n b s rs)
+rows-early zero k b s rs h = omega arith
+rows-early (suc n) k b s rs h = (omega arith, omega arith)
 
 after-early : (k : ℕ) (st : Stage) (key : List ℕ) (z : ℤ) → Passes (table false) st key z → Early k st
     → Early (suc k) (after false st (size z))
 after-early k at-board key z p h = omega arith
 after-early k (at-tasks b) key z p h =
     let few = natural-passes p (bytes "tasks=") minTasks maxTasks refl .le-high in
-    rows-early (size z) (suc k) b [] (omega (arith, few))
-after-early k (at-field n b rs vs) key z p h =
+    (omega arith, few)
+after-early k (at-switch n b) key z p h = rows-early n (suc k) b (size z) [] (omega (arith, h .0, h .1))
+after-early k (at-field n b s rs vs) key z p h =
     let more = vs ++ (size z ∷ []) in
     let long = length-append vs (size z ∷ []) in
-    elim (test-of (eqb (length more) fieldCount)) [
+    elim (test-of (eqb (length more) switchAt)) [
       | inl t ↦
-          let whole = eqb-true (length more) fieldCount t in
-          rw t (rows-early n (suc k) b (rs ++ (rowOf more ∷ [])) (omega (arith, h .1, whole, long)))
+          let whole = eqb-true (length more) switchAt t in
+          rw t (rows-early n (suc k) b s (rs ++ (rowOf (more ++ (s ∷ [])) ∷ [])) (omega (arith, h .1, whole, long)))
       | inr t ↦
-          let short = eqb-false (length more) fieldCount t in
+          let short = eqb-false (length more) switchAt t in
           rw t (omega (arith, h .0, long, short), omega (arith, h .1, long))
     ]
 after-early k (at-rank n b rs os) key z p h = absurd h
@@ -79,7 +82,8 @@ reached (line {k = k} {s = st} key z rest r p is) = after-early k st key z p (re
 early-small : (k : ℕ) (st : Stage) → Early k st → k ≤ mostLines
 early-small k at-board h = omega arith
 early-small k (at-tasks b) h = omega arith
-early-small k (at-field n b rs vs) h = omega (arith, h .0, h .1)
+early-small k (at-switch n b) h = omega (arith, h .0)
+early-small k (at-field n b s rs vs) h = omega (arith, h .0, h .1)
 early-small k (at-rank n b rs os) h = absurd h
 early-small k (at-end b rs os) h = h
 

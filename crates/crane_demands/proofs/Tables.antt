@@ -15,9 +15,9 @@ use Rattle.grammars.specs.Grammars.{a-line, keyIn}
 use Rattle.grammars.specs.Forms.{Form}
 use Rattle.grammars.specs.Reasons.{Passes, Reaches, begin, line}
 use Rattle.grammars.proofs.Steps.{no-line}
-use Rattle.rows.specs.Rows.{fieldCount}
+use Rattle.rows.specs.Rows.{switchAt}
 use Rattle.tables.specs.TableLines.{rowLineAt}
-use Rattle.tables.specs.TableLines.{Stage, at-board, at-tasks, at-field, at-rank, at-end, table, readTable}
+use Rattle.tables.specs.TableLines.{Stage, at-board, at-tasks, at-switch, at-field, at-rank, at-end, table, readTable}
 use Rattle.tables.proofs.Keys.{table-plain}
 use Rattle.tables.proofs.Readings.{read}
 use Rattle.tables.proofs.RowLines.{at-within}
@@ -35,7 +35,8 @@ data Kind (s : Stage) (key : List ℕ) : Type 0 where
 abbrev isFirst : Stage → Bool
 isFirst at-board = true
 isFirst (at-tasks b) = false
-isFirst (at-field n b rs vs) = false
+isFirst (at-switch n b) = false
+isFirst (at-field n b s rs vs) = false
 isFirst (at-rank n b rs os) = false
 isFirst (at-end b rs os) = false
 
@@ -45,7 +46,7 @@ not-first h e = true-not-false true refl (sym (ap isFirst e) ∙ h)
 expected-key : {key lock : List ℕ} {form lockForm : Form} → a-line key form ≡ a-line lock lockForm → key ≡ lock
 expected-key e = cc
 
-field-differs : (i : ℕ) → i < fieldCount → (more : List ℕ) → begins boardKey (rowLineAt i .key ++ more) ≡ false
+field-differs : (i : ℕ) → i < switchAt → (more : List ℕ) → begins boardKey (rowLineAt i .key ++ more) ≡ false
 field-differs = at-within (λ l. (more : List ℕ) → begins boardKey (l .key ++ more) ≡ false)
     (λ s. refl, (λ s. refl, (λ s. refl, (λ s. refl, (λ s. refl, (λ s. refl, (λ s. refl, tt)))))))
 
@@ -54,7 +55,10 @@ kind k at-board key z p h = first refl (expected-key (sym (p .is-expected)))
 kind k (at-tasks b) key z p h =
     let is = expected-key (sym (p .is-expected)) in
     later (not-first refl) (λ more. ap (λ l. begins boardKey (l ++ more)) is)
-kind k (at-field n b rs vs) key z p h =
+kind k (at-switch n b) key z p h =
+    let is = expected-key (sym (p .is-expected)) in
+    later (not-first refl) (λ more. ap (λ l. begins boardKey (l ++ more)) is)
+kind k (at-field n b s rs vs) key z p h =
     let is = expected-key (sym (p .is-expected)) in
     later (not-first refl) (λ more. ap (λ l. begins boardKey (l ++ more)) is ∙ field-differs (length vs) (h .0) more)
 kind k (at-rank n b rs os) key z p h = absurd h

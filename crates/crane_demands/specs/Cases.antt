@@ -82,5 +82,5 @@ cranes =
     ∷ call (lined ("x" ∷ []) ++ one ++ one) 168 (writes (noBoardRefusal ++ onePlan ++ onePlan))
     ∷ call (lined ("x" ∷ []) ++ one ++ one) 167 (refuses 9 0)
     ∷ prints (one ++ one) (onePlan ++ onePlan)
-    ∷ prints (one ++ lined ("x" ∷ []) ++ one) (lined ("plan=0" ∷ "refusal=1" ∷ "line=10" ∷ []) ++ onePlan)
+    ∷ prints (one ++ lined ("x" ∷ []) ++ one) (lined ("plan=0" ∷ "refusal=1" ∷ "line=11" ∷ []) ++ onePlan)
     ∷ []

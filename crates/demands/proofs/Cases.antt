@@ -10,7 +10,7 @@ use Rattle.text.specs.Lines.{numberOf, lineAt}
 use Rattle.grammars.specs.Forms.{formAt}
 use Rattle.grammars.specs.Grammars.{readFor}
 use Rattle.tables.specs.TableLines.{readTable}
-use Rattle.rows.specs.Rows.{cost}
+use Rattle.rows.specs.Rows.{cost, withSwitch}
 use Rattle.rows.specs.declared.Row.{Row}
 use Rattle.responses.specs.Extremes.{smallest, largest}
 use Rattle.responses.specs.Figures.{blocking, isLate}
@@ -22,6 +22,7 @@ use Rattle.plans.specs.Plans.{rankText, headText, planText, refusalText}
 use Rattle.plans.specs.Outcomes.{fitted, ifInTime}
 use Rattle.demands.specs.Calls.{onTable, ifOrdered}
 use Rattle.demands.specs.Cases.{HasFigures, AllSo, row11, row12, row13, starred, unstarred, ofTasks, ofHolds}
+use Rattle.demands.specs.Cases.{ofSwitch}
 
 -- the rows below count by their blocking time, which is that of none
 none-blocks : (below : List Row) → NoneHolds below → blocking below ≡ blocking []
@@ -87,6 +88,27 @@ holds-so = (
       (
         (refl, refl, refl, refl, refl),
         ((refl, refl, refl, refl, refl), (refl, (refl, (refl, (refl, tt))))),
+      ),
+    ),
+  ),
+)
+
+pub switch-so : AllSo ofSwitch
+unfolding digits decimal signed keyLine numberOf lineAt formAt readFor readTable
+    cost blocking smallest largest overSet rankText headText planText refusalText fitted onTable ifOrdered
+switch-so = (
+  over (withSwitch 5 (row13 57000)) [] (refl, refl, refl, refl, refl),
+  (
+    over (withSwitch 1 (row13 57000)) (withSwitch 1 (row12 8000) ∷ []) (refl, refl, refl, refl, refl),
+    (
+      over (withSwitch 1 (row13 57000)) (withSwitch 1 (row11 8000) ∷ withSwitch 1 (row12 8000) ∷ [])
+          (refl, refl, refl, refl, refl),
+      (
+        (refl, refl, refl, refl, refl),
+        (
+          late-over (withSwitch 6 (row12 8000)) (withSwitch 6 (row11 8000) ∷ []) refl,
+          (refl, (refl, (refl, (refl, (refl, (refl, (refl, (refl, (refl, (refl, (refl, (refl, (refl, tt))))))))))))),
+        ),
       ),
     ),
   ),

@@ -1,17 +1,19 @@
 -- An order of rows in range in which no task is late: its plan's entries are the figures of its rows between the rows
 -- above and below them, by the formulas, and every board keeps them.
-use mathlib.Core.Path.{_≡_, ap, _∙_}
+use mathlib.Core.Path.{_≡_, sym, ap, _∙_, subst}
 use mathlib.Core.Bool.{Bool, true}
 use mathlib.Core.List.{List, [], Perm}
-use Prim.Native.Nat.{ℕ, suc, _<_}
+use Prim.Native.Nat.{ℕ, suc, _≤_, _<_}
 use native.Mathlib.Omega.{arith}
-use lib.ListN.{length}
-use Rattle.rows.specs.Rows.{inRange, timesInRange, allRows, rowAt}
+use lib.ListN.{length, take, length-take}
+use lib.Seq.{getD-take}
+use Rattle.rows.specs.Rows.{inRange, timesInRange, allRows, rowAt, noRow}
 use Rattle.rows.specs.declared.Row.{Row}
 use Rattle.rows.proofs.Limits.{all-times, at-passes, front-passes}
 use Rattle.responses.specs.Figures.{rowsAbove, rowsBelow}
-use Rattle.responses.specs.Claims.{Figured, AsDocument01, NoneHolds}
+use Rattle.responses.specs.Claims.{Figured, AsRequest2, AsDocument01, NoSwitch, NoneHolds, SwitchUpTo, Grows}
 use Rattle.responses.proofs.Responses.{figured, without-holds}
+use Rattle.responses.proofs.Switches.{by-numbers, without-switch, switch-grows}
 use Rattle.responses.proofs.Sequences.{by-set}
 use Rattle.responses.proofs.Blocking.{rest-holds}
 use Rattle.boards.specs.Claims.{LastsInRange, Kept, latestAt, earliestAt, NoneLate}
@@ -20,6 +22,12 @@ use Rattle.boards.proofs.Runs.{board-runs}
 use Rattle.plans.specs.Entries.{entry, noEntry}
 use Rattle.plans.proofs.Entries.{entries-length, entry-at, entry-same}
 use Rattle.demands.specs.Demands.{entryAt, Promised}
+
+-- what each row of an order has, has each of the first
+front-each : (P : Row → Type 0) (rs : List Row) (n : ℕ) → ((i : ℕ) → i < length rs → P (rowAt rs i))
+    → (i : ℕ) → i < length (take n rs) → P (rowAt (take n rs) i)
+front-each P rs n h i l =
+    subst P (sym (getD-take n rs i noRow (omega (arith, l, length-take n rs)))) (h i (omega (arith, l, length-take n rs)))
 
 module _ (order : List Row) (ok : allRows inRange order ≡ true) (in-time : NoneLate order) where
   times-ok : allRows timesInRange order ≡ true
@@ -59,10 +67,23 @@ module _ (order : List Row) (ok : allRows inRange order ≡ true) (in-time : Non
       let below = rowsBelow order i in
       entry-is i h ∙ entry-same t above above′ below below′ (by-set t above above′ below below′ p q)
 
-  as-before : NoneHolds order → (i : ℕ) → i < length order
+  before-switch : NoSwitch order → (i : ℕ) → i < length order
+      → AsRequest2 (rowAt order i) (rowsAbove order i) (rowsBelow order i)
+  before-switch none i h =
+      without-switch (rowAt order i) (rowsAbove order i) (rowsBelow order i) (none i h)
+      (front-each (λ r. r .switch ≡ 0) order i none)
+
+  as-before : NoSwitch order → NoneHolds order → (i : ℕ) → i < length order
       → AsDocument01 (rowAt order i) (rowsAbove order i) (rowsBelow order i)
-  as-before none i h =
+  as-before free none i h =
       without-holds (rowAt order i) (rowsAbove order i) (rowsBelow order i) (none i h) (rest-holds order (suc i) none)
+      (free i h) (front-each (λ r. r .switch ≡ 0) order i free)
+
+  grows : (s : ℕ) → SwitchUpTo s order → (i : ℕ) → i < length order
+      → Grows (rowAt order i) (rowsAbove order i) (rowsBelow order i) s
+  grows s up i h =
+      switch-grows (rowAt order i) (rowsAbove order i) (rowsBelow order i) s (at-passes timesInRange order i times-ok h)
+      (up i h) (front-each (λ r. r .switch ≤ s) order i up)
 
   pub promised : Promised order
   promised = record {
@@ -70,7 +91,10 @@ module _ (order : List Row) (ok : allRows inRange order ≡ true) (in-time : Non
     entry-is = entry-is;
     by-formulas = by-formulas;
     by-sets = by-sets;
+    by-numbers = λ i h. by-numbers (rowAt order i) (rowsAbove order i) (rowsBelow order i);
+    without-switch = before-switch;
     without-holds = as-before;
+    switch-grows = grows;
     by-rules = λ offset need keeps lasts. board-runs order offset need keeps times-ok lasts;
     kept = kept;
   }

@@ -44,6 +44,7 @@ module _ where
   above = tenths 9
 
   figures : Figured lowest above []
+  unfolding cost
   figures = figured lowest above [] refl refl
 
   whole-period : (isLate lowest above [] ≡ false) × (latest lowest above [] ≤ maxTicks)

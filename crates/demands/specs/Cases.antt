@@ -1,5 +1,5 @@
--- Document 01's starred cases, each row with a hold of 0, in one list under one proposition about the definitions; its
--- other cases, as the programs print them; and cases of holds.
+-- Document 01's starred cases, each row with a hold of 0 under a switch of 0, in one list under one proposition about
+-- the definitions; its other cases, as the programs print them; and cases of holds and of the switch.
 use mathlib.Core.Path.{_≡_}
 use mathlib.Core.Bool.{true, false}
 use mathlib.Core.List.{List, [], _∷_, _++_}
@@ -8,7 +8,7 @@ use Prim.Native.Nat.{ℕ}
 use Prim.Native.String.{String}
 use lib.IntN.{ℤ, pos, negsuc}
 use Rattle.text.specs.Text.{lined}
-use Rattle.rows.specs.Rows.{row, tasksOf}
+use Rattle.rows.specs.Rows.{row, withSwitch, tasksOf}
 use Rattle.rows.specs.declared.Row.{Row}
 use Rattle.responses.specs.Figures.{latest, isLate, earliest, jitter, margin}
 use Rattle.responses.specs.Claims.{NoneHolds}
@@ -57,23 +57,26 @@ abbrev pub AllSo : List Case → Type 0
 AllSo [] = Unit {0}
 AllSo (c ∷ cs) = IsSo c × AllSo cs
 
--- the paper's rows and table, with the betas of tasks 11, 12 and 13
+-- the paper's rows and table, with the betas of tasks 11, 12 and 13; the table also with the line of its switch
 abbrev pub row11 : ℕ → Row
-row11 beta = row 11 24 6 6 1000 beta 0
+row11 beta = row 11 24 6 6 1000 beta 0 0
 
 abbrev pub row12 : ℕ → Row
-row12 beta = row 12 18 2 2 1000 beta 0
+row12 beta = row 12 18 2 2 1000 beta 0 0
 
 abbrev pub row13 : ℕ → Row
-row13 beta = row 13 200 19 17 3000 beta 0
+row13 beta = row 13 200 19 17 3000 beta 0 0
 
-abbrev pub table : String → String → String → List ℕ
-table beta11 beta12 beta13 = lined (
-    "board=7" ∷ "tasks=3"
+abbrev pub tableUnder : String → String → String → String → List ℕ
+tableUnder switch beta11 beta12 beta13 = lined (
+    "board=7" ∷ "tasks=3" ∷ switch
     ∷ "task=11" ∷ "period=24" ∷ "worst=6" ∷ "best=6" ∷ "alpha=1000" ∷ beta11 ∷ "hold=0"
     ∷ "task=12" ∷ "period=18" ∷ "worst=2" ∷ "best=2" ∷ "alpha=1000" ∷ beta12 ∷ "hold=0"
     ∷ "task=13" ∷ "period=200" ∷ "worst=19" ∷ "best=17" ∷ "alpha=3000" ∷ beta13 ∷ "hold=0"
     ∷ [])
+
+abbrev pub table : String → String → String → List ℕ
+table beta11 beta12 beta13 = tableUnder "switch=0" beta11 beta12 beta13
 
 -- its plan, with the margin of task 13
 abbrev pub planWith : String → List ℕ
@@ -87,7 +90,7 @@ planWith margin13 = lined (
 -- one task that always runs, with its worst time and its beta
 abbrev pub alone : String → String → List ℕ
 alone worst beta = lined (
-    "board=7" ∷ "tasks=1"
+    "board=7" ∷ "tasks=1" ∷ "switch=0"
     ∷ "task=1" ∷ "period=10" ∷ worst ∷ "best=10" ∷ "alpha=1000" ∷ beta ∷ "hold=0"
     ∷ [])
 
@@ -115,7 +118,7 @@ starred =
 -- the paper's task 13 under task 11
 abbrev pub elevenAbove : List ℕ
 elevenAbove = lined (
-    "board=7" ∷ "tasks=2"
+    "board=7" ∷ "tasks=2" ∷ "switch=0"
     ∷ "task=11" ∷ "period=24" ∷ "worst=6" ∷ "best=6" ∷ "alpha=1000" ∷ "beta=8000" ∷ "hold=0"
     ∷ "task=13" ∷ "period=200" ∷ "worst=19" ∷ "best=17" ∷ "alpha=3000" ∷ "beta=57000" ∷ "hold=0"
     ∷ "rank=11" ∷ "rank=13"
@@ -129,7 +132,7 @@ unstarred =
     ∷ planner [] (lined ("plan=0" ∷ "refusal=1" ∷ "line=1" ∷ []))
     ∷ planner (lined ("board=07" ∷ [])) (lined ("plan=0" ∷ "refusal=2" ∷ "line=1" ∷ []))
     ∷ planner (lined ("board=7" ∷ "tasks=17" ∷ [])) (lined ("plan=0" ∷ "refusal=3" ∷ "line=2" ∷ []))
-    ∷ planner (alone "worst=11" "beta=10000") (lined ("plan=0" ∷ "refusal=4" ∷ "line=5" ∷ []))
+    ∷ planner (alone "worst=11" "beta=10000") (lined ("plan=0" ∷ "refusal=4" ∷ "line=6" ∷ []))
     ∷ reviewer elevenAbove
     (lined (
     "plan=1" ∷ "board=7" ∷ "tasks=2"
@@ -138,19 +141,19 @@ unstarred =
     ∷ []))
     ∷ []
 
--- ---- sixteen tasks are not too many: it is their first line that is missing
+-- ---- sixteen tasks are not too many: it is the line after them that is missing
 abbrev pub ofTasks : List Case
 ofTasks = planner (lined ("board=7" ∷ "tasks=16" ∷ [])) (lined ("plan=0" ∷ "refusal=1" ∷ "line=3" ∷ [])) ∷ []
 
 -- ---- holds
 -- the paper's task 13 with a hold
 abbrev pub holding13 : ℕ → Row
-holding13 hold = row 13 200 19 17 3000 57000 hold
+holding13 hold = row 13 200 19 17 3000 57000 hold 0
 
 -- a short loop over a long one that may hold the bus for 3 ticks, with the beta of the first and a last line
 abbrev pub bus : String → String → List ℕ
 bus beta last = lined (
-    "board=7" ∷ "tasks=2"
+    "board=7" ∷ "tasks=2" ∷ "switch=0"
     ∷ "task=1" ∷ "period=10" ∷ "worst=2" ∷ "best=2" ∷ "alpha=1000" ∷ beta ∷ "hold=0"
     ∷ "task=2" ∷ "period=20" ∷ "worst=5" ∷ "best=3" ∷ "alpha=1000" ∷ "beta=20000" ∷ last
     ∷ [])
@@ -160,7 +163,7 @@ ofHolds =
     -- the largest hold below less 1; a hold of 1 blocks nobody, nor does one above or the task's own
     between (row11 8000) (row12 8000 ∷ []) (holding13 5 ∷ []) 6 12 6 (negsuc 3999)
     ∷ between (row11 8000) (row12 8000 ∷ []) (holding13 1 ∷ []) 6 8 2 (pos 0)
-    ∷ between (row11 8000) (row 12 18 2 2 1000 8000 2 ∷ []) [] 6 8 2 (pos 0)
+    ∷ between (row11 8000) (row 12 18 2 2 1000 8000 2 0 ∷ []) [] 6 8 2 (pos 0)
     ∷ between (holding13 1) (row11 8000 ∷ row12 8000 ∷ []) [] 25 35 10 (pos 2000)
     -- a task that may hold for 2 ticks has its best as E
     ∷ between (holding13 2) (row11 8000 ∷ row12 8000 ∷ []) [] 17 35 18 (negsuc 13999)
@@ -172,6 +175,64 @@ ofHolds =
     ∷ "rank=2" ∷ "task=2" ∷ "best=3" ∷ "worst=7" ∷ "jitter=4" ∷ "margin=13000"
     ∷ []))
     ∷ refusal (bus "beta=3999" "hold=3") 8 0
-    ∷ refusal (bus "beta=6000" "hold=6") 4 16
-    ∷ refusal (bus "beta=6000" "rank=1") 1 16
+    ∷ refusal (bus "beta=6000" "hold=6") 4 17
+    ∷ refusal (bus "beta=6000" "rank=1") 1 17
+    ∷ []
+
+-- ---- the switch
+-- one task with a period of 10, with the lines before it, its worst, its best and its hold
+abbrev pub aloneUnder : List String → String → String → String → List ℕ
+aloneUnder head worst best hold =
+    lined head
+    ++ lined ("task=1" ∷ "period=10" ∷ worst ∷ best ∷ "alpha=1000" ∷ "beta=10000" ∷ hold ∷ [])
+
+-- under a switch, by its line
+abbrev pub oneUnder : String → String → String → String → List ℕ
+oneUnder switch worst best hold = aloneUnder ("board=7" ∷ "tasks=1" ∷ switch ∷ []) worst best hold
+
+abbrev pub refusedAt : String → String → List ℕ
+refusedAt number line = lined ("plan=0" ∷ number ∷ line ∷ [])
+
+abbrev pub ofSwitch : List Case
+ofSwitch =
+    -- once for the task's own job, once for each job above, in W; in no E
+    figures (withSwitch 5 (row13 57000)) [] 17 24 7 (pos 19000)
+    ∷ figures (withSwitch 1 (row13 57000)) (withSwitch 1 (row12 8000) ∷ []) 19 26 7 (pos 17000)
+    ∷ figures (withSwitch 1 (row13 57000)) (withSwitch 1 (row11 8000) ∷ withSwitch 1 (row12 8000) ∷ []) 25 43 18
+    (negsuc 21999)
+    -- not in the blocking time
+    ∷ between (withSwitch 1 (row11 8000)) (withSwitch 1 (row12 8000) ∷ []) (withSwitch 1 (holding13 5) ∷ []) 6 14 8
+    (negsuc 5999)
+    -- a task that fits its period can be late by it
+    ∷ late (withSwitch 6 (row12 8000)) (withSwitch 6 (row11 8000) ∷ [])
+    -- document 01's example has no order under a switch of 1; with greater betas it has
+    ∷ refusal (tableUnder "switch=1" "beta=8000" "beta=8000" "beta=57000") 8 0
+    ∷ plan (tableUnder "switch=1" "beta=10000" "beta=10000" "beta=79000")
+    (lined (
+    "plan=1" ∷ "board=7" ∷ "tasks=3"
+    ∷ "rank=1" ∷ "task=12" ∷ "best=2" ∷ "worst=3" ∷ "jitter=1" ∷ "margin=7000"
+    ∷ "rank=2" ∷ "task=11" ∷ "best=6" ∷ "worst=10" ∷ "jitter=4" ∷ "margin=0"
+    ∷ "rank=3" ∷ "task=13" ∷ "best=25" ∷ "worst=43" ∷ "jitter=18" ∷ "margin=0"
+    ∷ []))
+    -- worst and switch together at the period, and past it
+    ∷ plan (oneUnder "switch=3" "worst=7" "best=7" "hold=7")
+    (lined (
+    "plan=1" ∷ "board=7" ∷ "tasks=1"
+    ∷ "rank=1" ∷ "task=1" ∷ "best=7" ∷ "worst=10" ∷ "jitter=3" ∷ "margin=0"
+    ∷ []))
+    ∷ refusal (oneUnder "switch=3" "worst=8" "best=7" "hold=0") 4 6
+    ∷ refusal (oneUnder "switch=1000" "worst=1" "best=1" "hold=0") 4 6
+    -- best and hold are held to worst alone
+    ∷ refusal (oneUnder "switch=3" "worst=7" "best=8" "hold=0") 4 7
+    ∷ refusal (oneUnder "switch=3" "worst=7" "best=7" "hold=8") 4 10
+    -- the line: past its limit, no number, missing, doubled, before its place and behind it
+    ∷ planner (oneUnder "switch=1001" "worst=7" "best=7" "hold=0") (refusedAt "refusal=3" "line=3")
+    ∷ planner (oneUnder "switch=" "worst=7" "best=7" "hold=0") (refusedAt "refusal=2" "line=3")
+    ∷ planner (aloneUnder ("board=7" ∷ "tasks=1" ∷ []) "worst=7" "best=7" "hold=0") (refusedAt "refusal=1" "line=3")
+    ∷ planner (aloneUnder ("board=7" ∷ "tasks=1" ∷ "switch=0" ∷ "switch=0" ∷ []) "worst=7" "best=7" "hold=0")
+    (refusedAt "refusal=1" "line=4")
+    ∷ planner (aloneUnder ("board=7" ∷ "switch=0" ∷ "tasks=1" ∷ []) "worst=7" "best=7" "hold=0")
+    (refusedAt "refusal=1" "line=2")
+    ∷ planner (oneUnder "switch=0" "worst=7" "best=7" "hold=0" ++ lined ("switch=0" ∷ []))
+    (refusedAt "refusal=1" "line=11")
     ∷ []

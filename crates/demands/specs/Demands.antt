@@ -13,7 +13,8 @@ use Rattle.rows.specs.Rows.{tasksOf, rowsFor, rowAt}
 use Rattle.rows.specs.declared.Row.{Row}
 use Rattle.tables.specs.Claims.{Tells, Fails, Read}
 use Rattle.responses.specs.Figures.{rowsAbove, rowsBelow, isLate}
-use Rattle.responses.specs.Claims.{Figured, AsDocument01, NoneHolds}
+use Rattle.responses.specs.Claims.{Figured, ByNumbers, AsRequest2, AsDocument01, NoSwitch, NoneHolds}
+use Rattle.responses.specs.Claims.{SwitchUpTo, Grows}
 use Rattle.orders.specs.Orders.{Possible, positionIn, positionsUp, notAfter, Chosen}
 use Rattle.orders.specs.Stability.{stable, orderStable}
 use Rattle.boards.specs.Claims.{LastsInRange, Kept, NoneLate}
@@ -42,10 +43,19 @@ pub record Promised (order : List Row) : Type 0 where
       (i : ℕ) (above′ below′ : List Row) → i < length order
       → Perm (rowsAbove order i) above′ → Perm (rowsBelow order i) below′
       → entryAt order i ≡ entry (rowAt order i) above′ below′
-  -- with every hold 0 or 1, those of document 01
+  -- with the switch beside each `worst` and nowhere else; with a switch of 0 those before it, and with every hold 0 or 1
+  -- too, those of document 01
+  pub by-numbers : (i : ℕ) → i < length order → ByNumbers (rowAt order i) (rowsAbove order i) (rowsBelow order i)
+  pub without-switch :
+      NoSwitch order → (i : ℕ) → i < length order
+      → AsRequest2 (rowAt order i) (rowsAbove order i) (rowsBelow order i)
   pub without-holds :
-      NoneHolds order → (i : ℕ) → i < length order
+      NoSwitch order → NoneHolds order → (i : ℕ) → i < length order
       → AsDocument01 (rowAt order i) (rowsAbove order i) (rowsBelow order i)
+  -- under a greater switch no `worst` line of the same order falls
+  pub switch-grows :
+      (s : ℕ) → SwitchUpTo s order → (i : ℕ) → i < length order
+      → Grows (rowAt order i) (rowsAbove order i) (rowsBelow order i) s
   -- demand 3: on every board, for all first releases, job lengths and stretches, the run is by the rules, and it keeps
   -- the `worst` and `best` lines
   pub by-rules :

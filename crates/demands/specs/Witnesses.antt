@@ -8,7 +8,7 @@ use Prim.Native.Nat.{ℕ, zero, suc, _+_, _-_, _*_, _/_, _^_, _≤_, _<_}
 use Prim.Native.String.{String}
 use lib.ListN.{length}
 use Rattle.text.specs.Text.{bytes, lined, decimal, keyLine}
-use Rattle.rows.specs.Rows.{maxTask, maxTicks, minAlpha, maxBeta, minHold, maxTasks, maxBuffer, row}
+use Rattle.rows.specs.Rows.{maxTask, maxTicks, minAlpha, maxBeta, minHold, minSwitch, maxTasks, maxBuffer, row}
 use Rattle.rows.specs.declared.Row.{Row}
 use Rattle.boards.specs.Claims.{NoneLate}
 use Rattle.boards.specs.Witnesses.{exampleOrder}
@@ -44,7 +44,7 @@ abbrev pub malformed : List ℕ
 malformed = lined ("board=07" ∷ [])
 
 abbrev pub twoTasks : List String → List ℕ
-twoTasks more = lined ("board=7" ∷ "tasks=2" ∷ "task=1" ∷ "period=10" ∷ more)
+twoTasks more = lined ("board=7" ∷ "tasks=2" ∷ "switch=0" ∷ "task=1" ∷ "period=10" ∷ more)
 
 -- a task more than a table can have
 abbrev pub tooMany : List ℕ
@@ -52,7 +52,7 @@ tooMany = lined ("board=7" ∷ []) ++ keyLine (bytes "tasks=") (decimal (suc max
 
 -- tasks that take a tenth of the longest period each; as many as a table can have, as text too
 abbrev pub tenth : ℕ → Row
-tenth task = row task maxTicks (maxTicks / 10) (maxTicks / 10) minAlpha maxBeta minHold
+tenth task = row task maxTicks (maxTicks / 10) (maxTicks / 10) minAlpha maxBeta minHold minSwitch
 
 abbrev pub tenths : ℕ → List Row
 tenths zero = []
@@ -67,18 +67,20 @@ tenthLines (suc k) =
     ++ tenthLines k
 
 abbrev pub mostText : List ℕ
-mostText = lined ("board=7" ∷ []) ++ keyLine (bytes "tasks=") (decimal maxTasks) ++ tenthLines maxTasks
+mostText =
+    lined ("board=7" ∷ []) ++ keyLine (bytes "tasks=") (decimal maxTasks) ++ lined ("switch=0" ∷ [])
+    ++ tenthLines maxTasks
 
 pub record Met : Type 0 where
   -- refusals 1 to 6, each at its line
   pub missing : Fails false [] 1 1
-  pub trailing : Fails false (example ++ bytes "x") 1 24
+  pub trailing : Fails false (example ++ bytes "x") 1 25
   pub no-number : Fails false malformed 2 1
   pub out-of-range : Fails false tooMany 3 2
-  pub exceeding : Fails false (twoTasks ("worst=11" ∷ [])) 4 5
+  pub exceeding : Fails false (twoTasks ("worst=11" ∷ [])) 4 6
   pub repeated :
-      Fails false (twoTasks ("worst=10" ∷ "best=1" ∷ "alpha=1000" ∷ "beta=0" ∷ "hold=0" ∷ "task=1" ∷ [])) 5 10
-  pub impossible : Fails true (example ++ lined ("rank=11" ∷ "rank=11" ∷ [])) 6 25
+      Fails false (twoTasks ("worst=10" ∷ "best=1" ∷ "alpha=1000" ∷ "beta=0" ∷ "hold=0" ∷ "task=1" ∷ [])) 5 11
+  pub impossible : Fails true (example ++ lined ("rank=11" ∷ "rank=11" ∷ [])) 6 26
   -- a table with an order, in a room that is too short too, and one with none
   pub tells : Tells false example 7 exampleRows []
   pub by-rule : ByRule exampleRows exampleOrder

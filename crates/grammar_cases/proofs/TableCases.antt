@@ -1,4 +1,4 @@
--- Document 01's table, each row with its hold, read by computing.
+-- Document 01's table, each row with its hold, under a switch, read by computing.
 use mathlib.Core.Path.{_≡_, refl}
 use mathlib.Core.Bool.{true, false}
 use mathlib.Core.List.{List, [], _∷_}
@@ -16,7 +16,7 @@ use Rattle.tables.specs.TableLines.{readTable, tableOf, turnedDown}
 abbrev paperWith : String → List String → List ℕ
 paperWith third more =
     lined
-    ("board=7" ∷ "tasks=3"
+    ("board=7" ∷ "tasks=3" ∷ "switch=0"
     ∷ "task=11" ∷ "period=24" ∷ "worst=6" ∷ "best=6" ∷ "alpha=1000" ∷ "beta=8000" ∷ "hold=0"
     ∷ "task=12" ∷ "period=18" ∷ "worst=2" ∷ "best=2" ∷ "alpha=1000" ∷ "beta=8000" ∷ "hold=0"
     ∷ third ∷ "period=200" ∷ "worst=19" ∷ "best=17" ∷ "alpha=3000" ∷ "beta=57000" ∷ more)
@@ -26,7 +26,8 @@ abbrev paper : String → List String → List ℕ
 paper third more = paperWith third ("hold=0" ∷ more)
 
 abbrev paperRows : ℕ → List Row
-paperRows hold = row 11 24 6 6 1000 8000 0 ∷ row 12 18 2 2 1000 8000 0 ∷ row 13 200 19 17 3000 57000 hold ∷ []
+paperRows hold =
+    row 11 24 6 6 1000 8000 0 0 ∷ row 12 18 2 2 1000 8000 0 0 ∷ row 13 200 19 17 3000 57000 hold 0 ∷ []
 
 paper-table : readTable false (paper "task=13" []) ≡ tableOf 7 (paperRows 0) []
 unfolding readTable readFor formAt lineAt numberOf
@@ -37,19 +38,19 @@ ranked-table : readTable true (paper "task=13" ("rank=12" ∷ "rank=11" ∷ "ran
 unfolding readTable readFor formAt lineAt numberOf
 ranked-table = refl
 
-ranks-missing : readTable true (paper "task=13" []) ≡ turnedDown 1 24
+ranks-missing : readTable true (paper "task=13" []) ≡ turnedDown 1 25
 unfolding readTable readFor formAt lineAt numberOf
 ranks-missing = refl
 
-trailing-bytes : readTable false (paper "task=13" ("rank=12" ∷ [])) ≡ turnedDown 1 24
+trailing-bytes : readTable false (paper "task=13" ("rank=12" ∷ [])) ≡ turnedDown 1 25
 unfolding readTable readFor formAt lineAt numberOf
 trailing-bytes = refl
 
-repeated-task : readTable false (paper "task=11" []) ≡ turnedDown 5 17
+repeated-task : readTable false (paper "task=11" []) ≡ turnedDown 5 18
 unfolding readTable readFor formAt lineAt numberOf
 repeated-task = refl
 
-repeated-rank : readTable true (paper "task=13" ("rank=12" ∷ "rank=12" ∷ "rank=13" ∷ [])) ≡ turnedDown 6 25
+repeated-rank : readTable true (paper "task=13" ("rank=12" ∷ "rank=12" ∷ "rank=13" ∷ [])) ≡ turnedDown 6 26
 unfolding readTable readFor formAt lineAt numberOf
 repeated-rank = refl
 
@@ -58,22 +59,47 @@ hold-worst : readTable false (paperWith "task=13" ("hold=19" ∷ [])) ≡ tableO
 unfolding readTable readFor formAt lineAt numberOf
 hold-worst = refl
 
-past-worst : readTable false (paperWith "task=13" ("hold=20" ∷ [])) ≡ turnedDown 4 23
+past-worst : readTable false (paperWith "task=13" ("hold=20" ∷ [])) ≡ turnedDown 4 24
 unfolding readTable readFor formAt lineAt numberOf
 past-worst = refl
 
-past-limit : readTable false (paperWith "task=13" ("hold=1000001" ∷ [])) ≡ turnedDown 3 23
+past-limit : readTable false (paperWith "task=13" ("hold=1000001" ∷ [])) ≡ turnedDown 3 24
 unfolding readTable readFor formAt lineAt numberOf
 past-limit = refl
 
-missing-hold : readTable false (paperWith "task=13" []) ≡ turnedDown 1 23
+missing-hold : readTable false (paperWith "task=13" []) ≡ turnedDown 1 24
 unfolding readTable readFor formAt lineAt numberOf
 missing-hold = refl
 
 -- one task with the largest times
 hold-limit : readTable false (lined
-    ("board=7" ∷ "tasks=1"
+    ("board=7" ∷ "tasks=1" ∷ "switch=0"
     ∷ "task=1" ∷ "period=1000000" ∷ "worst=1000000" ∷ "best=1" ∷ "alpha=1000" ∷ "beta=0" ∷ "hold=1000000" ∷ []))
-    ≡ tableOf 7 (row 1 1000000 1000000 1 1000 0 1000000 ∷ []) []
+    ≡ tableOf 7 (row 1 1000000 1000000 1 1000 0 1000000 0 ∷ []) []
 unfolding readTable readFor formAt lineAt numberOf
 hold-limit = refl
+
+-- ---- the line of the switch: its number is in each row, and a worst time has to leave room for it
+abbrev switchedTable : String → String → List ℕ
+switchedTable switch worst =
+    lined
+    ("board=7" ∷ "tasks=2" ∷ switch
+    ∷ "task=1" ∷ "period=1010" ∷ "worst=10" ∷ "best=10" ∷ "alpha=1000" ∷ "beta=0" ∷ "hold=0"
+    ∷ "task=2" ∷ "period=2000" ∷ worst ∷ "best=1" ∷ "alpha=1000" ∷ "beta=0" ∷ "hold=0" ∷ [])
+
+switch-limit : readTable false (switchedTable "switch=1000" "worst=1000")
+    ≡ tableOf 7 (row 1 1010 10 10 1000 0 0 1000 ∷ row 2 2000 1000 1 1000 0 0 1000 ∷ []) []
+unfolding readTable readFor formAt lineAt numberOf
+switch-limit = refl
+
+past-switch : readTable false (switchedTable "switch=1001" "worst=1000") ≡ turnedDown 3 3
+unfolding readTable readFor formAt lineAt numberOf
+past-switch = refl
+
+past-period : readTable false (switchedTable "switch=1000" "worst=1001") ≡ turnedDown 4 13
+unfolding readTable readFor formAt lineAt numberOf
+past-period = refl
+
+missing-switch : readTable false (switchedTable "task=1" "worst=1000") ≡ turnedDown 1 3
+unfolding readTable readFor formAt lineAt numberOf
+missing-switch = refl

@@ -1,7 +1,7 @@
 -- Rows as their numbers: a row is found by its first number, more numbers behind the rows change none of them, and the
 -- numbers between two places grow one by one.
 use mathlib.Core.Path.{_≡_, refl, sym, ap, ap₂, _∙_}
-use mathlib.Core.Bool.{true, _||_}
+use mathlib.Core.Bool.{Bool, true, _||_}
 use mathlib.Core.List.{List, [], _∷_, _++_}
 use Prim.Native.Nat.{ℕ, zero, suc, _+_, _-_, _*_, _≤_, _<_}
 use native.Mathlib.Nat.{sub-zero}
@@ -13,7 +13,7 @@ use lib.ListN.{drop-of-length-le, List·getD-append}
 use lib.Seq.{drop-drop, drop-append-le, length-take-le, take-suc, getD-take, getD-drop, ext-getD}
 use Rattle.rows.specs.declared.Row.{Row}
 use Rattle.rows.specs.Rows.{taskAt, periodAt, worstAt, bestAt, alphaAt, betaAt, holdAt, switchAt, fieldCount}
-use Rattle.rows.specs.Rows.{rowOf, row, noRow, rowAt, inRange, allRows, tasksOf, hasTask, positionOf}
+use Rattle.rows.specs.Rows.{rowOf, row, noRow, rowAt, allRows, tasksOf, hasTask, positionOf}
 use Rattle.rows.specs.inside.Numbers.{rowsOf, rowIn, rowsIn, rowsAt, Below, between}
 use Rattle.rows.proofs.Limits.{at-passes}
 
@@ -93,10 +93,11 @@ rows-are ws rows each =
     ext-getD noRow (rowsOf n ws) rows (rows-length n ws)
     (λ i h. let l : i < n = omega (arith, rows-length n ws) in rows-at n i ws l ∙ each i l)
 
--- each of some rows that are all in range is in range
-pub row-ranged : (ws : List ℕ) (n i : ℕ) → i < n → allRows inRange (rowsOf n ws) ≡ true → inRange (rowIn ws i) ≡ true
-row-ranged ws n i h ok =
-    ap inRange (sym (rows-at n i ws h)) ∙ at-passes inRange (rowsOf n ws) i ok (omega (arith, rows-length n ws))
+-- each of some rows passes what all of them do
+pub row-passes : (f : Row → Bool) (ws : List ℕ) (n i : ℕ) → i < n → allRows f (rowsOf n ws) ≡ true
+    → f (rowIn ws i) ≡ true
+row-passes f ws n i h ok =
+    ap f (sym (rows-at n i ws h)) ∙ at-passes f (rowsOf n ws) i ok (omega (arith, rows-length n ws))
 
 -- the row at position k of some
 pub at-position : (table : List Row) (ps : List ℕ) (k : ℕ) → k < length ps

@@ -9,7 +9,7 @@ use lib.ListN.{length}
 use Rattle.rows.specs.Rows.{fieldCount, inRange, timesInRange}
 use Rattle.rows.specs.inside.Numbers.{rowsOf, rowIn}
 use Rattle.rows.proofs.Limits.{in-range-times}
-use Rattle.rows.proofs.RowNumbers.{rows-length, row-ranged}
+use Rattle.rows.proofs.RowNumbers.{rows-length, row-passes}
 use Rattle.search.specs.inside.Sets.{unknown}
 use Rattle.search.specs.inside.Search.{Lent}
 
@@ -27,7 +27,7 @@ module _ {n : ℕ} {ns : List ℕ} (l : Lent n ns) where
   row-held i h = omega (arith, l .held)
 
   pub ranged : (i : ℕ) → i < n → inRange (rowIn ns i) ≡ true
-  ranged i h = row-ranged ns n i h (l .table .in-range)
+  ranged i h = row-passes inRange ns n i h (l .table .in-range)
 
   pub times-ranged : (i : ℕ) → i < n → timesInRange (rowIn ns i) ≡ true
   times-ranged i h = in-range-times (rowIn ns i) (ranged i h)

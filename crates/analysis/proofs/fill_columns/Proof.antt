@@ -1,12 +1,14 @@
 -- The invariant: the columns hold the times of the rows at the first k positions.
-use mathlib.Core.Path.{_≡_, refl, _∙_, subst}
+use mathlib.Core.Path.{_≡_, refl, sym, ap, _∙_, subst}
 use Prim.Native.Nat.{ℕ, _-_}
 use native.Mathlib.Numerals.{add-one}
 use native.Mathlib.Omega.{arith}
 use lib.ListN.{length, take}
+use Rattle.rows.specs.Rows.{timesInRange}
 use Rattle.rows.specs.inside.Numbers.{rowsIn}
+use Rattle.rows.proofs.Limits.{at-passes}
 use Rattle.analysis.specs.inside.Columns.{Filled}
-use Rattle.analysis.proofs.Filling.{filled-none, filled-more}
+use Rattle.analysis.proofs.Filling.{rows-long, row-is, filled-none, filled-more}
 use Rattle.analysis.proofs.fill_columns.Statement.{statement}
 use Rattle.analysis.proofs.fill_columns.Tie as tie
 
@@ -40,7 +42,17 @@ put-times-requires c κs =
     let s = c .before .before .before .before .before .before .before in
     let x = c .before .before .before .loop in
     let t = c .before .before .loop-test .taken in
-    (s .pre .held .rows-held (x .k) t, s .pre .times-in-range (x .k) t, t, s .pre .few, x .inv .1 .room)
+    let a = s .args in
+    let held = s .pre .held .positions-held in
+    let here = row-is (a .rows .now) (a .positions .now) (a .n) held (x .k) t in
+    let long = rows-long (a .rows .now) (a .positions .now) (a .n) held in
+    let rows = rowsIn (a .rows .now) (take (a .n) (a .positions .now)) in (
+      s .pre .held .rows-held (x .k) t,
+      ap timesInRange (sym here) ∙ at-passes timesInRange rows (x .k) (s .pre .times-in-range) (omega (arith, long, t)),
+      t,
+      s .pre .few,
+      x .inv .1 .room,
+    )
 
 add-k : tie.Need-add-k Inv-loop μ-loop
 add-k c =

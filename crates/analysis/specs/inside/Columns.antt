@@ -7,7 +7,7 @@ use Prim.Native.Nat.{ℕ, zero, suc, _+_, _*_, _≤_, _<_}
 use lib.ListN.{length, getD, set, take}
 use Rattle.rows.specs.Rows.{maxTicks, fieldCount, cost, timesInRange, inRange, allRows, rowAt}
 use Rattle.rows.specs.declared.Row.{Row}
-use Rattle.rows.specs.inside.Numbers.{rowIn}
+use Rattle.rows.specs.inside.Numbers.{rowsIn}
 use Rattle.responses.specs.Interference.{Load, load}
 use Rattle.responses.specs.Figures.{blocking, figuresUnder}
 use Rattle.responses.specs.declared.Figures.{Figures}
@@ -62,7 +62,7 @@ pub record Fillable (ns positions : List ℕ) (n : ℕ) (columns : List ℕ) : T
   pub few : n ≤ columnsMax
   pub room : 3 * n ≤ length columns
   pub held : Among ns positions n
-  pub times-in-range : (j : ℕ) → j < n → timesInRange (rowIn ns (getD positions j 0)) ≡ true
+  pub times-in-range : allRows timesInRange (rowsIn ns (take n positions)) ≡ true
 
 -- a row in range, columns with k rows above it, whose times are in range, and the blocking time of the rows below it
 pub record UnderColumns (t : Row) (blocked : ℕ) (columns : List ℕ) (n k : ℕ) : Type 0 where

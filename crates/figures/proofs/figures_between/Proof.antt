@@ -1,16 +1,14 @@
 -- In the limits of a table, the columns hold the rows above in their sequence, and the figures found in them are those
 -- of the row between these rows.
-use mathlib.Core.Path.{_≡_, sym, ap, _∙_, subst}
-use mathlib.Core.Bool.{true}
+use mathlib.Core.Path.{_≡_, ap, _∙_, subst}
 use mathlib.Core.List.{List}
-use Prim.Native.Nat.{ℕ, _<_}
+use Prim.Native.Nat.{_<_}
 use native.Mathlib.Omega.{arith}
 use borrow.Author.Needs.{needs}
 use Rattle.rows.specs.Rows.{maxTasks, timesInRange, allRows}
 use Rattle.rows.specs.declared.Row.{Row}
-use Rattle.rows.specs.inside.Numbers.{rowIn, rowsOf}
-use Rattle.rows.proofs.Limits.{at-passes}
-use Rattle.rows.proofs.RowNumbers.{rows-length, rows-at, rows-front}
+use Rattle.rows.specs.inside.Numbers.{rowsOf}
+use Rattle.rows.proofs.RowNumbers.{rows-length, rows-front}
 use Rattle.responses.specs.Figures.{blocking, figuresUnder}
 use Rattle.responses.proofs.Blocking.{blocking-max}
 use Rattle.analysis.specs.inside.Columns.{Filled}
@@ -24,13 +22,6 @@ upper s = rowsOf (s .args .n) (s .args .above .now)
 
 abbrev lower : tie.Start → List Row
 lower s = rowsOf (s .args .m) (s .args .below .now)
-
--- one of n rows whose times are in range
-times-at : (ns : List ℕ) (n : ℕ) → allRows timesInRange (rowsOf n ns) ≡ true → (j : ℕ) → j < n
-    → timesInRange (rowIn ns j) ≡ true
-times-at ns n ok j h =
-    ap timesInRange (sym (rows-at n j ns h))
-    ∙ at-passes timesInRange (rowsOf n ns) j ok (omega (arith, rows-length n ns))
 
 in-limits-requires : tie.Need-in-limits-requires
 in-limits-requires c κs = search needs
@@ -79,9 +70,10 @@ fill-columns-requires c κs =
         positions-held = omega (arith, short);
         rows-held = λ j h. omega (arith, short, h, p .positions .ensures j (omega (arith, short, h)));
       };
-      times-in-range = λ j h.
-          ap (λ i. timesInRange (rowIn (a .above .now) i)) (p .positions .ensures j (omega (arith, short, h)))
-          ∙ times-at (a .above .now) (a .n) (known (p .before) .times-in-range) j h;
+      times-in-range =
+          ap (allRows timesInRange) (in-sequence (a .above .now) (p .positions .result) (a .n) (omega (arith, short))
+          (λ i h. p .positions .ensures i (omega (arith, short, h))))
+          ∙ known (p .before) .times-in-range;
     }
 
 slice-aggregate-blocking-from : tie.Need-slice-aggregate-blocking-from

@@ -5,6 +5,7 @@ use borrow.Author.Needs.{needs}
 use lib.ListN.{take}
 use Rattle.rows.specs.inside.Numbers.{rowsIn}
 use Rattle.rows.specs.declared.Row.{Row}
+use Rattle.rows.proofs.Limits.{all-times}
 use Rattle.analysis.proofs.Filling.{rows-long}
 use Rattle.plans.proofs.Lengths.{head-length}
 use Rattle.plan_orders.proofs.Given.{plan-there}
@@ -15,7 +16,14 @@ abbrev order : tie.Start → List Row
 order s = rowsIn (s .args .rows .now) (take (s .args .n) (s .args .positions .now))
 
 fill-columns-requires : tie.Need-fill-columns-requires
-fill-columns-requires c κs = search needs
+fill-columns-requires c κs =
+    let s = c .before .before .before .before .before in
+    record {
+      few = s .pre .0 .few;
+      room = s .pre .1 .1;
+      held = s .pre .0 .held;
+      times-in-range = all-times (order s) (s .pre .0 .in-range);
+    }
 
 put-head-requires : tie.Need-put-head-requires
 put-head-requires c κs =
