@@ -1,12 +1,13 @@
-// Document 01's cases and some of holds, as texts: what has to be answered stands beside each, and the whole buffer is
+// Document 01's cases and some of holds and of the switch, as texts: what has to be answered stands beside each, and the whole buffer is
 // compared.
 use trials::Answer;
 use trials::SPACE;
 ghost use Rattle.io.specs.Counts.{Counts};
 
-// The document's table up to the last beta, with a hold of 0 in each row before it, and its plan.
-const EXAMPLE: [u8; 185] = *b"board=7
+// The document's table up to the last beta, with a switch of 0 and a hold of 0 in each row before it, and its plan.
+const EXAMPLE: [u8; 194] = *b"board=7
 tasks=3
+switch=0
 task=11
 period=24
 worst=6
@@ -138,14 +139,14 @@ fn planner_cases() {
         false,
         b"beta=57000\nhold=0",
         1,
-        23,
+        24,
     );
     example_refuses(
         b"a line too many",
         false,
         b"beta=57000\nhold=0\nrank=12\n",
         1,
-        24,
+        25,
     );
 }
 
@@ -167,16 +168,16 @@ fn reviewer_cases() {
         true,
         b"beta=57000\nhold=0\nrank=12\nrank=14\nrank=13\n",
         6,
-        25,
+        26,
     );
     example_refuses(
         b"rank named twice",
         true,
         b"beta=57000\nhold=0\nrank=12\nrank=13\nrank=12\n",
         6,
-        26,
+        27,
     );
-    example_refuses(b"ranks missing", true, b"beta=57000\nhold=0\n", 1, 24);
+    example_refuses(b"ranks missing", true, b"beta=57000\nhold=0\n", 1, 25);
 }
 
 fn line_cases() {
@@ -190,14 +191,14 @@ fn row_plans() {
     plans(
         b"worst = period = 10",
         false,
-        b"board=7\ntasks=1\ntask=5\nperiod=10\nworst=10\nbest=10\nalpha=1000\nbeta=10000\nhold=0\n",
+        b"board=7\ntasks=1\nswitch=0\ntask=5\nperiod=10\nworst=10\nbest=10\nalpha=1000\nbeta=10000\nhold=0\n",
         b"plan=1\nboard=7\ntasks=1\nrank=1\ntask=5\nbest=10\nworst=10\njitter=0\nmargin=0\n",
         72,
     );
     plans(
         b"worst = period = 1000000",
         false,
-        b"board=7\ntasks=1\ntask=5\nperiod=1000000\nworst=1000000\nbest=1\nalpha=1000\nbeta=1000000001\nhold=0\n",
+        b"board=7\ntasks=1\nswitch=0\ntask=5\nperiod=1000000\nworst=1000000\nbest=1\nalpha=1000\nbeta=1000000001\nhold=0\n",
         b"plan=1\nboard=7\ntasks=1\nrank=1\ntask=5\nbest=1\nworst=1000000\njitter=999999\nmargin=1\n",
         81,
     );
@@ -207,30 +208,30 @@ fn row_refusals() {
     refuses(
         b"worst = period + 1 = 11",
         false,
-        b"board=7\ntasks=1\ntask=5\nperiod=10\nworst=11\n",
-        4,
-        5,
-    );
-    refuses(
-        b"worst = period + 1 = 1000000",
-        false,
-        b"board=7\ntasks=1\ntask=5\nperiod=999999\nworst=1000000\n",
-        4,
-        5,
-    );
-    refuses(
-        b"best = worst + 1",
-        false,
-        b"board=7\ntasks=1\ntask=5\nperiod=10\nworst=9\nbest=10\n",
+        b"board=7\ntasks=1\nswitch=0\ntask=5\nperiod=10\nworst=11\n",
         4,
         6,
     );
     refuses(
+        b"worst = period + 1 = 1000000",
+        false,
+        b"board=7\ntasks=1\nswitch=0\ntask=5\nperiod=999999\nworst=1000000\n",
+        4,
+        6,
+    );
+    refuses(
+        b"best = worst + 1",
+        false,
+        b"board=7\ntasks=1\nswitch=0\ntask=5\nperiod=10\nworst=9\nbest=10\n",
+        4,
+        7,
+    );
+    refuses(
         b"a task number used before",
         false,
-        b"board=7\ntasks=2\ntask=5\nperiod=10\nworst=9\nbest=1\nalpha=1000\nbeta=0\nhold=0\ntask=5\n",
+        b"board=7\ntasks=2\nswitch=0\ntask=5\nperiod=10\nworst=9\nbest=1\nalpha=1000\nbeta=0\nhold=0\ntask=5\n",
         5,
-        10,
+        11,
     );
 }
 
@@ -239,30 +240,62 @@ fn hold_cases() {
     plans(
         b"hold = worst = 10",
         false,
-        b"board=7\ntasks=1\ntask=5\nperiod=10\nworst=10\nbest=10\nalpha=1000\nbeta=10000\nhold=10\n",
+        b"board=7\ntasks=1\nswitch=0\ntask=5\nperiod=10\nworst=10\nbest=10\nalpha=1000\nbeta=10000\nhold=10\n",
         b"plan=1\nboard=7\ntasks=1\nrank=1\ntask=5\nbest=10\nworst=10\njitter=0\nmargin=0\n",
         72,
     );
     refuses(
         b"hold = worst + 1",
         false,
-        b"board=7\ntasks=1\ntask=5\nperiod=10\nworst=10\nbest=10\nalpha=1000\nbeta=10000\nhold=11\n",
+        b"board=7\ntasks=1\nswitch=0\ntask=5\nperiod=10\nworst=10\nbest=10\nalpha=1000\nbeta=10000\nhold=11\n",
         4,
-        9,
+        10,
     );
     refuses(
         b"hold = 1000001",
         false,
-        b"board=7\ntasks=1\ntask=5\nperiod=10\nworst=10\nbest=10\nalpha=1000\nbeta=10000\nhold=1000001\n",
+        b"board=7\ntasks=1\nswitch=0\ntask=5\nperiod=10\nworst=10\nbest=10\nalpha=1000\nbeta=10000\nhold=1000001\n",
         3,
-        9,
+        10,
     );
     refuses(
         b"no hold",
         false,
-        b"board=7\ntasks=1\ntask=5\nperiod=10\nworst=10\nbest=10\nalpha=1000\nbeta=10000\n",
+        b"board=7\ntasks=1\nswitch=0\ntask=5\nperiod=10\nworst=10\nbest=10\nalpha=1000\nbeta=10000\n",
         1,
-        9,
+        10,
+    );
+}
+
+// The same row under a switch.
+fn switch_cases() {
+    plans(
+        b"worst + switch = period = 10",
+        false,
+        b"board=7\ntasks=1\nswitch=3\ntask=5\nperiod=10\nworst=7\nbest=7\nalpha=1000\nbeta=10000\nhold=0\n",
+        b"plan=1\nboard=7\ntasks=1\nrank=1\ntask=5\nbest=7\nworst=10\njitter=3\nmargin=0\n",
+        71,
+    );
+    refuses(
+        b"worst + switch = period + 1",
+        false,
+        b"board=7\ntasks=1\nswitch=3\ntask=5\nperiod=10\nworst=8\n",
+        4,
+        6,
+    );
+    refuses(
+        b"switch = 1001",
+        false,
+        b"board=7\ntasks=1\nswitch=1001\n",
+        3,
+        3,
+    );
+    refuses(
+        b"no switch",
+        false,
+        b"board=7\ntasks=1\ntask=5\nperiod=10\nworst=10\nbest=10\nalpha=1000\nbeta=10000\nhold=0\n",
+        1,
+        3,
     );
 }
 
@@ -273,4 +306,5 @@ fn main() {
     row_plans();
     row_refusals();
     hold_cases();
+    switch_cases();
 }

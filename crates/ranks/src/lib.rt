@@ -24,9 +24,9 @@ use rows::order_at;
 use rows::positions_for;
 use search::choose;
 use tables::BOARD;
-use tables::FEW_LINES;
+use tables::FEW_NUMBERS;
 use tables::HEAD;
-use tables::LINES;
+use tables::MOST_NUMBERS;
 use tables::is_short;
 use tables::read_table;
 
@@ -69,10 +69,10 @@ pub fn write_plan(text: &[u8], out: &mut [u8]) -> Answer
     ensures { λ r. ⌜ PlanSays (now (text .entry)) (now (out .entry)) (now (out .exit)) r ⌝ }
 {
     if is_short(text) {
-        let mut few = [0u64; FEW_LINES];
+        let mut few = [0u64; FEW_NUMBERS];
         return plan_text(text, out, &mut few);
     }
-    let mut numbers = [0u64; LINES];
+    let mut numbers = [0u64; MOST_NUMBERS];
     plan_text(text, out, &mut numbers)
 }
 
@@ -98,10 +98,10 @@ pub fn review_order(text: &[u8], out: &mut [u8]) -> Answer
     ensures { λ r. ⌜ ReviewSays (now (text .entry)) (now (out .entry)) (now (out .exit)) r ⌝ }
 {
     if is_short(text) {
-        let mut few = [0u64; FEW_LINES];
+        let mut few = [0u64; FEW_NUMBERS];
         return review_text(text, out, &mut few);
     }
-    let mut numbers = [0u64; LINES];
+    let mut numbers = [0u64; MOST_NUMBERS];
     review_text(text, out, &mut numbers)
 }
 

@@ -6,9 +6,9 @@ ghost use lib.ListN.{length};
 ghost use Rattle.basics.specs.Basics.{pick};
 ghost use Rattle.tables.specs.inside.Numbers.{Room};
 use rows::FIELDS;
-use tables::FEW_LINES;
+use tables::FEW_NUMBERS;
 use tables::HEAD;
-use tables::LINES;
+use tables::MOST_NUMBERS;
 use tables::is_short;
 use tables::read_table;
 use text::Line;
@@ -66,10 +66,10 @@ fn print_read(text: &[u8], ranked: bool, numbers: &mut [u64])
 // A short text is read into few numbers.
 fn print_reading(text: &[u8], ranked: bool) {
     if is_short(text) {
-        let mut few = [0u64; FEW_LINES];
+        let mut few = [0u64; FEW_NUMBERS];
         print_read(text, ranked, &mut few);
     } else {
-        let mut all = [0u64; LINES];
+        let mut all = [0u64; MOST_NUMBERS];
         print_read(text, ranked, &mut all);
     }
 }

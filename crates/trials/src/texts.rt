@@ -75,11 +75,17 @@ fn put_head(out: &mut [u8], at: usize, table: Table) -> usize {
     put_line(out, to, b"tasks=", table.rows_held() as u64)
 }
 
+// The lines before a table's rows: a switch costs nothing.
+fn put_table_head(out: &mut [u8], at: usize, table: Table) -> usize {
+    let to = put_head(out, at, table);
+    put_line(out, to, b"switch=", 0)
+}
+
 // A table's text.
 pub fn put_table(out: &mut [u8], table: Table) -> usize
     ensures { λ r. ⌜ Counts r (now (out .exit)) ⌝ }
 {
-    let mut to = put_head(out, 0, table);
+    let mut to = put_table_head(out, 0, table);
     for i in 0..table.rows_held() {
         to = put_row(out, to, table.rows[i]);
     }

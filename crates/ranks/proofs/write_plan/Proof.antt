@@ -5,7 +5,7 @@ use Prim.Native.Nat.{_*_}
 use native.Mathlib.Omega.{arith}
 use lib.ListN.{length}
 use borrow.Author.Tests.{leb-true}
-use Rattle.tables.specs.inside.Numbers.{lineBytes, fewLines}
+use Rattle.tables.specs.inside.Numbers.{numberBytes, fewNumbers}
 use borrow.Author.Needs.{needs}
 use Rattle.ranks.proofs.write_plan.Statement.{statement}
 use Rattle.ranks.proofs.write_plan.Tie as tie
@@ -21,7 +21,7 @@ plan-text-requires c κs =
     let s = c .before .before .before in
     let a = s .before .before .before .args in
     let short = sym (s .is-short .ensures) ∙ c .before .before .if1 .taken in
-    inr (leb-true (length (a .text .now)) (lineBytes * fewLines) short)
+    inr (leb-true (length (a .text .now)) (numberBytes * fewNumbers) short)
 
 same-length : tie.Need-same-length
 same-length c = search needs

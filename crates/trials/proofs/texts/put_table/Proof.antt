@@ -12,8 +12,8 @@ Inv-loop out₀ table to₀ i₀ i-end out to i = (i ≤ i-end) × (i-end ≤ 6)
 abbrev μ-loop : tie.MeasureT-loop
 μ-loop out₀ table to₀ i₀ i-end out to i = i-end - i
 
-put-head-requires : tie.Need-put-head-requires Inv-loop μ-loop
-put-head-requires c κs = search needs
+put-table-head-requires : tie.Need-put-table-head-requires Inv-loop μ-loop
+put-table-head-requires c κs = search needs
 
 rows-held-requires : tie.Need-rows-held-requires Inv-loop μ-loop
 rows-held-requires c κs = search needs
@@ -54,7 +54,7 @@ put-table-spec =
     (tie.spec
     Inv-loop
     μ-loop
-    put-head-requires
+    put-table-head-requires
     rows-held-requires
     loop-holds
     mul-put-row
