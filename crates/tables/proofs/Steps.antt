@@ -1,15 +1,19 @@
 -- A line that the code takes in is the step of the text's reading: its number leads to the next stage and stands behind
 -- those before it, and any other answer ends the reading.
 use mathlib.Core.Path.{_≡_, refl, sym, ap, ap₂, _∙_, subst}
-use mathlib.Core.Bool.{Bool, true, false}
+use mathlib.Core.Bool.{Bool, true, false, not}
 use mathlib.Core.List.{List, [], _∷_, _++_}
 use mathlib.Core.Logic.{inl, inr}
-use Prim.Native.Nat.{ℕ, suc, _+_, _-_, _*_, _≤_, _<_}
+use Prim.Native.Nat.{ℕ, zero, suc, _+_, _-_, _*_, _≤_, _<_}
 use native.Mathlib.Numerals.{add-one}
 use native.Mathlib.Omega.{arith}
 use lib.ListN.{length, take, set, length-append, length-set}
 use lib.Seq.{append-snoc, length-take-le, take-suc-set, getD-take, getD-set-other}
-use Rattle.basics.proofs.Tests.{never}
+use lib.Dec.{eqb}
+use borrow.Author.Tests.{eqb-true, eqb-false, eq-eqb, ne-eqb}
+use Rattle.basics.specs.Basics.{pick}
+use Rattle.basics.proofs.Tests.{never, test-of}
+use Rattle.rows.specs.Rows.{holdAt, switchAt}
 use Rattle.text.specs.declared.Line.{Line}
 use Rattle.text.specs.declared.Line.the-variants as L
 use Rattle.grammars.specs.Grammars.{step}
@@ -22,8 +26,8 @@ use Rattle.tables.specs.declared.progress.Stand.{Stand}
 use Rattle.tables.specs.declared.progress.Progress.{Progress}
 use Rattle.tables.specs.TableLines.{Stage, after, table}
 use Rattle.tables.specs.inside.Numbers.{mostNumbers, lineBytes, numberBytes, switchIn}
-use Rattle.tables.specs.inside.Stands.{lineHere, faultIn, standAfter, linesBy, readBy, Counted}
-use Rattle.tables.specs.inside.Stands.{endsRow, withNumber, PutAt, stageIn, stageOf}
+use Rattle.tables.specs.inside.Stands.{lineHere, faultIn, ranksNext, rowsNext, standAfter, linesBy, readBy}
+use Rattle.tables.specs.inside.Stands.{Counted, endsRow, withNumber, PutAt, stageIn, stageOf}
 use Rattle.tables.specs.inside.Stands.{Stands, progress, endedBy, reader, On, TakesLine}
 use Rattle.tables.proofs.Keys.{table-plain}
 use Rattle.tables.proofs.Stands.{step-shown, grown, Follows, stand-follows, LineTaken, answer-taken}
@@ -88,6 +92,35 @@ put-grown true at v ns h =
     ∙ append-snoc ws v (sw ∷ [])
     ∙ ap (λ d. ws ++ (v ∷ d ∷ [])) same
 
+-- with the last number of a row there is a row more
+ranks-count : (ranked : Bool) (count named n : ℕ) → ranksNext ranked count named n .count ≡ count
+ranks-count ranked count named zero = refl
+ranks-count ranked count named (suc n) = refl
+
+rows-count : (ranked : Bool) (count n : ℕ) → rowsNext ranked count n .count ≡ count
+rows-count ranked count zero = ranks-count ranked count 0 (pick ranked count 0)
+rows-count ranked count (suc n) = refl
+
+row-whole : (p : Part) (s : Stand) (v : ℕ) → Counted p s
+    → not (eqb (standAfter p s v .count) (s .count)) ≡ endsRow p (s .position)
+row-whole P.Board s v h = ap not (eq-eqb 0 (s .count) (sym (h .1)))
+row-whole P.Tasks s v h = ap not (eq-eqb 0 (s .count) (sym (h .1)))
+row-whole P.Switch s v h =
+    ap not (eq-eqb _ (s .count) (rows-count (s .ranked) 0 (s .left) ∙ sym (h .1)))
+row-whole P.Row s v h =
+    elim (test-of (eqb (s .position) holdAt)) [
+      | inl t ↦
+          let is = eqb-true (s .position) holdAt t in
+          let more = rows-count (s .ranked) (suc (s .count)) (s .left) in
+          rw (t, eq-eqb (suc (s .position)) switchAt (omega arith)) (ap not (ne-eqb _ (s .count) (λ e. omega (arith, e, more))))
+      | inr t ↦
+          let on = eqb-false (s .position) holdAt t in
+          rw (t, ne-eqb (suc (s .position)) switchAt (λ q. on (omega arith))) (ap not (eq-eqb (s .count) (s .count) refl))
+    ]
+row-whole P.Rank s v h =
+    ap not (eq-eqb _ (s .count) (ranks-count (s .ranked) (s .count) (suc (s .position)) (s .left)))
+row-whole P.End s v h = ap not (eq-eqb (s .count) (s .count) refl)
+
 -- the last number of a row stands behind the head
 ends-behind : (p : Part) (s : Stand) (i : ℕ) → endsRow p i ≡ true → 2 < readBy p s
 ends-behind P.Board s i e = never e
@@ -141,6 +174,10 @@ module _ (p : Progress) (text : List ℕ) (at k : ℕ) (ns : List ℕ) (h : Stan
       follows =
           stand-follows (s .part) (s .ranked) (s .count) (s .left) (s .position) ws v read-so-far (h .counted)
           (line-taken .taken)
+
+      -- whether its row is whole
+      pub whole-is : (t : Stand) → t ≡ there → not (eqb (t .count) (s .count)) ≡ ends
+      whole-is t same = ap (λ x. not (eqb (x .count) (s .count))) same ∙ row-whole (s .part) s v (h .counted)
 
       -- the index of its number
       pub index-is : k - 1 + s .count ≡ readBy (s .part) s

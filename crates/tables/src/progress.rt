@@ -4,10 +4,9 @@ ghost use Prim.Native.Nat.{_<_};
 ghost use Rattle.basics.specs.Basics.{pick};
 ghost use Rattle.rows.specs.Rows.{maxTasks, switchAt};
 ghost use Rattle.tables.specs.inside.Stands.{begun, ranksNext, rowsNext, afterField, standAfter, Counted};
-ghost use Rattle.tables.specs.inside.Stands.{endsRow, PutAt, withNumber, endedBy, Stands, TakesLine};
+ghost use Rattle.tables.specs.inside.Stands.{PutAt, withNumber, endedBy, Stands, TakesLine};
 use super::BOARD_SWITCH;
 use super::lines::expected_line;
-use rows::HOLD;
 use rows::SWITCH;
 use text::Line;
 
@@ -157,23 +156,13 @@ impl Stand {
     }
 }
 
-// Whether the number at a position is the last of a row's lines.
-fn ends_row(part: Part, position: usize) -> bool
-    ensures { λ r. ⌜ r ≡ endsRow part position ⌝ }
-{
-    match part {
-        Part::Row => position == HOLD,
-        _ => false,
-    }
-}
-
-// A number is put at an index, and behind the last of a row the table's switch.
-fn put_number(numbers: &mut [u64], at: usize, value: u64, last: bool)
-    requires { ⌜ PutAt last at (now numbers) ⌝ }
-    ensures { λ _. ⌜ now (numbers .exit) ≡ withNumber last at value (now (numbers .entry)) ⌝ }
+// A number is put at an index, and the table's switch behind it where the row is whole.
+fn put_number(numbers: &mut [u64], at: usize, value: u64, whole: bool)
+    requires { ⌜ PutAt whole at (now numbers) ⌝ }
+    ensures { λ _. ⌜ now (numbers .exit) ≡ withNumber whole at value (now (numbers .entry)) ⌝ }
 {
     numbers[at] = value;
-    if last {
+    if whole {
         numbers[at + 1] = numbers[BOARD_SWITCH];
     }
 }
@@ -213,10 +202,9 @@ pub fn take_line(
     let Line::Number(value, next) = answer else {
         return ended_by(stand, answer);
     };
-    let part = stand.part;
-    let last = ends_row(part, stand.position);
-    put_number(numbers, line as usize - 1 + stand.count, value, last);
     let past = stand.after(value);
+    let whole = past.count != stand.count;
+    put_number(numbers, line as usize - 1 + stand.count, value, whole);
     Progress {
         stand: past,
         ended: false,

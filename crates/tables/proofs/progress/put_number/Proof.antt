@@ -7,7 +7,7 @@ use borrow.Author.Needs.{needs}
 use Rattle.tables.proofs.progress.put_number.Statement.{statement}
 use Rattle.tables.proofs.progress.put_number.Tie as tie
 
--- where the number is the last of a row
+-- where the row is whole
 room : (c : tie.Then1) → let a = c .before .args in (2 < a .at) × (suc (a .at) < length (a .numbers .now))
 room c = c .before .pre .behind (c .if1 .taken)
 

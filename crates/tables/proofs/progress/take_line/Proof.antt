@@ -4,7 +4,7 @@ use Prim.Native.Nat.{_+_, _-_}
 use native.Mathlib.Omega.{arith}
 use borrow.Author.Needs.{needs}
 use Rattle.tables.specs.inside.Stands.{withNumber, PutAt}
-use Rattle.tables.proofs.Steps.{takes-end, number-room, takes-number, line-small}
+use Rattle.tables.proofs.Steps.{takes-end, whole-is, number-room, takes-number, line-small}
 use Rattle.tables.proofs.progress.take_line.Statement.{statement}
 use Rattle.tables.proofs.progress.take_line.Tie as tie
 
@@ -18,42 +18,46 @@ returns c =
 
 add-put-number : tie.Need-add-put-number
 add-put-number c =
-    let s = c .before .before .before .before .before .before .before .before .before .before .before in
+    let s = c .before .before .before .before .before .before .before .before .before .before .before .before .before in
     let a = s .args in
     let small = line-small (a .text .now) (a .offset) (a .before .stand) (a .line) (a .numbers .now) (s .pre) in
     record { fits = omega (arith, small) }
 
 put-number-requires : tie.Need-put-number-requires
 put-number-requires c κs =
-    let s = c .before .before .before .before .before .before .before .before .before .before .before in
+    let m = c .before .before .before .before .before .before in
+    let s = m .before .before .before .before .before .before .before in
     let a = s .args in
-    let d = c .before .before .before .before .answer .given in
-    subst (λ b. PutAt b (a .line - 1 + a .before .stand .count) (a .numbers .now))
-    (sym (c .before .before .ends-row .ensures))
-    (number-room (a .before) (a .text .now) (a .offset) (a .line) (a .numbers .now) (s .pre) _
-    (c .before .before .before .before .before .before .expected-line .ensures) (d .0 .0) (d .0 .1 .0) (d .1))
+    let d = m .answer .given in
+    let past = c .before .before .before .before .after in
+    let line = m .before .before .expected-line .ensures in
+    let here = number-room (a .before) (a .text .now) (a .offset) (a .line) (a .numbers .now) (s .pre) _ line (d .0 .0)
+    (d .0 .1 .0) (d .1) in
+    let whole = whole-is (a .before) (a .text .now) (a .offset) (a .line) (a .numbers .now) (s .pre) _ line (d .0 .0)
+    (d .0 .1 .0) (d .1) (past .result) (past .ensures) in
+    subst (λ b. PutAt b (a .line - 1 + a .before .stand .count) (a .numbers .now)) (sym whole) here
 
-add-t21 : tie.Need-add-t21
-add-t21 c =
-    let p = c .before .before .before .before in
-    let s = p .before .before .before .before .before .before .before .before .before .before .before in
+add-t20 : tie.Need-add-t20
+add-t20 c =
+    let s = c .before .before .before .before .before .before .before .before .before .before .before .before .before .before .before .before in
     let a = s .args in
     let small = line-small (a .text .now) (a .offset) (a .before .stand) (a .line) (a .numbers .now) (s .pre) in
     record { fits = omega (arith, small) }
 
 returns-2 : tie.Need-returns-2
 returns-2 c =
-    let p = c .before .before .before .before in
-    let s = p .before .before .before .before .before .before .before .before .before .before .before in
+    let m = c .before .before .before .before .before .before .before .before .before in
+    let s = m .before .before .before .before .before .before .before in
     let a = s .args in
-    let d = p .before .before .before .before .answer .given in
-    let put = c .before .before .before .put-number in
-    takes-number (a .before) (a .text .now) (a .offset) (a .line) (a .numbers .now) (s .pre) _
-    (p .before .before .before .before .before .before .expected-line .ensures) (d .0 .0) (d .0 .1 .0) (d .1)
-    (c .after .result) (c .after .ensures) (put .last .0)
-    (put .ensures
-    ∙ ap (λ b. withNumber b (a .line - 1 + a .before .stand .count) (d .0 .0) (a .numbers .now))
-    (p .before .before .ends-row .ensures))
+    let d = m .answer .given in
+    let past = c .before .before .before .before .before .before .before .after in
+    let put = c .before .before .put-number in
+    let line = m .before .before .expected-line .ensures in
+    let whole = whole-is (a .before) (a .text .now) (a .offset) (a .line) (a .numbers .now) (s .pre) _ line (d .0 .0)
+    (d .0 .1 .0) (d .1) (past .result) (past .ensures) in
+    takes-number (a .before) (a .text .now) (a .offset) (a .line) (a .numbers .now) (s .pre) _ line (d .0 .0) (d .0 .1 .0)
+    (d .1) (past .result) (past .ensures) (put .last .0)
+    (put .ensures ∙ ap (λ b. withNumber b (a .line - 1 + a .before .stand .count) (d .0 .0) (a .numbers .now)) whole)
 
 pub take-line-spec : {M : Type 1} → statement M
 take-line-spec =
@@ -68,7 +72,6 @@ take-line-spec =
     (λ c. search needs)
     add-put-number
     put-number-requires
-    (λ c κs. search needs)
-    add-t21
+    add-t20
     (λ c. search needs)
     returns-2)
