@@ -356,6 +356,33 @@ mod tests {
         assert_eq!((seen[2].jobs, seen[2].settled, seen[2].smallest), (1, 0, None));
     }
 
+    /// The example with a switch of 1, and the lines of the reviewer for it.
+    fn switched() -> Vec<Task> {
+        vec![
+            Task { period: 18, least: 2, most: 3, hold: 0, best: 2, worst: 3 },
+            Task { period: 24, least: 6, most: 7, hold: 0, best: 6, worst: 10 },
+            Task { period: 200, least: 17, most: 20, hold: 0, best: 25, worst: 43 },
+        ]
+    }
+
+    #[test]
+    fn with_a_switch_the_latest_response_is_taken_and_the_earliest_stays() {
+        let mut dice = Dice::new(1);
+        let choice = never(Releases::Zero, Lengths::Most);
+        let seen = run(&mut dice, &switched(), &[0, 0, 0], choice, 100).unwrap();
+        assert_eq!(seen.iter().map(|seen| seen.largest).collect::<Vec<_>>(), [3, 10, 43]);
+        let choice = never(Releases::Aligned(2), Lengths::Least);
+        let first = first_releases(&mut dice, choice.releases, &switched());
+        let seen = run(&mut dice, &switched(), &first, choice, 1_000).unwrap();
+        assert_eq!(seen[2].smallest, Some(25));
+        // The lines without a switch are passed.
+        let mut tasks = example();
+        tasks.iter_mut().zip(switched()).for_each(|(task, longer)| task.most = longer.most);
+        let choice = never(Releases::Zero, Lengths::Most);
+        let broken = run(&mut dice, &tasks, &[0, 0, 0], choice, 100);
+        assert_eq!(broken, Err(Violation { rank: 1, release: 0, response: 2 }));
+    }
+
     #[test]
     fn an_aligned_job_at_best_takes_the_earliest_response() {
         let mut dice = Dice::new(1);
@@ -464,5 +491,11 @@ mod tests {
         assert_eq!([drift(0), drift(1), drift(2), drift(3), drift(4)], [3, 4, 5, 4, 3]);
         let alternate = |turn| length(&mut Dice::new(1), Lengths::Alternating, &task, turn);
         assert_eq!([alternate(0), alternate(1)], [5, 3]);
+        // At random each end and the middle come up even between far ends.
+        let task = Task { least: 3, most: 1_003, ..task };
+        let drawn: Vec<u64> =
+            (0..200).map(|turn| length(&mut dice, Lengths::Random, &task, turn)).collect();
+        assert!([3, 503, 1_003].iter().all(|length| drawn.contains(length)));
+        assert!(drawn.iter().all(|length| (3..=1_003).contains(length)));
     }
 }

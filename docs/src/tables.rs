@@ -181,34 +181,32 @@ fn set_betas_by_sets(dice: &mut Dice, table: &mut Table) {
     }
 }
 
-/// Which switch a table has at the most, and by how many ticks its short periods are longer so that
-/// there is room for the switches of all its rows.
+/// A table's switch, and by how many ticks its short periods are longer so that there is room for
+/// the switches of all its rows.
 #[derive(Clone, Copy)]
-struct Switches {
-    most: u64,
+struct Switch {
+    ticks: u64,
     more: u64,
 }
 
-const NO_SWITCH: Switches = Switches { most: 0, more: 0 };
+const NO_SWITCH: Switch = Switch { ticks: 0, more: 0 };
 
 /// A switch of few ticks, of some, or the most that there can be.
-fn any_switches(dice: &mut Dice, count: usize) -> Switches {
-    let most = match dice.below(5) {
+fn any_switch(dice: &mut Dice, count: usize) -> Switch {
+    let ticks = match dice.below(5) {
         0 | 1 => dice.between(1, 5),
         2 => dice.any_size(100),
         3 => dice.any_size(MOST_SWITCH),
         _ => dice.pick(&[MOST_SWITCH - 1, MOST_SWITCH]),
     };
-    Switches { most, more: most * count as u64 * dice.pick(&[1, 2, 2, 4]) }
+    Switch { ticks, more: ticks * count as u64 * dice.pick(&[1, 2, 2, 4]) }
 }
 
 /// A table whose betas are no limit, and without holds.
-fn loose_table(dice: &mut Dice, family: Family, count: usize, switches: Switches) -> Table {
-    let mut periods = periods(dice, family, count, switches.more);
+fn loose_table(dice: &mut Dice, family: Family, count: usize, switch: Switch) -> Table {
+    let mut periods = periods(dice, family, count, switch.more);
     dice.shuffle(&mut periods);
-    let shortest = periods.iter().copied().min().unwrap_or(1);
-    let switch = switches.most.min(shortest - 1);
-    let worsts = worsts(dice, switch, &periods);
+    let worsts = worsts(dice, switch.ticks, &periods);
     let tasks = task_numbers(dice, count);
     let columns = tasks.into_iter().zip(periods).zip(worsts);
     let row = |((task, period), worst)| Row {
@@ -220,7 +218,7 @@ fn loose_table(dice: &mut Dice, family: Family, count: usize, switches: Switches
         beta: MOST_BETA,
         hold: 0,
     };
-    Table { board: 1, switch, rows: columns.map(row).collect() }
+    Table { board: 1, switch: switch.ticks, rows: columns.map(row).collect() }
 }
 
 /// Whether, by period, some task has a larger margin than without one of the tasks above it.
@@ -253,12 +251,12 @@ fn set_betas(dice: &mut Dice, table: &mut Table) {
     }
 }
 
-fn drawn(dice: &mut Dice, family: Family, count: usize, switches: Switches) -> Table {
-    let mut table = loose_table(dice, family, count, switches);
+fn drawn(dice: &mut Dice, family: Family, count: usize, switch: Switch) -> Table {
+    let mut table = loose_table(dice, family, count, switch);
     if family == Crossing {
         let mut draws = 1;
         while draws < CROSSING_DRAWS && !some_task_gains(&table) {
-            table = loose_table(dice, family, count, switches);
+            table = loose_table(dice, family, count, switch);
             draws += 1;
         }
     }
@@ -298,8 +296,8 @@ pub fn holding(dice: &mut Dice, family: Family, count: usize, loose: bool) -> Ta
 
 /// A table with a switch, and holds in three of four; now and then a job fills its period.
 pub fn switching(dice: &mut Dice, family: Family, count: usize, loose: bool) -> Table {
-    let switches = any_switches(dice, count);
-    let mut table = drawn(dice, family, count, switches);
+    let switch = any_switch(dice, count);
+    let mut table = drawn(dice, family, count, switch);
     if dice.once_in(if count == 1 { 4 } else { 40 }) {
         fill_a_period(dice, &mut table);
     }
