@@ -790,8 +790,8 @@ mod tests {
     /// The example with a switch of 1: jobs last up to 7, 3 and 20 ticks.
     ///
     /// Task 13 alone: W = 20. Below 12: 20 + 2 × 3 = 26, in which 12 is released twice. Below 11:
-    /// 20 + 2 × 7 = 34. Below both: 20 + 2 × 7 + 3 × 3 = 43; one release of 12 less, 40, is past
-    /// its third at 36. Each E is that without a switch, and so is what alpha is taken times.
+    /// 20 + 2 × 7 = 34. Below both: 20 + 2 × 7 + 3 × 3 = 43; with two jobs of 12 it would be 40,
+    /// which is past its third release at 36. Each E is that without a switch.
     #[test]
     fn the_figures_of_the_example_with_a_switch() {
         let figured = |index, above: &[usize]| figured_switched(1, [0, 0, 0], index, above);
@@ -874,12 +874,9 @@ mod tests {
 
     /// The example with betas of 9999, 10000 and `last`.
     fn tight(switch: u64, last: u64) -> String {
-        let betas = [("beta=8000", "beta=9999"), ("beta=8000", "beta=10000")];
-        changed(&betas).replace("57000", &last.to_string()).replace("switch=0", &line(switch))
-    }
-
-    fn line(switch: u64) -> String {
-        format!("switch={switch}")
+        let (switch, last) = (format!("switch={switch}"), format!("beta={last}"));
+        let first = [("beta=8000", "beta=9999"), ("beta=8000", "beta=10000")];
+        changed(&[first[0], first[1], ("beta=57000", &last), ("switch=0", &switch)])
     }
 
     /// Task 11 below 12 costs 8000, with a switch of 1 it costs 10000, and so does 12 below 11;
@@ -921,18 +918,21 @@ mod tests {
         read_table((head + &rest).as_bytes())
     }
 
+    fn unread(number: u64, place: u64) -> Result<Table, Refusal> {
+        Err(Refusal { number, place })
+    }
+
     #[test]
     fn worst_and_switch_are_held_against_the_period() {
-        let refusal = |number, place| Err(Refusal { number, place });
         assert!(one("1000", 1_001, 1, 1, 0).is_ok());
-        assert_eq!(one("1000", 1_000, 1, 1, 0), refusal(4, 6));
+        assert_eq!(one("1000", 1_000, 1, 1, 0), unread(4, 6));
         assert!(one("3", 10, 7, 1, 0).is_ok());
-        assert_eq!(one("3", 10, 8, 1, 0), refusal(4, 6));
+        assert_eq!(one("3", 10, 8, 1, 0), unread(4, 6));
         assert!(one("0", 1_000_000, 1_000_000, 1, 0).is_ok());
         assert!(one("1000", 1_000_000, 999_000, 1, 0).is_ok());
-        assert_eq!(one("1000", 1_000_000, 999_001, 1, 0), refusal(4, 6));
-        assert_eq!(one("1", 1_000_000, 1_000_000, 1, 0), refusal(4, 6));
-        assert_eq!(one("1", 1_000_000, 1_000_001, 1, 0), refusal(3, 6));
+        assert_eq!(one("1000", 1_000_000, 999_001, 1, 0), unread(4, 6));
+        assert_eq!(one("1", 1_000_000, 1_000_000, 1, 0), unread(4, 6));
+        assert_eq!(one("1", 1_000_000, 1_000_001, 1, 0), unread(3, 6));
         // Of the example, task 12 is at its period with a switch of 16, and 11 with 18.
         assert!(read_table(switched(16).as_bytes()).is_ok());
         assert_eq!(planned(switched(17).as_bytes()), refused(4, 13));
@@ -941,31 +941,29 @@ mod tests {
 
     #[test]
     fn best_and_hold_are_held_against_the_worst_time_alone() {
-        let refusal = |number, place| Err(Refusal { number, place });
         assert!(one("3", 20, 8, 8, 8).is_ok());
         for above in [9, 10, 11, 12] {
-            assert_eq!(one("3", 20, 8, above, 0), refusal(4, 7));
-            assert_eq!(one("3", 20, 8, 8, above), refusal(4, 10));
+            assert_eq!(one("3", 20, 8, above, 0), unread(4, 7));
+            assert_eq!(one("3", 20, 8, 8, above), unread(4, 10));
         }
     }
 
     #[test]
     fn the_numbers_of_the_switch() {
-        let refusal = |number, place| Err(Refusal { number, place });
         for switch in ["0", "1", "999", "1000"] {
             let read = one(switch, 2_000, 8, 8, 0).map(|table| table.switch);
             assert_eq!(read.map(|number| number.to_string()), Ok(switch.to_string()));
         }
         for switch in ["1001", "1010", "65536", "4294967296", "999999999999"] {
-            assert_eq!(one(switch, 2_000, 8, 8, 0), refusal(3, 3));
+            assert_eq!(one(switch, 2_000, 8, 8, 0), unread(3, 3));
         }
         for switch in
             ["", "00", "01", "01000", "-1", "-0", "+1", " 1", "1 ", "1\r", "1.0", "x", "=1"]
         {
-            assert_eq!(one(switch, 2_000, 8, 8, 0), refusal(2, 3));
+            assert_eq!(one(switch, 2_000, 8, 8, 0), unread(2, 3));
         }
         for switch in ["1000000000000", "0000000000001", "18446744073709551616"] {
-            assert_eq!(one(switch, 2_000, 8, 8, 0), refusal(2, 3));
+            assert_eq!(one(switch, 2_000, 8, 8, 0), unread(2, 3));
         }
         // Said before anything of the rows, and after the lines ahead of it.
         assert_eq!(planned(b"board=7\ntasks=3\nswitch=1001\n"), refused(3, 3));
@@ -988,10 +986,10 @@ mod tests {
         refuses("task=11\n", "task=11\nswitch=0\n", 1, 5);
         refuses("hold=0\n", "hold=0\nswitch=0\n", 1, 11);
         refuses("hold=0\ntask=12", "switch=0\ntask=12", 1, 10);
-        assert_eq!(
-            planned(changed(&[(head, "switch=0\nboard=7\ntasks=3\n")]).as_bytes()),
-            refused(1, 1)
-        );
+        let ahead = changed(&[(head, "switch=0\nboard=7\ntasks=3\n")]);
+        assert_eq!(planned(ahead.as_bytes()), refused(1, 1));
+        // Ahead of the first board of a crane it is a piece of its own, and the next lacks it.
+        assert_eq!(crane_says(&ahead), refusal_says(1, 1) + &refusal_says(1, 3));
         for line in
             ["Switch=0", "switch", "switch0", "switches=0", "switch =0", " switch=0", "", "tasks=0"]
         {
