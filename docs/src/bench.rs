@@ -12,7 +12,7 @@ mod plain;
 mod tables;
 
 use dice::Dice;
-use model::{Answer, Row, MOST_PIECES, MOST_TASKS};
+use model::{Answer, Row, Table, MOST_PIECES, MOST_TASKS};
 use std::hint::black_box;
 use std::process::ExitCode;
 
@@ -145,62 +145,74 @@ fn print_times(
 
 // ---- Tables -----------------------------------------------------------------------------
 
-/// The terms added up in the search: its work, whatever the machine.
-fn work(rows: &[Row]) -> u64 {
-    plain::chosen::<true>(rows).1
+/// The plan's order, and the terms added up in the search for it if `COUNTED`: its work, whatever
+/// the machine.
+fn chosen<const COUNTED: bool>(table: &Table) -> (Option<Vec<usize>>, u64) {
+    let longer = |row: &Row| Row { worst: row.worst + table.switch, ..*row };
+    plain::chosen::<COUNTED>(&table.rows.iter().map(longer).collect::<Vec<_>>())
 }
 
-fn typical(dice: &mut Dice, tasks: usize) -> Vec<Row> {
+fn work(table: &Table) -> u64 {
+    chosen::<true>(table).1
+}
+
+fn typical(dice: &mut Dice, tasks: usize) -> Table {
     let family = dice.pick(&tables::FAMILIES);
-    tables::rows_without_holds(dice, family, tasks, false)
+    tables::simple(dice, family, tasks, false)
 }
 
-fn holding(dice: &mut Dice, tasks: usize) -> Vec<Row> {
+fn holding(dice: &mut Dice, tasks: usize) -> Table {
     let family = dice.pick(&tables::FAMILIES);
-    tables::rows(dice, family, tasks, false)
+    tables::holding(dice, family, tasks, false)
 }
 
-fn slowest_drawn(dice: &mut Dice, draw: Draw, tasks: usize) -> Vec<Row> {
+fn switching(dice: &mut Dice, tasks: usize) -> Table {
+    let family = dice.pick(&tables::FAMILIES);
+    tables::switching(dice, family, tasks, false)
+}
+
+fn slowest_drawn(dice: &mut Dice, draw: Draw, tasks: usize) -> Table {
     let mut slowest = draw(dice, tasks);
     for _ in 1..DRAWN_FOR_A_SLOW_ONE {
-        let rows = draw(dice, tasks);
-        if work(&rows) > work(&slowest) {
-            slowest = rows;
+        let table = draw(dice, tasks);
+        if work(&table) > work(&slowest) {
+            slowest = table;
         }
     }
     slowest
 }
 
-fn slow(dice: &mut Dice, tasks: usize) -> Vec<Row> {
+fn slow(dice: &mut Dice, tasks: usize) -> Table {
     slowest_drawn(dice, typical, tasks)
 }
 
-fn slow_holding(dice: &mut Dice, tasks: usize) -> Vec<Row> {
+fn slow_holding(dice: &mut Dice, tasks: usize) -> Table {
     slowest_drawn(dice, holding, tasks)
 }
 
-type Draw = fn(&mut Dice, usize) -> Vec<Row>;
+fn slow_switching(dice: &mut Dice, tasks: usize) -> Table {
+    slowest_drawn(dice, switching, tasks)
+}
+
+type Draw = fn(&mut Dice, usize) -> Table;
 
 /// Tables for each number of tasks.
-fn draw_tables(dice: &mut Dice, draw: Draw, count: usize) -> Vec<Vec<Vec<Row>>> {
+fn draw_tables(dice: &mut Dice, draw: Draw, count: usize) -> Vec<Vec<Table>> {
     (1..=MOST_TASKS).map(|tasks| (0..count).map(|_| draw(dice, tasks)).collect()).collect()
 }
 
-fn texts_of(tables: &[Vec<Vec<Row>>], text: fn(&[Row]) -> Vec<u8>) -> Vec<Vec<Vec<u8>>> {
-    tables.iter().map(|tables| tables.iter().map(|rows| text(rows)).collect()).collect()
-}
-
-fn table_text(rows: &[Row]) -> Vec<u8> {
-    tables::text(1, rows)
+fn texts_of(tables: &[Vec<Table>], text: fn(&Table) -> Vec<u8>) -> Vec<Vec<Vec<u8>>> {
+    tables.iter().map(|tables| tables.iter().map(text).collect()).collect()
 }
 
 /// A table with the plan's order as rank lines, or by period where no order is stable.
-fn ranked_text(rows: &[Row]) -> Vec<u8> {
+fn ranked_text(table: &Table) -> Vec<u8> {
+    let rows = &table.rows;
     let mut by_period: Vec<usize> = (0..rows.len()).collect();
     by_period.sort_by_key(|&index| rows[index].period);
-    let order = plain::chosen::<false>(rows).0.unwrap_or(by_period);
+    let order = chosen::<false>(table).0.unwrap_or(by_period);
     let ranks = order.iter().flat_map(|&index| format!("rank={}\n", rows[index].task).into_bytes());
-    table_text(rows).into_iter().chain(ranks).collect()
+    tables::text(table).into_iter().chain(ranks).collect()
 }
 
 /// Times full boards that have an order and full boards that have none, drawn until there are
@@ -213,13 +225,13 @@ fn print_full_boards(
 ) -> Result<(), Different> {
     let (boards, mut texts) = (FULL_BOARDS * options.tables, [Vec::new(), Vec::new()]);
     while texts.iter().any(|texts| texts.len() < boards) {
-        let rows = typical(dice, MOST_TASKS);
-        if work(&rows) < least {
+        let table = typical(dice, MOST_TASKS);
+        if work(&table) < least {
             continue;
         }
-        let half = &mut texts[usize::from(plain::chosen::<false>(&rows).0.is_none())];
+        let half = &mut texts[usize::from(chosen::<false>(&table).0.is_none())];
         if half.len() < boards {
-            half.push(table_text(&rows));
+            half.push(tables::text(&table));
         }
     }
     println!("planner, {} tables of {MOST_TASKS} tasks {title}, microseconds a call", 2 * boards);
@@ -251,7 +263,7 @@ fn print_cranes(dice: &mut Dice, count: usize, rounds: u32) -> Result<(), Differ
         for _ in 0..count {
             let mut board = || {
                 let tasks = dice.below(MOST_TASKS) + 1;
-                table_text(&typical(dice, tasks))
+                tables::text(&typical(dice, tasks))
             };
             let pieces: Vec<Vec<u8>> = (0..boards).map(|_| board()).collect();
             let times = measure(&CRANE, &pieces.concat(), rounds)?;
@@ -335,14 +347,14 @@ fn nothing(_: &[u8], _: &mut [u8]) -> Answer {
 
 /// The stack that each call needs on full boards, beside what a thread needs that does nothing.
 fn print_stack(dice: &mut Dice, count: usize) {
-    let tables: Vec<Vec<Row>> = (0..count).map(|_| slow(dice, MOST_TASKS)).collect();
-    let crane: Vec<u8> = tables.iter().flat_map(|rows| table_text(rows)).collect();
+    let tables: Vec<Table> = (0..count).map(|_| slow(dice, MOST_TASKS)).collect();
+    let plans: Vec<Vec<u8>> = tables.iter().map(tables::text).collect();
+    let reviews: Vec<Vec<u8>> = tables.iter().map(ranked_text).collect();
+    let crane = plans.concat();
     let most = |function, texts: &[Vec<u8>]| {
         let touched = texts.iter().map(|text| stack_touched(function, text)).max().unwrap_or(0);
         touched - stack_touched(nothing, b"")
     };
-    let plans: Vec<Vec<u8>> = tables.iter().map(|rows| table_text(rows)).collect();
-    let reviews: Vec<Vec<u8>> = tables.iter().map(|rows| ranked_text(rows)).collect();
     println!(
         "stack of a call with {MOST_TASKS} tasks, bytes: planner {}, reviewer {}, crane {}",
         most(PLAN.library, &plans),
@@ -365,39 +377,39 @@ fn near(dice: &mut Dice, number: u64, low: u64, high: u64) -> u64 {
 }
 
 /// A beta that is no limit, or that the row just misses below some of the others.
-fn some_beta(dice: &mut Dice, rows: &[Row], index: usize) -> u64 {
-    match tables::boundary_at_random(dice, rows, index) {
+fn some_beta(dice: &mut Dice, table: &Table, index: usize) -> u64 {
+    match tables::boundary_at_random(dice, table, index) {
         Some(beta) if dice.once_in(2) => beta - 1,
         _ => 200_000_000_000,
     }
 }
 
-/// A table a step away.
-fn step_from(dice: &mut Dice, rows: &[Row]) -> Vec<Row> {
-    let mut rows = rows.to_vec();
-    let (index, other) = (dice.below(rows.len()), dice.below(rows.len()));
-    let mut row = rows[index];
+/// A table a step away; its switch stays, and is 0 where a climb begins.
+fn step_from(dice: &mut Dice, table: &Table) -> Table {
+    let mut table = table.clone();
+    let (index, other) = (dice.below(table.rows.len()), dice.below(table.rows.len()));
+    let mut row = table.rows[index];
     match dice.below(7) {
         0 => row.period = near(dice, row.period, row.worst, 1_000_000),
         1 => row.worst = near(dice, row.worst, 1, row.period),
         2 => row.best = near(dice, row.best, 1, row.worst),
         3 => row.alpha = dice.pick(&[1_000, 2_000, 100_000]),
-        4 => row.beta = some_beta(dice, &rows, index),
-        5 => row = Row { task: row.task, ..rows[other] },
+        4 => row.beta = some_beta(dice, &table, index),
+        5 => row = Row { task: row.task, ..table.rows[other] },
         _ => {}
     }
     row.best = row.best.min(row.worst);
-    rows[index] = row;
+    table.rows[index] = row;
     if dice.once_in(4) {
-        rows.swap(index, other);
+        table.rows.swap(index, other);
     }
-    rows
+    table
 }
 
 /// A table made to be slow: short tasks that leave one tick in 87,639 free, so that the search of a
 /// latest response creeps; long tasks that all just fit below them, so that every set of these is
 /// tried; and, last in the table, a task that is never stable, so that all of it is in vain.
-fn creeping() -> Vec<Row> {
+fn creeping() -> Table {
     let loose = |period| Row {
         task: 0,
         period,
@@ -412,21 +424,21 @@ fn creeping() -> Vec<Row> {
     let mut rows = long.chain(short).map(loose).collect::<Vec<_>>();
     rows.push(Row { beta: 0, ..rows[0] });
     rows.iter_mut().zip(1..).for_each(|(row, task)| row.task = task);
-    rows
+    Table { board: 1, switch: 0, rows }
 }
 
 /// Climbs from a table to slower ones until the work of all tables tried passes `budget`.
-fn climb(dice: &mut Dice, start: Vec<Row>, budget: u64) -> (u64, Vec<Row>) {
-    let (mut most, mut rows, mut spent) = (work(&start), start, 0);
+fn climb(dice: &mut Dice, start: Table, budget: u64) -> (u64, Table) {
+    let (mut most, mut table, mut spent) = (work(&start), start, 0);
     while spent < budget {
-        let next = step_from(dice, &rows);
+        let next = step_from(dice, &table);
         let needed = work(&next);
         spent += needed;
         if needed >= most {
-            (most, rows) = (needed, next);
+            (most, table) = (needed, next);
         }
     }
-    (most, rows)
+    (most, table)
 }
 
 /// Climbs from a drawn table and from the made one, each with half of the budget, and times the
@@ -435,8 +447,8 @@ fn print_slowest(dice: &mut Dice, millions: u64, rounds: u32) -> Result<(), Diff
     let starts = [slow(dice, MOST_TASKS), creeping()];
     let ends = starts.map(|start| climb(dice, start, millions * 500_000));
     println!("climbed to {} and {} terms", ends[0].0, ends[1].0);
-    let (_, rows) = ends.into_iter().max_by_key(|end| end.0).expect("two climbs");
-    let text = table_text(&rows);
+    let (_, table) = ends.into_iter().max_by_key(|end| end.0).expect("two climbs");
+    let text = tables::text(&table);
     let times = measure(&PLAN, &text, rounds)?;
     let (plain, library) = (times.plain * 1e3, times.library * 1e3);
     println!(
@@ -472,12 +484,16 @@ fn options() -> Option<Options> {
     Some(options)
 }
 
-/// The planner on tables whose rows may hold.
-fn print_holding(dice: &mut Dice, options: &Options) -> Result<(), Different> {
-    let parts: [(&str, Draw); 2] = [("typical", holding), ("slow", slow_holding)];
-    for (name, draw) in parts {
-        let texts = texts_of(&draw_tables(dice, draw, options.tables), table_text);
-        print_times(&format!("planner, {name} tables with holds"), &PLAN, &texts, options.rounds)?;
+/// The planner on typical and on slow tables that have something more.
+fn print_more(
+    dice: &mut Dice,
+    more: &str,
+    draws: [Draw; 2],
+    options: &Options,
+) -> Result<(), Different> {
+    for (name, draw) in ["typical", "slow"].iter().zip(draws) {
+        let texts = texts_of(&draw_tables(dice, draw, options.tables), tables::text);
+        print_times(&format!("planner, {name} tables {more}"), &PLAN, &texts, options.rounds)?;
     }
     Ok(())
 }
@@ -486,8 +502,9 @@ fn run(options: &Options) -> Result<(), Different> {
     let mut dice = Dice::new(options.seed);
     let typical = draw_tables(&mut dice, typical, options.tables);
     let slow = draw_tables(&mut dice, slow, options.tables);
-    print_times("planner, typical tables", &PLAN, &texts_of(&typical, table_text), options.rounds)?;
-    print_times("planner, slow tables", &PLAN, &texts_of(&slow, table_text), options.rounds)?;
+    let text = tables::text;
+    print_times("planner, typical tables", &PLAN, &texts_of(&typical, text), options.rounds)?;
+    print_times("planner, slow tables", &PLAN, &texts_of(&slow, text), options.rounds)?;
     print_times(
         "reviewer, typical tables",
         &REVIEW,
@@ -496,10 +513,12 @@ fn run(options: &Options) -> Result<(), Different> {
     )?;
     print_full_boards("as drawn", &mut dice, 0, options)?;
     print_full_boards("with much to search", &mut dice, MUCH_WORK, options)?;
-    // Dice of its own, so that the tables of the other parts stay what they were.
-    print_cranes(&mut Dice::new(options.seed ^ 1 << 32), options.tables / 4 + 1, options.rounds)?;
-    print_holding(&mut Dice::new(options.seed ^ 2 << 32), options)?;
-    print_stack(&mut Dice::new(options.seed ^ 3 << 32), options.tables.min(MOST_PIECES));
+    // Dice of their own, so that the tables of the other parts stay what they were.
+    let own = |part: u64| Dice::new(options.seed ^ part << 32);
+    print_cranes(&mut own(1), options.tables / 4 + 1, options.rounds)?;
+    print_more(&mut own(2), "with holds", [holding, slow_holding], options)?;
+    print_more(&mut own(4), "with a switch", [switching, slow_switching], options)?;
+    print_stack(&mut own(3), options.tables.min(MOST_PIECES));
     if options.climb > 0 {
         print_slowest(&mut dice, options.climb, options.rounds)?;
     }

@@ -3,11 +3,13 @@
 use crate::boards::{self, Choice, Keeps, Lengths, Releases, Seen, Task};
 use crate::calls::{self, AMPLE};
 use crate::dice::Dice;
-use crate::model::{Row, MOST_TASKS};
+use crate::model::{Row, Table, MOST_TASKS};
 use crate::{library, progress, tables};
 use std::time::Instant;
 
 const MOST_TICKS: u64 = 6_000;
+/// A table with a longer period is left out, since a run of it takes too long.
+const LONGEST_PERIOD: u64 = 10_000;
 
 /// How many tasks came how close to one of their lines, each over all its runs.
 #[derive(Default)]
@@ -46,6 +48,7 @@ struct Missed {
 #[derive(Default)]
 struct Report {
     runs: u64,
+    switching: u64,
     holding: u64,
     total: Seen,
     to_worst: Gaps,
@@ -95,6 +98,7 @@ impl Report {
         );
         self.to_worst.print("worst line, by task");
         self.to_best.print("best line, by task");
+        println!("  {} of the plans with a switch above 0", self.switching);
         println!(
             "  {} of the plans with a hold of 2 or more, {kept} ticks kept from a higher rank",
             self.holding
@@ -120,16 +124,16 @@ fn absorb(total: &mut Seen, seen: &Seen) {
 
 /// The tasks of the plan that the library writes for a table, with the lines as it wrote them;
 /// none if it refuses.
-fn tasks_of_plan(text: &[u8], rows: &[Row]) -> Option<Vec<Task>> {
+fn tasks_of_plan(text: &[u8], table: &Table) -> Option<Vec<Task>> {
     let mut buffer = [0; AMPLE];
     let answer = library::plan(text, &mut buffer);
     if answer.number != 0 {
         return None;
     }
-    let ranks = calls::ranks_in(buffer.get(..answer.length as usize)?, rows)?;
+    let ranks = calls::ranks_in(buffer.get(..answer.length as usize)?, &table.rows)?;
     let task = |rank: calls::Rank| {
-        let row = &rows[rank.index];
-        let Row { period, worst: most, best: least, hold, .. } = *row;
+        let Row { period, worst, best: least, hold, .. } = table.rows[rank.index];
+        let most = worst + table.switch;
         Task { period, least, most, hold, best: rank.best, worst: rank.worst }
     };
     Some(ranks.into_iter().map(task).collect())
@@ -138,7 +142,7 @@ fn tasks_of_plan(text: &[u8], rows: &[Row]) -> Option<Vec<Task>> {
 /// Every choice of first releases with every choice of lengths and, where something may hold, of
 /// stretches; those made for a rank only with the lengths and stretches that they are made for.
 fn choices(tasks: &[Task]) -> Vec<Choice> {
-    use Lengths::{Alternating, Best, Drifting, Random, Worst};
+    use Lengths::{Alternating, Drifting, Least, Most, Random};
     let holding: Vec<usize> = (0..tasks.len()).filter(|&rank| tasks[rank].hold >= 2).collect();
     let some: &[Keeps] = match holding.as_slice() {
         [] => &[Keeps::Never],
@@ -147,18 +151,18 @@ fn choices(tasks: &[Task]) -> Vec<Choice> {
     let mut choices = Vec::new();
     for &keeps in some {
         for releases in [Releases::Zero, Releases::Random, Releases::Drifting] {
-            let lengths = [Worst, Best, Alternating, Random, Drifting];
+            let lengths = [Most, Least, Alternating, Random, Drifting];
             choices.extend(lengths.map(|lengths| Choice { releases, lengths, keeps }));
         }
     }
     choices.extend((0..tasks.len()).map(|rank| Choice {
         releases: Releases::Aligned(rank),
-        lengths: Best,
+        lengths: Least,
         keeps: Keeps::Ending(rank),
     }));
     choices.extend(holding.into_iter().map(|rank| Choice {
         releases: Releases::Behind(rank),
-        lengths: Worst,
+        lengths: Most,
         keeps: Keeps::Only(rank),
     }));
     choices
@@ -194,12 +198,16 @@ pub fn run(dice: &mut Dice, count: u64) -> Result<(), String> {
     while done < count {
         let (family, tasks) = (dice.pick(&tables::SHORT_FAMILIES), 1 + dice.below(MOST_TASKS));
         let loose = dice.once_in(2);
-        let rows = tables::rows(dice, family, tasks, loose);
-        let text = tables::text(1, &rows);
-        let Some(tasks) = tasks_of_plan(&text, &rows) else {
+        let table = tables::any(dice, family, tasks, loose);
+        if table.rows.iter().any(|row| row.period > LONGEST_PERIOD) {
+            continue;
+        }
+        let text = tables::text(&table);
+        let Some(tasks) = tasks_of_plan(&text, &table) else {
             continue;
         };
         run_plan(dice, &mut report, &text, &tasks)?;
+        report.switching += (table.switch > 0) as u64;
         done += 1;
         progress("boards", done, count, started);
     }

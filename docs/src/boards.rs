@@ -1,6 +1,6 @@
-//! The board of document 01 with the stretches of request 2, tick by tick. First releases, job
-//! lengths and stretches are chosen to bring finishes as close as they can come to a plan's `worst`
-//! and `best` lines.
+//! The board of document 01 with the stretches of request 2 and the longer jobs of request 4, tick by
+//! tick. First releases, job lengths and stretches are chosen to bring finishes as close as they can
+//! come to a plan's `worst` and `best` lines.
 
 use crate::dice::Dice;
 use std::collections::VecDeque;
@@ -9,7 +9,7 @@ use std::collections::VecDeque;
 #[derive(Clone, Copy, Debug, PartialEq)]
 pub struct Task {
     pub period: u64,
-    /// What a job may need, from the table.
+    /// What a job may need, from the table: its best time, up to its worst and the switch.
     pub least: u64,
     pub most: u64,
     /// The ticks of its longest stretch, from the table.
@@ -37,11 +37,12 @@ pub enum Releases {
 /// How long jobs last.
 #[derive(Clone, Copy, Debug)]
 pub enum Lengths {
-    Worst,
-    Best,
+    Most,
+    Least,
     Alternating,
+    /// Often one of the two ends or half-way between them.
     Random,
-    /// From best up to worst and down again, a tick a job.
+    /// From the least up to the most and down again, a tick a job.
     Drifting,
 }
 
@@ -157,8 +158,8 @@ pub fn first_releases(dice: &mut Dice, releases: Releases, tasks: &[Task]) -> Ve
 fn length(dice: &mut Dice, lengths: Lengths, task: &Task, turn: u64) -> u64 {
     let span = task.most - task.least;
     match lengths {
-        Lengths::Worst => task.most,
-        Lengths::Best => task.least,
+        Lengths::Most => task.most,
+        Lengths::Least => task.least,
         Lengths::Alternating => {
             if turn.is_multiple_of(2) {
                 task.most
@@ -166,7 +167,12 @@ fn length(dice: &mut Dice, lengths: Lengths, task: &Task, turn: u64) -> u64 {
                 task.least
             }
         }
-        Lengths::Random => dice.between(task.least, task.most),
+        Lengths::Random => match dice.below(6) {
+            0 => task.least,
+            1 => task.most,
+            2 => task.least + span / 2,
+            _ => dice.between(task.least, task.most),
+        },
         Lengths::Drifting => {
             let step = turn % (2 * span).max(1);
             task.least + if step <= span { step } else { 2 * span - step }
@@ -335,12 +341,12 @@ mod tests {
     }
 
     fn at_worst(keeps: Keeps) -> Choice {
-        Choice { releases: Releases::Zero, lengths: Lengths::Worst, keeps }
+        Choice { releases: Releases::Zero, lengths: Lengths::Most, keeps }
     }
 
     #[test]
     fn first_jobs_released_together_at_worst_take_the_latest_response() {
-        let choice = never(Releases::Zero, Lengths::Worst);
+        let choice = never(Releases::Zero, Lengths::Most);
         let seen = run(&mut Dice::new(1), &example(), &[0, 0, 0], choice, 100).unwrap();
         assert_eq!(seen.iter().map(|seen| seen.largest).collect::<Vec<_>>(), [2, 8, 35]);
         assert_eq!(seen[0].jobs, 6);
@@ -350,10 +356,37 @@ mod tests {
         assert_eq!((seen[2].jobs, seen[2].settled, seen[2].smallest), (1, 0, None));
     }
 
+    /// The example with a switch of 1, and the lines of the reviewer for it.
+    fn switched() -> Vec<Task> {
+        vec![
+            Task { period: 18, least: 2, most: 3, hold: 0, best: 2, worst: 3 },
+            Task { period: 24, least: 6, most: 7, hold: 0, best: 6, worst: 10 },
+            Task { period: 200, least: 17, most: 20, hold: 0, best: 25, worst: 43 },
+        ]
+    }
+
+    #[test]
+    fn with_a_switch_the_latest_response_is_taken_and_the_earliest_stays() {
+        let mut dice = Dice::new(1);
+        let choice = never(Releases::Zero, Lengths::Most);
+        let seen = run(&mut dice, &switched(), &[0, 0, 0], choice, 100).unwrap();
+        assert_eq!(seen.iter().map(|seen| seen.largest).collect::<Vec<_>>(), [3, 10, 43]);
+        let choice = never(Releases::Aligned(2), Lengths::Least);
+        let first = first_releases(&mut dice, choice.releases, &switched());
+        let seen = run(&mut dice, &switched(), &first, choice, 1_000).unwrap();
+        assert_eq!(seen[2].smallest, Some(25));
+        // The lines without a switch are passed.
+        let mut tasks = example();
+        tasks.iter_mut().zip(switched()).for_each(|(task, longer)| task.most = longer.most);
+        let choice = never(Releases::Zero, Lengths::Most);
+        let broken = run(&mut dice, &tasks, &[0, 0, 0], choice, 100);
+        assert_eq!(broken, Err(Violation { rank: 1, release: 0, response: 2 }));
+    }
+
     #[test]
     fn an_aligned_job_at_best_takes_the_earliest_response() {
         let mut dice = Dice::new(1);
-        let choice = never(Releases::Aligned(2), Lengths::Best);
+        let choice = never(Releases::Aligned(2), Lengths::Least);
         let first = first_releases(&mut dice, choice.releases, &example());
         let seen = run(&mut dice, &example(), &first, choice, 1_000).unwrap();
         assert_eq!(seen[2].smallest, Some(25));
@@ -363,11 +396,11 @@ mod tests {
     fn a_line_drawn_too_close_is_broken() {
         let mut tasks = example();
         tasks[2].worst = 34;
-        let choice = never(Releases::Zero, Lengths::Worst);
+        let choice = never(Releases::Zero, Lengths::Most);
         let broken = run(&mut Dice::new(1), &tasks, &[0, 0, 0], choice, 100);
         assert_eq!(broken, Err(Violation { rank: 3, release: 0, response: 34 }));
         let mut tasks = example();
-        let choice = never(Releases::Aligned(2), Lengths::Best);
+        let choice = never(Releases::Aligned(2), Lengths::Least);
         let first = first_releases(&mut Dice::new(1), choice.releases, &tasks);
         tasks[2].best = 26;
         let broken = run(&mut Dice::new(1), &tasks, &first, choice, 1_000);
@@ -428,7 +461,7 @@ mod tests {
             Task { period: 3, least: 1, most: 1, hold: 0, best: 1, worst: 3 },
             Task { period: 3, least: 2, most: 3, hold: 3, best: 2, worst: 3 },
         ];
-        let choice = Choice { lengths: Lengths::Best, ..at_worst(Keeps::Always) };
+        let choice = Choice { lengths: Lengths::Least, ..at_worst(Keeps::Always) };
         let seen = run(&mut Dice::new(1), &tasks, &[0, 0], choice, 30).unwrap();
         assert_eq!((seen[0].jobs, seen[0].largest, seen[1].kept), (10, 1, 0));
     }
@@ -444,7 +477,7 @@ mod tests {
             assert_eq!(shortest(&tasks, 1), response);
             let mut dice = Dice::new(1);
             let first = first_releases(&mut dice, Releases::Aligned(1), &tasks);
-            let choice = Choice { lengths: Lengths::Best, ..at_worst(Keeps::Ending(1)) };
+            let choice = Choice { lengths: Lengths::Least, ..at_worst(Keeps::Ending(1)) };
             let seen = run(&mut dice, &tasks, &first, choice, 100).unwrap();
             assert_eq!(seen[1].smallest, Some(response), "hold {hold}");
         }
@@ -458,5 +491,11 @@ mod tests {
         assert_eq!([drift(0), drift(1), drift(2), drift(3), drift(4)], [3, 4, 5, 4, 3]);
         let alternate = |turn| length(&mut Dice::new(1), Lengths::Alternating, &task, turn);
         assert_eq!([alternate(0), alternate(1)], [5, 3]);
+        // At random each end and the middle come up even between far ends.
+        let task = Task { least: 3, most: 1_003, ..task };
+        let drawn: Vec<u64> =
+            (0..200).map(|turn| length(&mut dice, Lengths::Random, &task, turn)).collect();
+        assert!([3, 503, 1_003].iter().all(|length| drawn.contains(length)));
+        assert!(drawn.iter().all(|length| (3..=1_003).contains(length)));
     }
 }

@@ -23,7 +23,7 @@ mod texts;
 
 use calls::{compare, Call, Tally, AMPLE};
 use dice::Dice;
-use model::{Outcome, Row, MOST_TASKS};
+use model::{Outcome, Row, Table, MOST_TASKS};
 use std::io::{Read, Write};
 use std::process::ExitCode;
 use std::time::Instant;
@@ -91,24 +91,19 @@ fn run_texts(dice: &mut Dice, count: u64) -> Result<(), String> {
 // ---- Tables -----------------------------------------------------------------------------
 
 /// The planner on a table; the order that both found, if there is one.
-fn compare_plan(tally: &mut Tally, board: u64, rows: &[Row]) -> Result<Option<Vec<usize>>, String> {
-    let text = tables::text(board, rows);
+fn compare_plan(tally: &mut Tally, table: &Table) -> Result<Option<Vec<usize>>, String> {
+    let text = tables::text(table);
     let outcome = model::planned(&text);
     compare(tally, Call::Plan, &text, &outcome, AMPLE)?;
-    let ranks = outcome.ok().and_then(|plan| calls::ranks_in(&plan, rows));
+    let ranks = outcome.ok().and_then(|plan| calls::ranks_in(&plan, &table.rows));
     Ok(ranks.map(|ranks| ranks.iter().map(|rank| rank.index).collect()))
 }
 
 /// The reviewer on a table and an order.
-fn compare_review(
-    tally: &mut Tally,
-    board: u64,
-    rows: &[Row],
-    order: &[usize],
-) -> Result<(), String> {
-    let mut text = tables::text(board, rows);
+fn compare_review(tally: &mut Tally, table: &Table, order: &[usize]) -> Result<(), String> {
+    let mut text = tables::text(table);
     for &index in order {
-        text.extend(format!("rank={}\n", rows[index].task).into_bytes());
+        text.extend(format!("rank={}\n", table.rows[index].task).into_bytes());
     }
     compare(tally, Call::Review, &text, &model::reviewed(&text), AMPLE)
 }
@@ -118,24 +113,24 @@ fn compare_review(
 fn compare_table(
     dice: &mut Dice,
     tally: &mut Tally,
-    rows: &[Row],
+    table: &Table,
 ) -> Result<Option<Vec<usize>>, String> {
-    let board = dice.any_size(65_535);
-    let chosen = compare_plan(tally, board, rows)?;
-    let mut order: Vec<usize> = (0..rows.len()).collect();
-    order.sort_by_key(|&index| rows[index].period);
-    compare_review(tally, board, rows, chosen.as_ref().unwrap_or(&order))?;
+    let chosen = compare_plan(tally, table)?;
+    let mut order: Vec<usize> = (0..table.rows.len()).collect();
+    order.sort_by_key(|&index| table.rows[index].period);
+    compare_review(tally, table, chosen.as_ref().unwrap_or(&order))?;
     dice.shuffle(&mut order);
-    compare_review(tally, board, rows, &order)?;
+    compare_review(tally, table, &order)?;
     Ok(chosen)
 }
 
 /// Lowers the beta of one task of an order to its boundary or just below.
-fn lower_a_beta(dice: &mut Dice, rows: &mut [Row], order: &[usize]) {
+fn lower_a_beta(dice: &mut Dice, table: &mut Table, order: &[usize]) {
     let rank = dice.below(order.len());
-    let ranked: Vec<&Row> = order.iter().map(|&index| &rows[index]).collect();
-    let boundary = tables::boundary(ranked[rank], &ranked[..rank], &ranked[rank + 1..]);
-    rows[order[rank]].beta = boundary.map_or(0, |beta| beta - dice.between(0, 1));
+    let ranked: Vec<&Row> = order.iter().map(|&index| &table.rows[index]).collect();
+    let (above, below) = (&ranked[..rank], &ranked[rank + 1..]);
+    let boundary = tables::boundary(table.switch, ranked[rank], above, below);
+    table.rows[order[rank]].beta = boundary.map_or(0, |beta| beta - dice.between(0, 1));
 }
 
 /// The planner on a table whose betas are lowered one after another, so that ever fewer orders
@@ -143,13 +138,13 @@ fn lower_a_beta(dice: &mut Dice, rows: &mut [Row], order: &[usize]) {
 fn squeeze(
     dice: &mut Dice,
     tally: &mut Tally,
-    mut rows: Vec<Row>,
+    mut table: Table,
     mut order: Option<Vec<usize>>,
 ) -> Result<u64, String> {
     let mut steps = 0;
     while let Some(stable) = order.filter(|_| steps < MOST_SQUEEZES) {
-        lower_a_beta(dice, &mut rows, &stable);
-        order = compare_plan(tally, 1, &rows)?;
+        lower_a_beta(dice, &mut table, &stable);
+        order = compare_plan(tally, &table)?;
         steps += 1;
     }
     Ok(steps)
@@ -157,20 +152,22 @@ fn squeeze(
 
 fn run_tables(dice: &mut Dice, count: u64) -> Result<(), String> {
     let (mut tally, started) = (Tally::default(), Instant::now());
-    let (mut accepted, mut squeezed) = ([0; MOST_TASKS], 0);
+    let (mut accepted, mut with_switch, mut squeezed) = ([0; MOST_TASKS], 0, 0);
     for done in 1..=count {
         let tasks = (done as usize - 1) % MOST_TASKS;
         let family = dice.pick(&tables::FAMILIES);
-        let rows = tables::rows(dice, family, tasks + 1, false);
-        let order = compare_table(dice, &mut tally, &rows)?;
+        let table = tables::any(dice, family, tasks + 1, false);
+        let order = compare_table(dice, &mut tally, &table)?;
         accepted[tasks] += order.is_some() as u64;
-        squeezed += squeeze(dice, &mut tally, rows, order)?;
+        with_switch += (table.switch > 0 && order.is_some()) as u64;
+        squeezed += squeeze(dice, &mut tally, table, order)?;
         progress("tables", done, count, started);
     }
     print!("{count} tables of 1 to {MOST_TASKS} tasks and {squeezed} made from them, ");
     println!("{} calls, no difference", tally.calls());
     tally.print();
     println!("  with a stable order, by number of tasks: {accepted:?}");
+    println!("  of these with a switch above 0: {with_switch}");
     Ok(())
 }
 

@@ -15,7 +15,7 @@ const LINES: [usize; 8] = [31, 32, 33, 64, 256, 257, 288, 9_362];
 const MOST_LINES: usize = 65_540;
 
 /// Pieces of a line or two that are no tables.
-const SHORT_PIECES: [&[u8]; 10] = [
+const SHORT_PIECES: [&[u8]; 14] = [
     b"board=\n",
     b"board=\n\n",
     b"board=7\n",
@@ -25,7 +25,11 @@ const SHORT_PIECES: [&[u8]; 10] = [
     b"board=7\r\n",
     b"board=board=\n",
     b"board=7\ntasks=17\n",
+    b"board=7\ntasks=1\n",
     b"board=7\ntasks=1\nBoard=7\n",
+    b"board=7\ntasks=1\nswitch=1001\n",
+    b"board=7\ntasks=1\nswitch=0\n",
+    b"board=7\nswitch=0\ntasks=1\n",
 ];
 
 /// Bytes ahead of the first board, with a line feed at their end and without.
@@ -91,8 +95,7 @@ const NO_LINE_FEEDS: &[u8] = b"\r\x0b\x0c\0 ;\x1e\x85";
 fn board(dice: &mut Dice) -> Vec<u8> {
     let most = if dice.once_in(100) { MOST_TASKS } else { 3 };
     let (family, tasks) = (dice.pick(&FAMILIES), 1 + dice.below(most));
-    let rows = tables::rows(dice, family, tasks, false);
-    tables::text(dice.any_size(65_535), &rows)
+    tables::text(&tables::any(dice, family, tasks, false))
 }
 
 fn damaged_board(dice: &mut Dice) -> Vec<u8> {
@@ -192,21 +195,22 @@ fn lines(dice: &mut Dice) -> Vec<u8> {
     text
 }
 
-/// As many boards as there can be, or one more, with many tasks, betas that are no limit and no
-/// holds: the longest outputs. Seldom with the most tasks, with which the model is slow.
+/// As many boards as there can be, or one more, with many tasks, betas that are no limit, no switch
+/// and no holds: the longest outputs. Seldom with the most tasks, with which the model is slow.
 fn full(dice: &mut Dice) -> Vec<u8> {
     let tasks = match dice.below(40) {
         0 => MOST_TASKS,
         1..=8 => 12,
         _ => 7,
     };
-    let mut rows = tables::rows_without_holds(dice, Family::Huge, tasks, true);
+    let mut table = tables::simple(dice, Family::Huge, tasks, true);
     let mut text = Vec::new();
     for _ in 0..MOST_PIECES + dice.once_in(8) as usize {
         if dice.once_in(8) {
-            rows = tables::rows_without_holds(dice, Family::Huge, tasks, true);
+            table = tables::simple(dice, Family::Huge, tasks, true);
         }
-        text.extend(tables::text(dice.between(10_000, 65_535), &rows));
+        table.board = dice.between(10_000, 65_535);
+        text.extend(tables::text(&table));
     }
     text
 }

@@ -1,5 +1,6 @@
-//! The planner and the reviewer of document 01 with the holds of request 2 and the sixteen tasks of
-//! request 3, and the crane of request 1, written from those papers alone.
+//! The planner and the reviewer of document 01 with the holds of request 2, the sixteen tasks of
+//! request 3 and the switch of request 4, and the crane of request 1, written from those papers
+//! alone.
 //!
 //! Nothing here is clever, and nothing follows the product: lines are an indexed list, figures
 //! are found by walking the points where a sum can change, and orders by trying every
@@ -59,9 +60,11 @@ pub struct Answer {
 /// refusal.
 pub type Outcome = Result<Vec<u8>, Refusal>;
 
-#[derive(Debug, PartialEq)]
+#[derive(Clone, Debug, PartialEq)]
 pub struct Table {
     pub board: u64,
+    /// The ticks that a job of any row may last beyond its worst time.
+    pub switch: u64,
     pub rows: Vec<Row>,
 }
 
@@ -114,12 +117,12 @@ fn refuse_if(condition: bool, number: u64, place: usize) -> Result<(), Refusal> 
 }
 
 /// The row whose first line is at `place`, after the rows `before`.
-fn row_at(lines: &[&[u8]], place: usize, before: &[Row]) -> Result<Row, Refusal> {
+fn row_at(lines: &[&[u8]], place: usize, switch: u64, before: &[Row]) -> Result<Row, Refusal> {
     let task = number_at(lines, place, "task", 1, 65_535)?;
     refuse_if(before.iter().any(|row| row.task == task), 5, place)?;
     let period = number_at(lines, place + 1, "period", 1, 1_000_000)?;
     let worst = number_at(lines, place + 2, "worst", 1, 1_000_000)?;
-    refuse_if(worst > period, 4, place + 2)?;
+    refuse_if(worst + switch > period, 4, place + 2)?;
     let best = number_at(lines, place + 3, "best", 1, 1_000_000)?;
     refuse_if(best > worst, 4, place + 3)?;
     let alpha = number_at(lines, place + 4, "alpha", 1_000, 100_000)?;
@@ -133,12 +136,13 @@ fn row_at(lines: &[&[u8]], place: usize, before: &[Row]) -> Result<Row, Refusal>
 fn table_at_start(lines: &[&[u8]]) -> Result<(Table, usize), Refusal> {
     let board = number_at(lines, 1, "board", 1, 65_535)?;
     let tasks = number_at(lines, 2, "tasks", 1, MOST_TASKS as u64)? as usize;
+    let switch = number_at(lines, 3, "switch", 0, 1_000)?;
     let mut rows = Vec::new();
     for index in 0..tasks {
-        let row = row_at(lines, 3 + 7 * index, &rows)?;
+        let row = row_at(lines, 4 + 7 * index, switch, &rows)?;
         rows.push(row);
     }
-    Ok((Table { board, rows }, 2 + 7 * tasks))
+    Ok((Table { board, switch, rows }, 3 + 7 * tasks))
 }
 
 /// Refusal 1 at the first line too many.
@@ -182,15 +186,16 @@ fn blocking(below: &[&Row]) -> u64 {
     }
 }
 
-/// The latest response of a row between `above` and `below`, or none if it is late.
+/// The latest response of a row between `above` and `below`, or none if it is late. A job of any
+/// row may last its worst time and the switch; a stretch has no part of the switch.
 ///
 /// The right side of the equation changes only just after a multiple of a period above, so it
 /// has one value from there up to the next such point, that point included. The first span
 /// whose value does not lie past the span's end holds the smallest solution.
-pub fn latest(row: &Row, above: &[&Row], below: &[&Row]) -> Option<u64> {
+pub fn latest(switch: u64, row: &Row, above: &[&Row], below: &[&Row]) -> Option<u64> {
     let mut points: Vec<u64> = above.iter().map(|over| over.period).collect();
-    let once = above.iter().map(|over| over.worst).sum::<u64>();
-    let mut demand = row.worst + blocking(below) + once;
+    let once = above.iter().map(|over| over.worst + switch).sum::<u64>();
+    let mut demand = row.worst + switch + blocking(below) + once;
     while demand <= row.period {
         let end = points.iter().copied().min().unwrap_or(row.period);
         if demand <= end {
@@ -199,7 +204,7 @@ pub fn latest(row: &Row, above: &[&Row], below: &[&Row]) -> Option<u64> {
         for (point, over) in points.iter_mut().zip(above) {
             if *point == end {
                 *point += over.period;
-                demand += over.worst;
+                demand += over.worst + switch;
             }
         }
     }
@@ -230,8 +235,8 @@ pub fn earliest(row: &Row, above: &[&Row], latest: u64) -> u64 {
 }
 
 /// All figures of a row between `above` and `below`, or none if it is late.
-pub fn figures(row: &Row, above: &[&Row], below: &[&Row]) -> Option<Figures> {
-    let worst = latest(row, above, below)?;
+pub fn figures(switch: u64, row: &Row, above: &[&Row], below: &[&Row]) -> Option<Figures> {
+    let worst = latest(switch, row, above, below)?;
     let best = earliest(row, above, worst);
     let jitter = worst - best;
     let cost = 1_000 * best + row.alpha * jitter;
@@ -247,9 +252,10 @@ fn rows_in(rows: &[Row], set: u32) -> Vec<&Row> {
 }
 
 /// Whether a row is stable below a set; all the others are then below it.
-fn is_stable(rows: &[Row], index: usize, above: u32) -> bool {
+fn is_stable(table: &Table, index: usize, above: u32) -> bool {
+    let rows = &table.rows;
     let (over, under) = (rows_in(rows, above), rows_in(rows, !(above | 1 << index)));
-    figures(&rows[index], &over, &under).is_some_and(|figures| figures.margin >= 0)
+    figures(table.switch, &rows[index], &over, &under).is_some_and(|figures| figures.margin >= 0)
 }
 
 /// Steps to the next permutation in the sequence of dictionaries; false after the last.
@@ -265,15 +271,16 @@ fn next_permutation(list: &mut [usize]) -> bool {
 
 /// The first stable permutation, lowest rank first: written so, the sequence of dictionaries is
 /// the paper's rule.
-fn order_by_permutations(rows: &[Row]) -> Option<Vec<usize>> {
-    let mut known = vec![None; rows.len() << rows.len()];
-    let mut order: Vec<usize> = (0..rows.len()).collect();
+fn order_by_permutations(table: &Table) -> Option<Vec<usize>> {
+    let tasks = table.rows.len();
+    let mut known = vec![None; tasks << tasks];
+    let mut order: Vec<usize> = (0..tasks).collect();
     loop {
-        let mut above = (1u32 << rows.len()) - 1;
+        let mut above = (1u32 << tasks) - 1;
         let stable = order.iter().all(|&index| {
             above &= !(1 << index);
-            let slot = &mut known[index << rows.len() | above as usize];
-            *slot.get_or_insert_with(|| is_stable(rows, index, above))
+            let slot = &mut known[index << tasks | above as usize];
+            *slot.get_or_insert_with(|| is_stable(table, index, above))
         });
         if stable {
             return Some(order);
@@ -286,13 +293,13 @@ fn order_by_permutations(rows: &[Row]) -> Option<Vec<usize>> {
 
 /// Grows stable orders from the highest rank down, one rank a round. A round keeps, for each
 /// set of rows that has a stable order, the first of them by the rule, lowest rank first.
-fn order_by_growing(rows: &[Row]) -> Option<Vec<usize>> {
+fn order_by_growing(table: &Table) -> Option<Vec<usize>> {
     let mut kept = BTreeMap::from([(0u32, Vec::new())]);
-    for _ in rows {
+    for _ in &table.rows {
         let mut grown: BTreeMap<u32, Vec<usize>> = BTreeMap::new();
         for (&above, order) in &kept {
-            let outside = (0..rows.len()).filter(|index| above >> index & 1 == 0);
-            for index in outside.filter(|&index| is_stable(rows, index, above)) {
+            let outside = (0..table.rows.len()).filter(|index| above >> index & 1 == 0);
+            for index in outside.filter(|&index| is_stable(table, index, above)) {
                 let longer = [&[index], order.as_slice()].concat();
                 let first = grown.entry(above | 1 << index).or_insert_with(|| longer.clone());
                 if longer < *first {
@@ -306,10 +313,10 @@ fn order_by_growing(rows: &[Row]) -> Option<Vec<usize>> {
 }
 
 /// The order of the plan as rows of the table, highest rank first.
-pub fn chosen_order(rows: &[Row]) -> Option<Vec<usize>> {
-    let method =
-        if rows.len() <= PERMUTED_AT_MOST { order_by_permutations } else { order_by_growing };
-    let mut order = method(rows)?;
+pub fn chosen_order(table: &Table) -> Option<Vec<usize>> {
+    let few = table.rows.len() <= PERMUTED_AT_MOST;
+    let method = if few { order_by_permutations } else { order_by_growing };
+    let mut order = method(table)?;
     order.reverse();
     Some(order)
 }
@@ -317,18 +324,19 @@ pub fn chosen_order(rows: &[Row]) -> Option<Vec<usize>> {
 // ---- Writing ----------------------------------------------------------------------------
 
 /// The figures of an order, highest rank first, or refusal 7 at its first late rank.
-fn figures_of_order(rows: &[Row], order: &[usize]) -> Result<Vec<Figures>, Refusal> {
-    let ranked: Vec<&Row> = order.iter().map(|&index| &rows[index]).collect();
+fn figures_of_order(table: &Table, order: &[usize]) -> Result<Vec<Figures>, Refusal> {
+    let ranked: Vec<&Row> = order.iter().map(|&index| &table.rows[index]).collect();
     let mut all = Vec::new();
     for (rank, &row) in ranked.iter().enumerate() {
         let late = Refusal { number: 7, place: rank as u64 + 1 };
-        all.push(figures(row, &ranked[..rank], &ranked[rank + 1..]).ok_or(late)?);
+        let (above, below) = (&ranked[..rank], &ranked[rank + 1..]);
+        all.push(figures(table.switch, row, above, below).ok_or(late)?);
     }
     Ok(all)
 }
 
 fn plan_text(table: &Table, order: &[usize]) -> Outcome {
-    let figures = figures_of_order(&table.rows, order)?;
+    let figures = figures_of_order(table, order)?;
     let mut text = format!("plan=1\nboard={}\ntasks={}\n", table.board, table.rows.len());
     for (rank, (&index, Figures { best, worst, jitter, margin })) in
         order.iter().zip(figures).enumerate()
@@ -341,7 +349,7 @@ fn plan_text(table: &Table, order: &[usize]) -> Outcome {
 
 pub fn planned(text: &[u8]) -> Outcome {
     let table = read_table(text)?;
-    let order = chosen_order(&table.rows).ok_or(Refusal { number: 8, place: 0 })?;
+    let order = chosen_order(&table).ok_or(Refusal { number: 8, place: 0 })?;
     plan_text(&table, &order)
 }
 
@@ -403,7 +411,7 @@ mod tests {
     use super::*;
     use crate::dice::Dice;
 
-    const TABLE: &str = "board=7\ntasks=3\n\
+    const TABLE: &str = "board=7\ntasks=3\nswitch=0\n\
         task=11\nperiod=24\nworst=6\nbest=6\nalpha=1000\nbeta=8000\nhold=0\n\
         task=12\nperiod=18\nworst=2\nbest=2\nalpha=1000\nbeta=8000\nhold=0\n\
         task=13\nperiod=200\nworst=19\nbest=17\nalpha=3000\nbeta=57000\nhold=0\n";
@@ -413,8 +421,8 @@ mod tests {
         rank=2\ntask=11\nbest=6\nworst=8\njitter=2\nmargin=0\n\
         rank=3\ntask=13\nbest=25\nworst=35\njitter=10\nmargin=2000\n";
 
-    fn rows() -> Vec<Row> {
-        read_table(TABLE.as_bytes()).unwrap().rows
+    fn table() -> Table {
+        read_table(TABLE.as_bytes()).unwrap()
     }
 
     /// E, W, jitter and margin of a row of the example below others of it, the rest below it.
@@ -428,12 +436,23 @@ mod tests {
         index: usize,
         above: &[usize],
     ) -> Option<(u64, u64, u64, i64)> {
-        let mut rows = rows();
+        figured_switched(0, holds, index, above)
+    }
+
+    /// The same where jobs may last longer by the switch.
+    fn figured_switched(
+        switch: u64,
+        holds: [u64; 3],
+        index: usize,
+        above: &[usize],
+    ) -> Option<(u64, u64, u64, i64)> {
+        let mut rows = table().rows;
         rows.iter_mut().zip(holds).for_each(|(row, hold)| row.hold = hold);
         let below = (0..3).filter(|other| *other != index && !above.contains(other));
         let below: Vec<&Row> = below.map(|index| &rows[index]).collect();
         let above: Vec<&Row> = above.iter().map(|&index| &rows[index]).collect();
-        figures(&rows[index], &above, &below).map(|f| (f.best, f.worst, f.jitter, f.margin))
+        let figures = figures(switch, &rows[index], &above, &below);
+        figures.map(|f| (f.best, f.worst, f.jitter, f.margin))
     }
 
     fn refused(number: u64, place: u64) -> Outcome {
@@ -473,7 +492,7 @@ mod tests {
 
     #[test]
     fn the_orders_of_the_example() {
-        assert_eq!(chosen_order(&rows()), Some(vec![1, 0, 2]));
+        assert_eq!(chosen_order(&table()), Some(vec![1, 0, 2]));
         let text = changed(&[("57000", "55000")]);
         assert!(String::from_utf8(planned(text.as_bytes()).unwrap())
             .unwrap()
@@ -490,8 +509,8 @@ mod tests {
     fn one_task_at_its_line() {
         let one = |beta, hold| {
             let text = format!(
-                "board=1\ntasks=1\ntask=1\nperiod=10\nworst=10\nbest=10\nalpha=1000\nbeta={beta}\n\
-                hold={hold}\n"
+                "board=1\ntasks=1\nswitch=0\ntask=1\nperiod=10\nworst=10\nbest=10\n\
+                alpha=1000\nbeta={beta}\nhold={hold}\n"
             );
             planned(text.as_bytes())
         };
@@ -500,7 +519,7 @@ mod tests {
             assert!(one(10000, hold).is_ok());
             assert_eq!(one(9999, hold), refused(8, 0));
         }
-        assert_eq!(one(10000, 11), refused(4, 9));
+        assert_eq!(one(10000, 11), refused(4, 10));
     }
 
     #[test]
@@ -512,7 +531,7 @@ mod tests {
         assert_eq!(planned(b"board=07\n"), refused(2, 1));
         assert_eq!(planned(b"board=7\ntasks=17\n"), refused(3, 2));
         assert!(read_table(changed(&[("worst=2", "worst=18")]).as_bytes()).is_ok());
-        assert_eq!(planned(changed(&[("worst=2", "worst=19")]).as_bytes()), refused(4, 12));
+        assert_eq!(planned(changed(&[("worst=2", "worst=19")]).as_bytes()), refused(4, 13));
         assert_eq!(printed(planned, TABLE_TAKES, b""), b"plan=0\nrefusal=1\nline=1\n");
     }
 
@@ -527,10 +546,10 @@ mod tests {
         };
         refuses("board=7", "board7", 1, 1);
         refuses("board=7\n", "board=7", 2, 1);
-        refuses("beta=57000\n", "beta=57000", 2, 22);
-        refuses("beta=57000\nhold=0\n", "beta=57000\nhold=0", 1, 23);
-        refuses("beta=57000\nhold=0\n", "beta=57000\nhold=0\n\n", 1, 24);
-        refuses("beta=57000\nhold=0\n", "beta=57000\nhold=0\nrank=11\n", 1, 24);
+        refuses("beta=57000\n", "beta=57000", 2, 23);
+        refuses("beta=57000\nhold=0\n", "beta=57000\nhold=0", 1, 24);
+        refuses("beta=57000\nhold=0\n", "beta=57000\nhold=0\n\n", 1, 25);
+        refuses("beta=57000\nhold=0\n", "beta=57000\nhold=0\nrank=11\n", 1, 25);
         refuses("board=7", "board=", 2, 1);
         refuses("board=7", "board=+7", 2, 1);
         refuses("board=7", "board=7\r", 2, 1);
@@ -538,21 +557,21 @@ mod tests {
         refuses("board=7", "board=1000000000000", 2, 1);
         refuses("board=7", "board=0", 3, 1);
         refuses("tasks=3", "tasks=0", 3, 2);
-        refuses("best=6", "best=7", 4, 6);
-        refuses("task=12", "task=11", 5, 10);
-        refuses("alpha=1000", "alpha=999", 3, 7);
-        refuses("beta=8000", "beta=200000000001", 3, 8);
-        refuses("worst=6", "worst=1000001", 3, 5);
+        refuses("best=6", "best=7", 4, 7);
+        refuses("task=12", "task=11", 5, 11);
+        refuses("alpha=1000", "alpha=999", 3, 8);
+        refuses("beta=8000", "beta=200000000001", 3, 9);
+        refuses("worst=6", "worst=1000001", 3, 6);
     }
 
     #[test]
     fn rank_lines_named_twice_or_unknown() {
         let review = |ranks: &str| reviewed(format!("{TABLE}{ranks}").as_bytes());
-        assert_eq!(review("rank=11\nrank=11\nrank=13\n"), refused(6, 25));
-        assert_eq!(review("rank=14\nrank=11\nrank=13\n"), refused(6, 24));
-        assert_eq!(review("rank=65536\n"), refused(3, 24));
-        assert_eq!(review("rank=11\nrank=12\n"), refused(1, 26));
-        assert_eq!(review("rank=11\nrank=12\nrank=13\nrank=13\n"), refused(1, 27));
+        assert_eq!(review("rank=11\nrank=11\nrank=13\n"), refused(6, 26));
+        assert_eq!(review("rank=14\nrank=11\nrank=13\n"), refused(6, 25));
+        assert_eq!(review("rank=65536\n"), refused(3, 25));
+        assert_eq!(review("rank=11\nrank=12\n"), refused(1, 27));
+        assert_eq!(review("rank=11\nrank=12\nrank=13\nrank=13\n"), refused(1, 28));
     }
 
     #[test]
@@ -573,13 +592,13 @@ mod tests {
     fn a_program_takes_no_more_than_its_bytes() {
         let mut input = TABLE.as_bytes().to_vec();
         input.resize(TABLE_TAKES, b'x');
-        assert_eq!(printed(planned, TABLE_TAKES, &input), b"plan=0\nrefusal=1\nline=24\n");
+        assert_eq!(printed(planned, TABLE_TAKES, &input), b"plan=0\nrefusal=1\nline=25\n");
         // A first line cut off by the limit has no line feed.
         let long = [&[b'x'; TABLE_TAKES], TABLE.as_bytes()].concat();
         assert_eq!(printed(planned, TABLE_TAKES, &long), b"plan=0\nrefusal=1\nline=1\n");
     }
 
-    /// The definitions of W and E tried number by number.
+    /// The definitions of W and E without a switch, tried number by number.
     fn figures_by_trying(row: &Row, above: &[&Row], below: &[&Row]) -> Option<(u64, u64)> {
         let largest = below.iter().map(|r| r.hold).filter(|&hold| hold > 0).max();
         let blocking = largest.map_or(0, |hold| hold - 1);
@@ -593,28 +612,46 @@ mod tests {
         Some((if row.hold < 2 { solved } else { row.best }, worst))
     }
 
-    fn small_rows(dice: &mut Dice, count: usize) -> Vec<Row> {
+    /// A table of few ticks, half of the time without a switch.
+    fn small_table(dice: &mut Dice, count: usize) -> Table {
+        let switch = dice.pick(&[0, 0, 0, 1, 2, 5]);
         let mut row = |index| {
-            let period = dice.between(1, 60);
-            let worst = dice.between(1, period.min(8));
+            let period = dice.between(1 + switch, 60);
+            let worst = dice.between(1, (period - switch).min(8));
             let best = dice.between(1, worst);
             let alpha = dice.pick(&[1000, 1500, 4000]);
             let beta = dice.between(1000, 1000 * 2 * period);
             let hold = dice.pick(&[0, 0, 1, 2, worst]).min(worst);
             Row { task: index as u64 + 1, period, worst, best, alpha, beta, hold }
         };
-        (0..count).map(&mut row).collect()
+        Table { board: 1, switch, rows: (0..count).map(&mut row).collect() }
     }
 
+    /// The figures of the first row, so many of the next above it and the others below.
+    fn figures_at(switch: u64, rows: &[Row], above: usize) -> Option<Figures> {
+        let others: Vec<&Row> = rows[1..].iter().collect();
+        let (above, below) = others.split_at(above);
+        figures(switch, &rows[0], above, below)
+    }
+
+    /// The rows with the switch in their worst times: as a formula of before has them.
+    fn lengthened(switch: u64, rows: &[Row]) -> Vec<Row> {
+        rows.iter().map(|row| Row { worst: row.worst + switch, ..*row }).collect()
+    }
+
+    /// With a switch of 0 the formulas are those of before it, and else those with longer jobs.
     #[test]
     fn figures_agree_with_trying_every_number() {
         let mut dice = Dice::new(1);
         for round in 0..20_000 {
-            let rows = small_rows(&mut dice, 1 + round % 6);
-            let others: Vec<&Row> = rows[1..].iter().collect();
-            let (above, below) = others.split_at(dice.below(rows.len()));
-            let found = figures(&rows[0], above, below).map(|f| (f.best, f.worst));
-            assert_eq!(found, figures_by_trying(&rows[0], above, below), "{rows:?}");
+            let Table { switch, rows, .. } = small_table(&mut dice, 1 + round % 6);
+            let split = dice.below(rows.len());
+            let found = figures_at(switch, &rows, split).map(|f| (f.best, f.worst));
+            let longer = lengthened(switch, &rows);
+            let others: Vec<&Row> = longer[1..].iter().collect();
+            let (above, below) = others.split_at(split);
+            let tried = figures_by_trying(&longer[0], above, below);
+            assert_eq!(found, tried, "switch {switch}, {rows:?}");
         }
     }
 
@@ -623,9 +660,9 @@ mod tests {
         let mut dice = Dice::new(2);
         let mut accepted = 0;
         for round in 0..4_000 {
-            let rows = small_rows(&mut dice, 1 + round % PERMUTED_AT_MOST);
-            let order = order_by_permutations(&rows);
-            assert_eq!(order, order_by_growing(&rows), "{rows:?}");
+            let table = small_table(&mut dice, 1 + round % PERMUTED_AT_MOST);
+            let order = order_by_permutations(&table);
+            assert_eq!(order, order_by_growing(&table), "{table:?}");
             accepted += order.is_some() as usize;
         }
         assert!(accepted > 500 && accepted < 3_500, "{accepted} of 4000 have an order");
@@ -718,29 +755,272 @@ mod tests {
         };
         let last = "beta=57000\nhold=0\n";
         assert!(read_table(held([6, 2, 19]).as_bytes()).is_ok());
-        refuses("hold=0", "hold=7", 4, 9);
-        refuses(last, "beta=57000\nhold=20\n", 4, 23);
-        refuses("hold=0", "hold=1000000", 4, 9);
-        refuses("hold=0", "hold=1000001", 3, 9);
-        refuses("hold=0", "hold=999999999999", 3, 9);
-        refuses("hold=0", "hold=1000000000000", 2, 9);
+        refuses("hold=0", "hold=7", 4, 10);
+        refuses(last, "beta=57000\nhold=20\n", 4, 24);
+        refuses("hold=0", "hold=1000000", 4, 10);
+        refuses("hold=0", "hold=1000001", 3, 10);
+        refuses("hold=0", "hold=999999999999", 3, 10);
+        refuses("hold=0", "hold=1000000000000", 2, 10);
         for number in ["", "00", "06", "-1", "-0", "+6", "6 ", "6\r", "x", "=6"] {
-            refuses("hold=0", &format!("hold={number}"), 2, 9);
+            refuses("hold=0", &format!("hold={number}"), 2, 10);
         }
         for line in ["Hold=0", "hold", "hold0", "holds=0", "hold =0", " hold=0", "", "beta=0"] {
-            refuses("hold=0", line, 1, 9);
+            refuses("hold=0", line, 1, 10);
         }
-        refuses("hold=0\n", "", 1, 9);
-        refuses(last, "beta=57000\n", 1, 23);
-        refuses("hold=0\n", "hold=0\nhold=0\n", 1, 10);
-        refuses(last, "beta=57000\nhold=0\nhold=0\n", 1, 24);
-        refuses("beta=8000\nhold=0\n", "hold=0\nbeta=8000\n", 1, 8);
+        refuses("hold=0\n", "", 1, 10);
+        refuses(last, "beta=57000\n", 1, 24);
+        refuses("hold=0\n", "hold=0\nhold=0\n", 1, 11);
+        refuses(last, "beta=57000\nhold=0\nhold=0\n", 1, 25);
+        refuses("beta=8000\nhold=0\n", "hold=0\nbeta=8000\n", 1, 9);
         let old = TABLE.replace("hold=0\n", "");
-        assert_eq!(planned(old.as_bytes()), refused(1, 9));
-        let largest = "board=1\ntasks=1\ntask=1\nperiod=1000000\nworst=1000000\nbest=1\n\
+        assert_eq!(planned(old.as_bytes()), refused(1, 10));
+        let largest = "board=1\ntasks=1\nswitch=0\ntask=1\nperiod=1000000\nworst=1000000\nbest=1\n\
             alpha=1000\nbeta=0\nhold=";
         assert!(read_table(format!("{largest}1000000\n").as_bytes()).is_ok());
-        assert_eq!(planned(format!("{largest}1000001\n").as_bytes()), refused(3, 9));
+        assert_eq!(planned(format!("{largest}1000001\n").as_bytes()), refused(3, 10));
+    }
+
+    // ---- The switch ---------------------------------------------------------------------
+
+    /// The example with a switch.
+    fn switched(switch: u64) -> String {
+        changed(&[("switch=0", &format!("switch={switch}"))])
+    }
+
+    /// The example with a switch of 1: jobs last up to 7, 3 and 20 ticks.
+    ///
+    /// Task 13 alone: W = 20. Below 12: 20 + 2 × 3 = 26, in which 12 is released twice. Below 11:
+    /// 20 + 2 × 7 = 34. Below both: 20 + 2 × 7 + 3 × 3 = 43; with two jobs of 12 it would be 40,
+    /// which is past its third release at 36. Each E is that without a switch.
+    #[test]
+    fn the_figures_of_the_example_with_a_switch() {
+        let figured = |index, above: &[usize]| figured_switched(1, [0, 0, 0], index, above);
+        assert_eq!(figured(2, &[]), Some((17, 20, 3, 31000)));
+        assert_eq!(figured(2, &[1]), Some((19, 26, 7, 17000)));
+        assert_eq!(figured(2, &[0]), Some((17, 34, 17, -11000)));
+        assert_eq!(figured(2, &[0, 1]), Some((25, 43, 18, -22000)));
+        assert_eq!(figured(1, &[2]), None);
+        assert_eq!(figured(1, &[0]), Some((2, 10, 8, -2000)));
+        assert_eq!(figured(0, &[1]), Some((6, 10, 4, -2000)));
+        assert_eq!(figured(0, &[]), Some((6, 7, 1, 1000)));
+    }
+
+    #[test]
+    fn the_own_switch_is_counted_once_and_one_for_each_job_above() {
+        let alone = |switch| figured_switched(switch, [0, 0, 0], 1, &[]);
+        assert_eq!(alone(2), Some((2, 4, 2, 4000)));
+        assert_eq!(alone(16), Some((2, 18, 16, -10000)));
+        assert_eq!(alone(17), None);
+        // Task 12 below 11: 2 + 6 and two switches, up to its period of 18.
+        let below = |switch| figured_switched(switch, [0, 0, 0], 1, &[0]);
+        assert_eq!(below(5), Some((2, 18, 16, -10000)));
+        assert_eq!(below(6), None);
+        // Task 11 below 12: the same 18, past which 12 is released once more, with its switch.
+        let below = |switch| figured_switched(switch, [0, 0, 0], 0, &[1]);
+        assert_eq!(below(5), Some((6, 18, 12, -10000)));
+        assert_eq!(below(6), None);
+    }
+
+    #[test]
+    fn the_blocking_time_has_no_switch() {
+        // Task 12 on top: 2 and the switch, and the largest hold below less 1.
+        assert_eq!(figured_switched(1, [3, 0, 5], 1, &[]), Some((2, 7, 5, 1000)));
+        assert_eq!(figured_switched(3, [0, 0, 2], 1, &[]), Some((2, 6, 4, 2000)));
+        // A hold of 0 or 1 blocks no tick, whatever the switch.
+        assert_eq!(figured_switched(3, [0, 0, 1], 1, &[]), Some((2, 5, 3, 3000)));
+        assert_eq!(figured_switched(3, [0, 0, 0], 1, &[]), Some((2, 5, 3, 3000)));
+        // With its own hold of 2 a task has its row's best as E, without the switch.
+        assert_eq!(figured_switched(1, [0, 0, 2], 2, &[0, 1]), Some((17, 43, 26, -38000)));
+    }
+
+    /// As a switch grows no W falls and none that was late comes in time again, and E stays: past
+    /// the smaller W there is no solution, since the load above is below 1.
+    #[test]
+    fn responses_as_the_switch_grows() {
+        let mut dice = Dice::new(3);
+        let mut grown = 0;
+        for round in 0..20_000 {
+            let Table { rows, .. } = small_table(&mut dice, 1 + round % 6);
+            let split = dice.below(rows.len());
+            let mut before = figures_at(0, &rows, split);
+            for switch in 1..10 {
+                let after = figures_at(switch, &rows, split);
+                if let Some(after) = after {
+                    let before = before.expect("late with a smaller switch");
+                    assert!(before.worst < after.worst, "switch {switch}, {rows:?}");
+                    assert_eq!(before.best, after.best, "switch {switch}, {rows:?}");
+                    grown += 1;
+                }
+                before = after;
+            }
+        }
+        assert!(grown > 20_000, "{grown} tasks in time with a switch");
+    }
+
+    /// An order for a table with a switch is that for one whose jobs are longer.
+    #[test]
+    fn orders_are_those_of_longer_jobs() {
+        let mut dice = Dice::new(4);
+        let mut accepted = 0;
+        for round in 0..4_000 {
+            let table = small_table(&mut dice, 1 + round % PERMUTED_AT_MOST);
+            let rows = lengthened(table.switch, &table.rows);
+            let order = chosen_order(&table);
+            assert_eq!(order, chosen_order(&Table { switch: 0, rows, ..table.clone() }));
+            accepted += (table.switch > 0 && order.is_some()) as usize;
+        }
+        assert!(accepted > 200, "{accepted} with a switch and an order");
+    }
+
+    /// The example with betas of 9999, 10000 and `last`.
+    fn tight(switch: u64, last: u64) -> String {
+        let (switch, last) = (format!("switch={switch}"), format!("beta={last}"));
+        let first = [("beta=8000", "beta=9999"), ("beta=8000", "beta=10000")];
+        changed(&[first[0], first[1], ("beta=57000", &last), ("switch=0", &switch)])
+    }
+
+    /// Task 11 below 12 costs 8000, with a switch of 1 it costs 10000, and so does 12 below 11;
+    /// with a switch of 2 each costs 12000.
+    #[test]
+    fn a_switch_changes_the_order_and_a_larger_one_leaves_none() {
+        let order = |switch| tasks_of(planned(tight(switch, 200_000).as_bytes()));
+        assert_eq!(order(0), ["12", "11", "13"]);
+        assert_eq!(order(1), ["11", "12", "13"]);
+        assert_eq!(planned(tight(2, 200_000).as_bytes()), refused(8, 0));
+        let plan = "plan=1\nboard=7\ntasks=3\n\
+            rank=1\ntask=11\nbest=6\nworst=7\njitter=1\nmargin=2999\n\
+            rank=2\ntask=12\nbest=2\nworst=10\njitter=8\nmargin=0\n\
+            rank=3\ntask=13\nbest=25\nworst=43\njitter=18\nmargin=0\n";
+        assert_eq!(planned(tight(1, 79_000).as_bytes()), Ok(plan.into()));
+        assert_eq!(planned(tight(1, 78_999).as_bytes()), refused(8, 0));
+        assert_eq!(planned(switched(1).as_bytes()), refused(8, 0));
+    }
+
+    #[test]
+    fn the_reviewer_counts_the_switch() {
+        let review = |switch, ranks: &str| reviewed((switched(switch) + ranks).as_bytes());
+        let figures = "plan=1\nboard=7\ntasks=3\n\
+            rank=1\ntask=12\nbest=2\nworst=3\njitter=1\nmargin=5000\n\
+            rank=2\ntask=11\nbest=6\nworst=10\njitter=4\nmargin=-2000\n\
+            rank=3\ntask=13\nbest=25\nworst=43\njitter=18\nmargin=-22000\n";
+        assert_eq!(review(1, "rank=12\nrank=11\nrank=13\n"), Ok(figures.into()));
+        // Either below the other takes 8 ticks and two switches, and 12 is released again at 18.
+        assert!(review(5, "rank=11\nrank=12\nrank=13\n").is_ok());
+        assert_eq!(review(6, "rank=11\nrank=12\nrank=13\n"), refused(7, 2));
+        assert_eq!(review(6, "rank=12\nrank=11\nrank=13\n"), refused(7, 2));
+        assert_eq!(review(17, "rank=12\nrank=11\nrank=13\n"), refused(4, 13));
+    }
+
+    /// One task whose job lasts up to the worst time and the switch.
+    fn one(switch: &str, period: u64, worst: u64, best: u64, hold: u64) -> Result<Table, Refusal> {
+        let head = format!("board=1\ntasks=1\nswitch={switch}\ntask=1\nperiod={period}\n");
+        let rest = format!("worst={worst}\nbest={best}\nalpha=1000\nbeta=0\nhold={hold}\n");
+        read_table((head + &rest).as_bytes())
+    }
+
+    fn unread(number: u64, place: u64) -> Result<Table, Refusal> {
+        Err(Refusal { number, place })
+    }
+
+    #[test]
+    fn worst_and_switch_are_held_against_the_period() {
+        assert!(one("1000", 1_001, 1, 1, 0).is_ok());
+        assert_eq!(one("1000", 1_000, 1, 1, 0), unread(4, 6));
+        assert!(one("3", 10, 7, 1, 0).is_ok());
+        assert_eq!(one("3", 10, 8, 1, 0), unread(4, 6));
+        assert!(one("0", 1_000_000, 1_000_000, 1, 0).is_ok());
+        assert!(one("1000", 1_000_000, 999_000, 1, 0).is_ok());
+        assert_eq!(one("1000", 1_000_000, 999_001, 1, 0), unread(4, 6));
+        assert_eq!(one("1", 1_000_000, 1_000_000, 1, 0), unread(4, 6));
+        assert_eq!(one("1", 1_000_000, 1_000_001, 1, 0), unread(3, 6));
+        // Of the example, task 12 is at its period with a switch of 16, and 11 with 18.
+        assert!(read_table(switched(16).as_bytes()).is_ok());
+        assert_eq!(planned(switched(17).as_bytes()), refused(4, 13));
+        assert_eq!(planned(switched(19).as_bytes()), refused(4, 6));
+    }
+
+    #[test]
+    fn best_and_hold_are_held_against_the_worst_time_alone() {
+        assert!(one("3", 20, 8, 8, 8).is_ok());
+        for above in [9, 10, 11, 12] {
+            assert_eq!(one("3", 20, 8, above, 0), unread(4, 7));
+            assert_eq!(one("3", 20, 8, 8, above), unread(4, 10));
+        }
+    }
+
+    #[test]
+    fn the_numbers_of_the_switch() {
+        for switch in ["0", "1", "999", "1000"] {
+            let read = one(switch, 2_000, 8, 8, 0).map(|table| table.switch);
+            assert_eq!(read.map(|number| number.to_string()), Ok(switch.to_string()));
+        }
+        for switch in ["1001", "1010", "65536", "4294967296", "999999999999"] {
+            assert_eq!(one(switch, 2_000, 8, 8, 0), unread(3, 3));
+        }
+        for switch in
+            ["", "00", "01", "01000", "-1", "-0", "+1", " 1", "1 ", "1\r", "1.0", "x", "=1"]
+        {
+            assert_eq!(one(switch, 2_000, 8, 8, 0), unread(2, 3));
+        }
+        for switch in ["1000000000000", "0000000000001", "18446744073709551616"] {
+            assert_eq!(one(switch, 2_000, 8, 8, 0), unread(2, 3));
+        }
+        // Said before anything of the rows, and after the lines ahead of it.
+        assert_eq!(planned(b"board=7\ntasks=3\nswitch=1001\n"), refused(3, 3));
+        assert_eq!(planned(b"board=7\ntasks=17\nswitch=1001\n"), refused(3, 2));
+    }
+
+    #[test]
+    fn the_place_of_the_switch() {
+        let refuses = |from: &str, to: &str, number, place| {
+            let text = changed(&[(from, to)]);
+            assert_eq!(planned(text.as_bytes()), refused(number, place), "{from} {to}");
+            assert_eq!(reviewed(text.as_bytes()), refused(number, place), "{from} {to}");
+            assert_eq!(crane_says(&text), refusal_says(number, place), "{from} {to}");
+        };
+        let head = "board=7\ntasks=3\nswitch=0\n";
+        refuses("switch=0\n", "", 1, 3);
+        refuses("switch=0\n", "switch=0\nswitch=0\n", 1, 4);
+        refuses(head, "board=7\nswitch=0\ntasks=3\n", 1, 2);
+        refuses("switch=0\ntask=11\n", "task=11\nswitch=0\n", 1, 3);
+        refuses("task=11\n", "task=11\nswitch=0\n", 1, 5);
+        refuses("hold=0\n", "hold=0\nswitch=0\n", 1, 11);
+        refuses("hold=0\ntask=12", "switch=0\ntask=12", 1, 10);
+        let ahead = changed(&[(head, "switch=0\nboard=7\ntasks=3\n")]);
+        assert_eq!(planned(ahead.as_bytes()), refused(1, 1));
+        // Ahead of the first board of a crane it is a piece of its own, and the next lacks it.
+        assert_eq!(crane_says(&ahead), refusal_says(1, 1) + &refusal_says(1, 3));
+        for line in
+            ["Switch=0", "switch", "switch0", "switches=0", "switch =0", " switch=0", "", "tasks=0"]
+        {
+            refuses("switch=0", line, 1, 3);
+        }
+        // At the end, in place of the third line and beside it, and after the ranks.
+        let moved = TABLE.replace("switch=0\n", "") + "switch=0\n";
+        assert_eq!(planned(moved.as_bytes()), refused(1, 3));
+        assert_eq!(planned(format!("{TABLE}switch=0\n").as_bytes()), refused(1, 25));
+        assert_eq!(reviewed(format!("{TABLE}switch=0\n").as_bytes()), refused(1, 25));
+        let ranked = format!("{TABLE}rank=12\nrank=11\nrank=13\nswitch=0\n");
+        assert_eq!(reviewed(ranked.as_bytes()), refused(1, 28));
+        assert_eq!(planned(b"board=7\ntasks=3\n"), refused(1, 3));
+        assert_eq!(planned(b"board=7\ntasks=3\nswitch=0"), refused(1, 3));
+        assert_eq!(planned(b"board=7\ntasks=3\nswitch=0\n"), refused(1, 4));
+    }
+
+    #[test]
+    fn each_board_of_a_crane_has_its_own_switch() {
+        let plan = |switch| {
+            let text = planned(tight(switch, 200_000).as_bytes()).unwrap();
+            String::from_utf8(text).unwrap()
+        };
+        let boards = [tight(0, 200_000), tight(1, 200_000), tight(2, 200_000), switched(1_001)];
+        let (none, range) = (refusal_says(8, 0), refusal_says(3, 3));
+        let answers = [plan(0), plan(1), none, range];
+        assert_eq!(crane_says(&boards.concat()), answers.concat());
+        for (one, other) in [(0, 1), (1, 0), (2, 0), (3, 1), (1, 2)] {
+            let text = boards[one].clone() + &boards[other];
+            assert_eq!(crane_says(&text), answers[one].clone() + &answers[other]);
+        }
     }
 
     // ---- The crane ----------------------------------------------------------------------
@@ -786,12 +1066,12 @@ mod tests {
     #[test]
     fn a_board_in_the_middle_of_a_line_cuts_nothing() {
         let inside = changed(&[("task=11\n", "task=11board=7\n")]);
-        assert_eq!(crane_says(&inside), refusal_says(2, 3));
+        assert_eq!(crane_says(&inside), refusal_says(2, 4));
         assert_eq!(crane_says("board=board=\n"), refusal_says(2, 1));
         let unended = TABLE.strip_suffix('\n').unwrap();
         for between in ["", "\r", "\0", " ", "\u{b}", "\u{c}", "\u{2028}"] {
             let melted = format!("{unended}{between}{TABLE}");
-            assert_eq!(crane_says(&melted), refusal_says(2, 23));
+            assert_eq!(crane_says(&melted), refusal_says(2, 24));
         }
     }
 
@@ -800,7 +1080,7 @@ mod tests {
         for line in ["board", "board7", "Board=7", " board=7", "\rboard=7", "board =7", "boards=7"]
         {
             let text = format!("{TABLE}{line}\n{TABLE}");
-            assert_eq!(crane_says(&text), refusal_says(1, 24) + PLAN);
+            assert_eq!(crane_says(&text), refusal_says(1, 25) + PLAN);
         }
     }
 
@@ -816,7 +1096,7 @@ mod tests {
         assert_eq!(crane_says(&format!("{TABLE}board=")), format!("{PLAN}{}", refusal_says(1, 1)));
         assert_eq!(crane_says("\nboard="), refusal_says(1, 1).repeat(2));
         for end in ["b", "boa", "board"] {
-            assert_eq!(crane_says(&format!("{TABLE}{end}")), refusal_says(1, 24));
+            assert_eq!(crane_says(&format!("{TABLE}{end}")), refusal_says(1, 25));
         }
     }
 
@@ -834,7 +1114,7 @@ mod tests {
         assert_eq!(craned(format!("{}board=", crane("", 32)).as_bytes()), refused(10, 0));
         assert_eq!(
             crane_says(&format!("{}boa", crane("", 32))),
-            PLAN.repeat(31) + &refusal_says(1, 24)
+            PLAN.repeat(31) + &refusal_says(1, 25)
         );
     }
 
@@ -843,11 +1123,11 @@ mod tests {
         let broken = changed(&[("worst=2", "worst=19")]);
         assert_eq!(
             crane_says(&format!("{TABLE}{broken}{TABLE}")),
-            format!("{PLAN}{}{PLAN}", refusal_says(4, 12))
+            format!("{PLAN}{}{PLAN}", refusal_says(4, 13))
         );
         let unstable = changed(&[("57000", "54999")]);
         let twice = changed(&[("task=12", "task=11")]);
-        let pieces = [(unstable, 8, 0), (twice, 5, 10), (format!("{TABLE}rank=11\n"), 1, 24)];
+        let pieces = [(unstable, 8, 0), (twice, 5, 11), (format!("{TABLE}rank=11\n"), 1, 25)];
         for (piece, number, place) in pieces {
             let answer = refusal_says(number, place);
             assert_eq!(crane_says(&format!("{piece}{TABLE}")), format!("{answer}{PLAN}"));
@@ -941,7 +1221,7 @@ mod tests {
         };
         let rows: String = (1..=tasks).map(row).collect();
         let ranks = (1..=tasks).rev().map(|task| format!("rank={task}\n")).collect();
-        (format!("board=7\ntasks={tasks}\n{rows}"), ranks)
+        (format!("board=7\ntasks={tasks}\nswitch=0\n{rows}"), ranks)
     }
 
     #[test]
@@ -963,10 +1243,10 @@ mod tests {
             assert_eq!(crane, PLAN.to_owned() + &refusal_says(3, 2));
         }
         let (table, ranks) = loops(16);
-        assert_eq!(planned(format!("{table}rank=1\n").as_bytes()), refused(1, 115));
-        assert_eq!(reviewed(format!("{table}{ranks}rank=1\n").as_bytes()), refused(1, 131));
+        assert_eq!(planned(format!("{table}rank=1\n").as_bytes()), refused(1, 116));
+        assert_eq!(reviewed(format!("{table}{ranks}rank=1\n").as_bytes()), refused(1, 132));
         let twice = table.replace("task=16\n", "task=1\n");
-        assert_eq!(planned(twice.as_bytes()), refused(5, 108));
+        assert_eq!(planned(twice.as_bytes()), refused(5, 109));
     }
 
     /// Every text of six parts, each part something that a cut depends on.

@@ -4,6 +4,7 @@
 //! Sets of rows are bit masks. One byte a set says whether it has a stable order and which row is
 //! then the lowest; the search starts from the whole set, so only sets that matter are visited.
 //! The rows below the lowest row of a set are those outside it: one blocking time for a set.
+//! Once read, a row's worst time has the switch in it, so that nothing past the reader knows of it.
 
 use crate::model::{Answer, Refusal, Row, MOST_PIECES, MOST_TASKS};
 
@@ -41,27 +42,29 @@ impl Reader<'_> {
         }
     }
 
-    fn row(&mut self, before: &[Row]) -> Result<Row, Refusal> {
+    /// A row with the switch in its worst time.
+    fn row(&mut self, switch: u64, before: &[Row]) -> Result<Row, Refusal> {
         let task = self.number(b"task=", 1, 65_535)?;
         self.refuse_if(before.iter().any(|row| row.task == task), 5)?;
         let period = self.number(b"period=", 1, 1_000_000)?;
         let worst = self.number(b"worst=", 1, 1_000_000)?;
-        self.refuse_if(worst > period, 4)?;
+        self.refuse_if(worst + switch > period, 4)?;
         let best = self.number(b"best=", 1, 1_000_000)?;
         self.refuse_if(best > worst, 4)?;
         let alpha = self.number(b"alpha=", 1_000, 100_000)?;
         let beta = self.number(b"beta=", 0, 200_000_000_000)?;
         let hold = self.number(b"hold=", 0, 1_000_000)?;
         self.refuse_if(hold > worst, 4)?;
-        Ok(Row { task, period, worst, best, alpha, beta, hold })
+        Ok(Row { task, period, worst: worst + switch, best, alpha, beta, hold })
     }
 
     fn table(&mut self) -> Result<(u64, Vec<Row>), Refusal> {
         let board = self.number(b"board=", 1, 65_535)?;
         let tasks = self.number(b"tasks=", 1, MOST_TASKS as u64)?;
+        let switch = self.number(b"switch=", 0, 1_000)?;
         let mut rows = Vec::with_capacity(MOST_TASKS);
         for _ in 0..tasks {
-            rows.push(self.row(&rows)?);
+            rows.push(self.row(switch, &rows)?);
         }
         Ok((board, rows))
     }
@@ -249,7 +252,8 @@ impl<const COUNTED: bool> Search<'_, COUNTED> {
     }
 }
 
-/// The order of the plan, highest rank first, and the work done to find it (0 unless `COUNTED`).
+/// The order of the plan, highest rank first, and the work done to find it (0 unless `COUNTED`); the
+/// rows have the switch in their worst times.
 pub fn chosen<const COUNTED: bool>(rows: &[Row]) -> (Option<Vec<usize>>, u64) {
     let mut lowest = vec![UNKNOWN; 1 << rows.len()];
     lowest[0] = 0;

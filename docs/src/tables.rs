@@ -1,11 +1,12 @@
-//! Random tables of tasks: several families of periods, loads up to the whole processor, holds of
-//! many kinds, and betas that stand exactly on a margin of 0 or one beside it.
+//! Random tables of tasks: several families of periods, loads up to the whole processor, switches
+//! and holds of many kinds, and betas that stand exactly on a margin of 0 or one beside it.
 
 use crate::dice::Dice;
-use crate::model::{self, Row};
+use crate::model::{self, Row, Table};
 
 const MOST_TICKS: u64 = 1_000_000;
 const MOST_BETA: u64 = 200_000_000_000;
+const MOST_SWITCH: u64 = 1_000;
 const PRIMES: [u64; 24] =
     [5, 7, 11, 13, 17, 19, 23, 29, 31, 37, 41, 43, 47, 53, 59, 61, 67, 71, 73, 79, 83, 89, 97, 101];
 
@@ -38,32 +39,36 @@ pub const SHORT_FAMILIES: [Family; 5] = [Small, Harmonic, Coprime, Drifting, Cro
 /// How often a table of the crossing family is drawn until some task gains.
 const CROSSING_DRAWS: usize = 20;
 
-fn periods(dice: &mut Dice, family: Family, count: usize) -> Vec<u64> {
+/// Periods of a family, the short ones longer by `more` ticks so that the switches find room.
+fn periods(dice: &mut Dice, family: Family, count: usize, more: u64) -> Vec<u64> {
     let base = match family {
         Drifting => dice.between(20, 200),
         Wide => dice.any_size(10_000),
         Crossing => dice.between(10, 60),
         _ => dice.between(3, 30),
-    };
+    } + more;
     let mut period = |index: u64| match family {
-        Small => dice.between(1, 8 + 4 * count as u64),
+        Small => dice.between(1, 8 + 4 * count as u64) + more,
         Harmonic => base << dice.below(6),
-        Coprime => dice.pick(&PRIMES),
+        Coprime => dice.pick(&PRIMES) + more,
         Drifting => base + index,
         Huge => MOST_TICKS - dice.any_size(300_000) + 1,
         Wide => base * dice.any_size(100),
         Crossing if 2 * index < count as u64 => dice.between(base, 2 * base),
         Crossing => dice.between(8 * base, 20 * base),
     };
-    (0..count as u64).map(&mut period).collect()
+    (0..count as u64).map(&mut period).map(|period| period.min(MOST_TICKS)).collect()
 }
 
-/// Worst times that share a load of the processor, in thousandths, at random.
-fn worsts(dice: &mut Dice, periods: &[u64]) -> Vec<u64> {
+/// Worst times that with their switches share a load of the processor, in thousandths, at random;
+/// where a share is less than the switch, a worst time is 1 and the load is larger.
+fn worsts(dice: &mut Dice, switch: u64, periods: &[u64]) -> Vec<u64> {
     let load = dice.pick(&[200, 500, 600, 700, 800, 900, 990, 1_000]);
     let shares: Vec<u64> = periods.iter().map(|_| dice.between(1, 100)).collect();
     let whole = 1_000 * shares.iter().sum::<u64>();
-    let worst = |(period, share): (&u64, &u64)| (period * share * load / whole).clamp(1, *period);
+    let worst = |(period, share): (&u64, &u64)| {
+        (period * share * load / whole).saturating_sub(switch).clamp(1, period - switch)
+    };
     periods.iter().zip(&shares).map(worst).collect()
 }
 
@@ -123,9 +128,9 @@ fn set_holds(dice: &mut Dice, rows: &mut [Row]) {
 }
 
 /// The beta at which a row's margin between `above` and `below` is 0; none if it is late there.
-pub fn boundary(row: &Row, above: &[&Row], below: &[&Row]) -> Option<u64> {
+pub fn boundary(switch: u64, row: &Row, above: &[&Row], below: &[&Row]) -> Option<u64> {
     let free = Row { beta: 0, ..*row };
-    model::figures(&free, above, below).map(|figures| figures.margin.unsigned_abs())
+    model::figures(switch, &free, above, below).map(|figures| figures.margin.unsigned_abs())
 }
 
 /// The boundary itself most of the time, else a little above it.
@@ -143,43 +148,65 @@ fn at_least(dice: &mut Dice, boundary: Option<u64>) -> u64 {
 }
 
 /// Betas at the boundaries of one order, which is then stable unless a task in it is late.
-fn set_betas_by_order(dice: &mut Dice, rows: &mut [Row]) {
-    let mut order: Vec<usize> = (0..rows.len()).collect();
+fn set_betas_by_order(dice: &mut Dice, table: &mut Table) {
+    let mut order: Vec<usize> = (0..table.rows.len()).collect();
     dice.shuffle(&mut order);
     if !dice.once_in(4) {
-        order.sort_by_key(|&index| rows[index].period);
+        order.sort_by_key(|&index| table.rows[index].period);
     }
-    let copies = rows.to_vec();
+    let copies = table.rows.clone();
     let ranked: Vec<&Row> = order.iter().map(|&index| &copies[index]).collect();
     for (rank, &index) in order.iter().enumerate() {
-        let boundary = boundary(ranked[rank], &ranked[..rank], &ranked[rank + 1..]);
-        rows[index].beta = at_least(dice, boundary);
+        let (above, below) = (&ranked[..rank], &ranked[rank + 1..]);
+        let boundary = boundary(table.switch, ranked[rank], above, below);
+        table.rows[index].beta = at_least(dice, boundary);
     }
 }
 
 /// The boundary of a row below some set of the other rows, the rest of them below it.
-pub fn boundary_at_random(dice: &mut Dice, rows: &[Row], index: usize) -> Option<u64> {
-    let set = dice.next();
+pub fn boundary_at_random(dice: &mut Dice, table: &Table, index: usize) -> Option<u64> {
+    let (set, rows) = (dice.next(), &table.rows);
     let others = (0..rows.len()).filter(|&other| other != index);
     let (above, below): (Vec<usize>, Vec<usize>) = others.partition(|other| set >> other & 1 == 1);
     let named = |set: Vec<usize>| set.into_iter().map(|other| &rows[other]).collect::<Vec<_>>();
-    boundary(&rows[index], &named(above), &named(below))
+    boundary(table.switch, &rows[index], &named(above), &named(below))
 }
 
 /// Each beta at the boundary below some set of the other rows.
-fn set_betas_by_sets(dice: &mut Dice, rows: &mut [Row]) {
-    let others = rows.to_vec();
-    for (index, row) in rows.iter_mut().enumerate() {
+fn set_betas_by_sets(dice: &mut Dice, table: &mut Table) {
+    let others = table.clone();
+    for (index, row) in table.rows.iter_mut().enumerate() {
         let boundary = boundary_at_random(dice, &others, index);
         row.beta = at_least(dice, boundary);
     }
 }
 
-/// Rows whose betas are no limit, and without holds.
-fn loose_rows(dice: &mut Dice, family: Family, count: usize) -> Vec<Row> {
-    let mut periods = periods(dice, family, count);
+/// A table's switch, and by how many ticks its short periods are longer so that there is room for
+/// the switches of all its rows.
+#[derive(Clone, Copy)]
+struct Switch {
+    ticks: u64,
+    more: u64,
+}
+
+const NO_SWITCH: Switch = Switch { ticks: 0, more: 0 };
+
+/// A switch of few ticks, of some, or the most that there can be.
+fn any_switch(dice: &mut Dice, count: usize) -> Switch {
+    let ticks = match dice.below(5) {
+        0 | 1 => dice.between(1, 5),
+        2 => dice.any_size(100),
+        3 => dice.any_size(MOST_SWITCH),
+        _ => dice.pick(&[MOST_SWITCH - 1, MOST_SWITCH]),
+    };
+    Switch { ticks, more: ticks * count as u64 * dice.pick(&[1, 2, 2, 4]) }
+}
+
+/// A table whose betas are no limit, and without holds.
+fn loose_table(dice: &mut Dice, family: Family, count: usize, switch: Switch) -> Table {
+    let mut periods = periods(dice, family, count, switch.more);
     dice.shuffle(&mut periods);
-    let worsts = worsts(dice, &periods);
+    let worsts = worsts(dice, switch.ticks, &periods);
     let tasks = task_numbers(dice, count);
     let columns = tasks.into_iter().zip(periods).zip(worsts);
     let row = |((task, period), worst)| Row {
@@ -191,75 +218,108 @@ fn loose_rows(dice: &mut Dice, family: Family, count: usize) -> Vec<Row> {
         beta: MOST_BETA,
         hold: 0,
     };
-    columns.map(row).collect()
+    Table { board: 1, switch: switch.ticks, rows: columns.map(row).collect() }
 }
 
 /// Whether, by period, some task has a larger margin than without one of the tasks above it.
-fn some_task_gains(rows: &[Row]) -> bool {
-    let mut ranked: Vec<&Row> = rows.iter().collect();
+fn some_task_gains(table: &Table) -> bool {
+    let mut ranked: Vec<&Row> = table.rows.iter().collect();
     ranked.sort_by_key(|row| row.period);
     let gains = |rank: usize, gone: usize| {
         let fewer = [&ranked[..gone], &ranked[gone + 1..rank]].concat();
         let below = &ranked[rank + 1..];
-        let cost = boundary(ranked[rank], &ranked[..rank], below);
+        let cost = boundary(table.switch, ranked[rank], &ranked[..rank], below);
         cost.is_some_and(|cost| {
-            boundary(ranked[rank], &fewer, below).is_some_and(|without| cost < without)
+            let without = boundary(table.switch, ranked[rank], &fewer, below);
+            without.is_some_and(|without| cost < without)
         })
     };
     (1..ranked.len()).any(|rank| (0..rank).any(|gone| gains(rank, gone)))
 }
 
-fn set_betas(dice: &mut Dice, rows: &mut [Row]) {
+fn set_betas(dice: &mut Dice, table: &mut Table) {
     match dice.below(8) {
-        0 => rows.iter_mut().for_each(|row| row.beta = dice.any_size(MOST_BETA)),
-        1 | 2 => set_betas_by_sets(dice, rows),
-        _ => set_betas_by_order(dice, rows),
+        0 => table.rows.iter_mut().for_each(|row| row.beta = dice.any_size(MOST_BETA)),
+        1 | 2 => set_betas_by_sets(dice, table),
+        _ => set_betas_by_order(dice, table),
     }
     if dice.once_in(4) {
         // One beside a boundary, often too few for any order.
-        let row = &mut rows[dice.below(rows.len())];
+        let index = dice.below(table.rows.len());
+        let row = &mut table.rows[index];
         row.beta = row.beta.saturating_sub(1);
     }
 }
 
-fn drawn(dice: &mut Dice, family: Family, count: usize) -> Vec<Row> {
-    let mut rows = loose_rows(dice, family, count);
+fn drawn(dice: &mut Dice, family: Family, count: usize, switch: Switch) -> Table {
+    let mut table = loose_table(dice, family, count, switch);
     if family == Crossing {
         let mut draws = 1;
-        while draws < CROSSING_DRAWS && !some_task_gains(&rows) {
-            rows = loose_rows(dice, family, count);
+        while draws < CROSSING_DRAWS && !some_task_gains(&table) {
+            table = loose_table(dice, family, count, switch);
             draws += 1;
         }
     }
-    rows
+    table
 }
 
-/// Rows of a table of document 01; with `loose` betas an order is stable as soon as no task in it
-/// is late.
-pub fn rows_without_holds(dice: &mut Dice, family: Family, count: usize, loose: bool) -> Vec<Row> {
-    let mut rows = drawn(dice, family, count);
+/// A job that takes the whole period with its switch.
+fn fill_a_period(dice: &mut Dice, table: &mut Table) {
+    let index = dice.below(table.rows.len());
+    let row = &mut table.rows[index];
+    row.worst = row.period - table.switch;
+    row.best = best(dice, row.worst);
+}
+
+/// A table of document 01, without holds and with a switch of 0; with `loose` betas an order is
+/// stable as soon as no task in it is late.
+pub fn simple(dice: &mut Dice, family: Family, count: usize, loose: bool) -> Table {
+    let mut table = drawn(dice, family, count, NO_SWITCH);
     if !loose {
-        set_betas(dice, &mut rows);
+        set_betas(dice, &mut table);
     }
-    rows
+    table
 }
 
-/// The same, with holds in three tables of four.
-pub fn rows(dice: &mut Dice, family: Family, count: usize, loose: bool) -> Vec<Row> {
+/// The same with holds in three tables of four.
+pub fn holding(dice: &mut Dice, family: Family, count: usize, loose: bool) -> Table {
     if dice.once_in(4) {
-        return rows_without_holds(dice, family, count, loose);
+        return simple(dice, family, count, loose);
     }
-    let mut rows = drawn(dice, family, count);
-    set_holds(dice, &mut rows);
+    let mut table = drawn(dice, family, count, NO_SWITCH);
+    set_holds(dice, &mut table.rows);
     if !loose {
-        set_betas(dice, &mut rows);
+        set_betas(dice, &mut table);
     }
-    rows
+    table
+}
+
+/// A table with a switch, and holds in three of four; now and then a job fills its period.
+pub fn switching(dice: &mut Dice, family: Family, count: usize, loose: bool) -> Table {
+    let switch = any_switch(dice, count);
+    let mut table = drawn(dice, family, count, switch);
+    if dice.once_in(if count == 1 { 4 } else { 40 }) {
+        fill_a_period(dice, &mut table);
+    }
+    if !dice.once_in(4) {
+        set_holds(dice, &mut table.rows);
+    }
+    if !loose {
+        set_betas(dice, &mut table);
+    }
+    table
+}
+
+/// A table of any board, with a switch in five of eight.
+pub fn any(dice: &mut Dice, family: Family, count: usize, loose: bool) -> Table {
+    let draw = if dice.below(8) < 3 { holding } else { switching };
+    let board = dice.any_size(65_535);
+    Table { board, ..draw(dice, family, count, loose) }
 }
 
 /// The table as text.
-pub fn text(board: u64, rows: &[Row]) -> Vec<u8> {
-    let mut text = format!("board={board}\ntasks={}\n", rows.len());
+pub fn text(Table { board, switch, rows }: &Table) -> Vec<u8> {
+    let mut text = format!("board={board}\ntasks={}\nswitch={switch}\n", rows.len());
     for Row { task, period, worst, best, alpha, beta, hold } in rows {
         text += &format!("task={task}\nperiod={period}\nworst={worst}\n");
         text += &format!("best={best}\nalpha={alpha}\nbeta={beta}\nhold={hold}\n");

@@ -2,26 +2,27 @@
 //! texts damaged in every way that a file can be.
 
 use crate::dice::Dice;
-use crate::model::{Row, MOST_TASKS};
+use crate::model::{Row, Table, MOST_TASKS};
 use crate::tables::{self, FAMILIES};
 
 /// Both sides of every limit, of the digits allowed and of the machine's own numbers.
-const EDGES: &str = "0 1 2 12 13 15 16 17 999 1000 65535 65536 99999 100000 100001 999999 1000000 \
-    1000001 200000000000 200000000001 999999999999 1000000000000 0000000000001 4294967297 \
+const EDGES: &str = "0 1 2 12 13 15 16 17 999 1000 1001 65535 65536 99999 100000 100001 999999 \
+    1000000 1000001 200000000000 200000000001 999999999999 1000000000000 0000000000001 4294967297 \
     18446744073709551617 00 01";
 
-const KEYS: [&str; 14] = [
-    "board", "tasks", "task", "period", "worst", "best", "alpha", "beta", "hold", "rank", "Board",
-    "Hold", "plan", "",
+const KEYS: [&str; 16] = [
+    "board", "tasks", "switch", "task", "period", "worst", "best", "alpha", "beta", "hold", "rank",
+    "Board", "Switch", "Hold", "plan", "",
 ];
 
-const TAILS: [&[u8]; 10] = [
+const TAILS: [&[u8]; 11] = [
     b"\n",
     b"x",
     b"\0",
     b"rank=1\n",
     b"task=1\n",
     b"hold=0\n",
+    b"switch=0\n",
     b"board=7\n",
     b"rank=1",
     b"\r\n",
@@ -185,6 +186,91 @@ fn end_lines_with_cr(dice: &mut Dice, lines: &mut [Vec<u8>]) {
     }
 }
 
+// ---- Damage to the switch ---------------------------------------------------------------
+
+/// What stands on the line of the switch: both sides of its limits, and forms that are none.
+const SWITCHES: &str = "0 1 2 5 999 1000 1001 9999 999999999999 1000000000000 0000000000001 00 01 \
+    01000 +1 -1 -0 1. x =1";
+const BLANKS: [&[u8]; 5] = [b"", b" ", b" 1", b"1 ", b"1\r"];
+
+fn number_on(lines: &[Vec<u8>], at: usize) -> Option<u64> {
+    String::from_utf8_lossy(parts(lines.get(at)?)?.1).parse().ok()
+}
+
+/// The number on the line of the switch: at a limit, of another form, none, or that of some line.
+fn set_the_switch(dice: &mut Dice, lines: &mut [Vec<u8>], at: usize) {
+    let forms: Vec<&str> = SWITCHES.split(' ').collect();
+    match dice.below(5) {
+        0 => lines[at] = joined(b"switch", dice.pick(&BLANKS)),
+        1 => {
+            let from = dice.below(lines.len());
+            if let Some(number) = number_on(lines, from) {
+                lines[at] = format!("switch={number}\n").into_bytes();
+            }
+        }
+        _ => lines[at] = joined(b"switch", dice.pick(&forms).as_bytes()),
+    }
+}
+
+/// Puts the line of the switch elsewhere: before the tasks or the board, after the first task,
+/// behind a row, to the end or anywhere; with `stays` it stands in its own place too.
+fn move_the_switch(dice: &mut Dice, lines: &mut Vec<Vec<u8>>, at: usize, stays: bool) {
+    let line = if stays { lines[at].clone() } else { lines.remove(at) };
+    let starts_a_row = |at: &usize| lines[*at].starts_with(b"task=");
+    let rows: Vec<usize> = (0..lines.len()).filter(starts_a_row).collect();
+    let first = rows.first().map_or(0, |first| first + 1);
+    let to = match dice.below(6) {
+        0 => at.saturating_sub(1),
+        1 => 0,
+        2 => first,
+        3 if !rows.is_empty() => dice.pick(&rows),
+        4 => lines.len(),
+        _ => dice.below(lines.len() + 1),
+    };
+    lines.insert(to.min(lines.len()), line);
+}
+
+/// Puts a row's number where the switch decides what is said of it: the worst time at the period
+/// less the switch or one past it, the best time or the hold from the worst time to one past what a
+/// job lasts.
+fn set_beside_the_switch(dice: &mut Dice, lines: &mut [Vec<u8>], at: usize) {
+    let rows: Vec<usize> =
+        (0..lines.len()).filter(|&at| lines[at].starts_with(b"period=")).collect();
+    if rows.is_empty() {
+        return;
+    }
+    let row = dice.pick(&rows);
+    let numbers = [at, row, row + 1].map(|at| number_on(lines, at));
+    let [Some(switch), Some(period), Some(worst)] = numbers else {
+        return;
+    };
+    let one = dice.between(0, 1);
+    let over = worst.saturating_add(dice.pick(&[0, 1, switch, switch.saturating_add(1)]));
+    let (back, key, number) = match dice.below(4) {
+        0 | 1 => (1, "worst", period.saturating_sub(switch).saturating_add(one)),
+        2 => (2, "best", over),
+        _ => (5, "hold", over),
+    };
+    if let Some(line) = lines.get_mut(row + back) {
+        *line = format!("{key}={number}\n").into_bytes();
+    }
+}
+
+/// The line of the switch: its number, its place, gone, doubled, or beside the numbers of a row.
+fn damage_the_switch(dice: &mut Dice, lines: &mut Vec<Vec<u8>>) {
+    let Some(at) = lines.iter().position(|line| line.starts_with(b"switch=")) else {
+        return;
+    };
+    match dice.below(10) {
+        0..=2 => set_the_switch(dice, lines, at),
+        3 => drop(lines.remove(at)),
+        4 => lines.insert(at, lines[at].clone()),
+        5 => move_the_switch(dice, lines, at, true),
+        6 => move_the_switch(dice, lines, at, false),
+        _ => set_beside_the_switch(dice, lines, at),
+    }
+}
+
 // ---- Damage to bytes --------------------------------------------------------------------
 
 fn change_a_byte(dice: &mut Dice, text: &mut [u8]) {
@@ -207,7 +293,7 @@ fn remove_a_byte(dice: &mut Dice, text: &mut Vec<u8>) {
 
 /// Damages the text in one way.
 pub fn damage(dice: &mut Dice, text: &mut Vec<u8>) {
-    match dice.below(17) {
+    match dice.below(19) {
         0 => text.truncate(dice.below(text.len() + 1)),
         1 | 2 => change_a_byte(dice, text),
         3 => insert_a_byte(dice, text),
@@ -224,6 +310,7 @@ pub fn damage(dice: &mut Dice, text: &mut Vec<u8>) {
             _ => change_a_key(dice, lines),
         }),
         15 => with_lines(text, |lines| damage_a_hold(dice, lines)),
+        16 | 17 => with_lines(text, |lines| damage_the_switch(dice, lines)),
         _ => text.extend_from_slice(dice.pick(&TAILS)),
     }
 }
@@ -250,12 +337,12 @@ fn rank_lines(dice: &mut Dice, rows: &[Row]) -> Vec<u8> {
     ranks.iter().flat_map(|task| format!("rank={task}\n").into_bytes()).collect()
 }
 
-/// Rows of a table, few most of the time, so that a million texts take a minute or two.
-fn few_rows(dice: &mut Dice) -> Vec<Row> {
+/// A table, of few rows most of the time, so that a million texts take a minute or two.
+fn small_table(dice: &mut Dice) -> Table {
     let most = if dice.once_in(16) { MOST_TASKS } else { 4 };
     let count = 1 + dice.below(most);
     let family = dice.pick(&FAMILIES);
-    tables::rows(dice, family, count, false)
+    tables::any(dice, family, count, false)
 }
 
 /// Bytes that are no table at all, up to far beyond any table's length.
@@ -288,10 +375,10 @@ pub fn any(dice: &mut Dice) -> Vec<u8> {
         2 => return overlong(dice),
         _ => {}
     }
-    let rows = few_rows(dice);
-    let mut text = tables::text(dice.any_size(65_535), &rows);
+    let table = small_table(dice);
+    let mut text = tables::text(&table);
     if dice.once_in(2) {
-        text.extend(rank_lines(dice, &rows));
+        text.extend(rank_lines(dice, &table.rows));
     }
     for _ in 0..dice.pick(&[0, 1, 1, 1, 1, 2, 3]) {
         damage(dice, &mut text);
