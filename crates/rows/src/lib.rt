@@ -1,4 +1,5 @@
 ghost use mathlib.Core.Path.{_≡_};
+ghost use Prim.Native.Nat.{_^_, _<_};
 ghost use lib.Dec.{leb};
 ghost use Rattle.rows.specs.Rows.{fullCost, cost, inRange, row, noRow};
 ghost use Rattle.rows.specs.inside.Constructor.{checked};
@@ -154,7 +155,7 @@ impl Row {
     pub fn cost(self) -> u64
         ensures { λ r. ⌜ r ≡ cost self ⌝ }
     {
-        self.worst as u64 + self.switch as u64
+        full_cost(self.worst as u64, self.switch as u64)
     }
 
     // Whether the row keeps its limits.
@@ -172,6 +173,14 @@ impl Row {
             self.switch as u64,
         )
     }
+}
+
+// The most ticks that a job takes, with the switch to it.
+fn full_cost(worst: u64, switch: u64) -> u64
+    requires { ⌜ fullCost switch worst < 2 ^ 64 ⌝ }
+    ensures { λ r. ⌜ r ≡ fullCost switch worst ⌝ }
+{
+    worst + switch
 }
 
 // What stands past the rows that count.

@@ -12,6 +12,7 @@ ghost use Rattle.rows.specs.inside.Numbers.{between, TaskNumbers};
 use super::MAX_TASKS;
 use super::Order;
 use super::Row;
+use super::full_cost;
 
 // Where each number stands in its row, and how many there are.
 pub const TASK: usize = 0;
@@ -78,7 +79,7 @@ pub fn cost_at(numbers: &[u64], i: usize) -> u64
     ensures { λ r. ⌜ r ≡ cost (rowIn (now (numbers .entry)) i) ⌝ }
 {
     let at = FIELDS * i;
-    numbers[at + WORST] + numbers[at + SWITCH]
+    full_cost(numbers[at + WORST], numbers[at + SWITCH])
 }
 
 // The most ticks for which a job of row i may keep the processor.

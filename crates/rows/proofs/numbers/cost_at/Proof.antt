@@ -1,5 +1,5 @@
 -- The numbers at a row's worst and its switch are together what its jobs take at most.
-use mathlib.Core.Path.{_≡_, sym, ap}
+use mathlib.Core.Path.{_≡_, sym, ap, _∙_}
 use mathlib.Core.List.{List}
 use Prim.Native.Nat.{ℕ, _+_, _*_}
 use native.Mathlib.Omega.{arith}
@@ -17,47 +17,26 @@ cost-in : (ns : List ℕ) (i : ℕ) → let at = fieldCount * i in
 unfolding R.cost
 cost-in ns i = ap cost (row-from ns (fieldCount * i))
 
-mul-at : tie.Need-mul-at
-mul-at c = search needs
-
-add-result : tie.Need-add-result
-add-result c = search needs
-
-mul-result : tie.Need-mul-result
-mul-result c = search needs
-
-shared-slice-read-result : tie.Need-shared-slice-read-result
-shared-slice-read-result c = search needs
-
-add-result-2 : tie.Need-add-result-2
-add-result-2 c = search needs
-
-mul-result-2 : tie.Need-mul-result-2
-mul-result-2 c = search needs
-
-shared-slice-read-result-2 : tie.Need-shared-slice-read-result-2
-shared-slice-read-result-2 c = search needs
-
-add-result-3 : tie.Need-add-result-3
-add-result-3 c =
-    let a = c .before .before .args in
-    record { fits = omega (arith, cost-in (a .numbers .now) (a .i), c .before .before .pre .1) }
+full-cost-requires : tie.Need-full-cost-requires
+full-cost-requires c κs =
+    let s = c .before .before .before in
+    omega (arith, cost-in (s .args .numbers .now) (s .args .i), s .pre .1)
 
 returns : tie.Need-returns
 returns c =
-    let a = c .before .before .args in
-    sym (cost-in (a .numbers .now) (a .i))
+    let a = c .before .before .before .before .args in
+    c .full-cost .ensures ∙ sym (cost-in (a .numbers .now) (a .i))
 
 pub cost-at-spec : {M : Type 1} → statement M
 cost-at-spec =
     tie.close
     (tie.spec
-    mul-at
-    add-result
-    mul-result
-    shared-slice-read-result
-    add-result-2
-    mul-result-2
-    shared-slice-read-result-2
-    add-result-3
+    (λ c. search needs)
+    (λ c. search needs)
+    (λ c. search needs)
+    (λ c. search needs)
+    (λ c. search needs)
+    (λ c. search needs)
+    (λ c. search needs)
+    full-cost-requires
     returns)
