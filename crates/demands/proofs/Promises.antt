@@ -83,7 +83,7 @@ module _ (order : List Row) (ok : allRows inRange order ≡ true) (in-time : Non
       → Grows (rowAt order i) (rowsAbove order i) (rowsBelow order i) s
   grows s up i h =
       switch-grows (rowAt order i) (rowsAbove order i) (rowsBelow order i) s (at-passes timesInRange order i times-ok h)
-      (up i h) (front-each (λ r. r .switch ≤ s) order i up)
+      (front-passes timesInRange i order times-ok) (up i h) (front-each (λ r. r .switch ≤ s) order i up)
 
   pub promised : Promised order
   promised = record {

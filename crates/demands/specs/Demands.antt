@@ -52,7 +52,8 @@ pub record Promised (order : List Row) : Type 0 where
   pub without-holds :
       NoSwitch order → NoneHolds order → (i : ℕ) → i < length order
       → AsDocument01 (rowAt order i) (rowsAbove order i) (rowsBelow order i)
-  -- under a greater switch no `worst` line of the same order falls
+  -- under a greater switch no `worst` line of the same order falls and no `best` line changes, and what is stable there
+  -- is stable here
   pub switch-grows :
       (s : ℕ) → SwitchUpTo s order → (i : ℕ) → i < length order
       → Grows (rowAt order i) (rowsAbove order i) (rowsBelow order i) s

@@ -99,7 +99,8 @@ say t above below us us′ ls ls′ x upper put lower put′ e = record {
   answer = is;
   by-formulas = λ h. let k = limits-times t above below h in figured t above below (k .0) (k .1);
   by-numbers = by-numbers t above below;
-  switch-grows = λ h s own others. switch-grows t above below s (limits-times t above below h .0) own others;
+  switch-grows = λ h s own others.
+      let k = limits-times t above below h in switch-grows t above below s (k .0) (k .1) own others;
   any-sequence = λ above′ below′ p q. is ∙ figures-permuted t p q;
   by-blocking = λ below′ b h. is ∙ figures-below t above below below′ b h;
 }

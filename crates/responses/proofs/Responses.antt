@@ -25,17 +25,8 @@ use Rattle.responses.specs.Claims.{spent, Figured, plainLoad, WithoutHol
 use Rattle.responses.proofs.Sums.{rounds-up}
 use Rattle.responses.proofs.Margins.{sub-is, not-below-zero}
 use Rattle.responses.proofs.Blocking.{blocks, no-blocking}
-use Rattle.responses.proofs.Switches.{by-numbers, without-switch, switch-grows}
+use Rattle.responses.proofs.Switches.{best-in-worst, by-numbers, without-switch, switch-grows}
 use Rattle.responses.proofs.FixedPoints.{least-fixed, least-least, largest-fixed, largest-above}
-
-best-in-worst : (x : ℕ) (rs : List Row) → allRows timesInRange rs ≡ true → bestIn x rs ≤ worstIn x rs
-best-in-worst x [] h = omega arith
-best-in-worst x (r ∷ rs) h =
-    let c = ceiling x (r .period) in
-    let l = times r (head-passes timesInRange r rs h) in
-    add-le-add
-    (mul-le-mul {n₁ = c - 1} {n₂ = c - 0} (omega arith) (l .best-cost))
-    (best-in-worst x rs (tail-passes timesInRange r rs h))
 
 -- what is known of the responses of a task that is not late
 pub record Responses (t : Row) (above below : List Row) : Type 0 where

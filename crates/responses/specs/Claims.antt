@@ -130,7 +130,8 @@ WithoutHolds =
     (t : Row) (above below : List Row) → t .hold ≤ 1 → NoneHolds below
     → t .switch ≡ 0 → NoSwitch above → AsDocument01 t above below
 
--- ---- under a switch that is no less a late task stays late, and W does not fall
+-- ---- under a switch that is no less a late task stays late; of one that is not late there W does not fall and E is the
+-- same, and where it is stable there, it is stable here
 abbrev pub switched : ℕ → List Row → List Row
 switched s rows = map (withSwitch s) rows
 
@@ -140,6 +141,11 @@ pub record Grows (t : Row) (above below : List Row) (s : ℕ) : Type 0 where
   pub latest-grows :
       isLate (withSwitch s t) (switched s above) (switched s below) ≡ false
       → latest t above below ≤ latest (withSwitch s t) (switched s above) (switched s below)
+  pub earliest-stays :
+      isLate (withSwitch s t) (switched s above) (switched s below) ≡ false
+      → earliest t above below ≡ earliest (withSwitch s t) (switched s above) (switched s below)
+  pub stable-before :
+      isStable (withSwitch s t) (switched s above) (switched s below) ≡ true → isStable t above below ≡ true
 
 -- no row has a greater switch
 abbrev pub SwitchUpTo : ℕ → List Row → Type 0
@@ -147,7 +153,7 @@ SwitchUpTo s rows = (i : ℕ) → i < length rows → rowAt rows i .switch ≤ s
 
 abbrev pub SwitchGrows : Type 0
 SwitchGrows =
-    (t : Row) (above below : List Row) (s : ℕ) → timesInRange t ≡ true
+    (t : Row) (above below : List Row) (s : ℕ) → timesInRange t ≡ true → allRows timesInRange above ≡ true
     → t .switch ≤ s → SwitchUpTo s above → Grows t above below s
 
 pub record Demand-2 : Type 0 where
@@ -166,7 +172,7 @@ pub record FiguresSay (t : Row) (above below : List Row) (x : Figures) : Type 0 
   -- demand 2, of these very rows
   pub by-formulas : inLimits t above below ≡ true → Figured t above below
   pub by-numbers : ByNumbers t above below
-  -- no W falls under a greater switch
+  -- under a greater switch no W falls and no E changes
   pub switch-grows :
       inLimits t above below ≡ true → (s : ℕ) → t .switch ≤ s → SwitchUpTo s above → Grows t above below s
   -- not by the sequence of the rows
