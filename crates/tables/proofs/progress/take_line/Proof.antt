@@ -18,7 +18,8 @@ returns c =
 
 add-put-number : tie.Need-add-put-number
 add-put-number c =
-    let s = c .before .before .before .before .before .before .before .before .before .before .before .before .before in
+    let m = c .before .before .before .before .before .before in
+    let s = m .before .before .before .before .before .before .before in
     let a = s .args in
     let small = line-small (a .text .now) (a .offset) (a .before .stand) (a .line) (a .numbers .now) (s .pre) in
     record { fits = omega (arith, small) }
@@ -39,7 +40,8 @@ put-number-requires c κs =
 
 add-t20 : tie.Need-add-t20
 add-t20 c =
-    let s = c .before .before .before .before .before .before .before .before .before .before .before .before .before .before .before .before in
+    let m = c .before .before .before .before .before .before .before .before .before in
+    let s = m .before .before .before .before .before .before .before in
     let a = s .args in
     let small = line-small (a .text .now) (a .offset) (a .before .stand) (a .line) (a .numbers .now) (s .pre) in
     record { fits = omega (arith, small) }
