@@ -82,6 +82,8 @@ runs-met = record {
   idle-there = idle;
   highest-short = λ k. omega arith;
   none-holds = no-hold 0 0 (omega arith) (omega arith);
+  no-switch = each (λ i. rowAt exampleOrder i .switch ≡ 0) refl refl refl;
+  switch-up-to = each (λ i. rowAt exampleOrder i .switch ≤ 1) (omega arith) (omega arith) (omega arith);
 }
 
 pub holds-count : HoldsCount
@@ -137,4 +139,6 @@ switch-counts = record {
       lasts-under 2 6 17 (omega arith, omega arith) (omega arith, omega arith) (omega arith, omega arith);
   earliest-reached = refl;
   no-longer = too-long;
+  held-latest = refl;
+  held-reached = refl;
 }

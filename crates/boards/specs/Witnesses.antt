@@ -12,7 +12,7 @@ use Rattle.rows.specs.Rows.{row, timesInRange, allRows, rowAt, cost}
 use Rattle.rows.specs.declared.Row.{Row}
 use Rattle.responses.specs.Interference.{leastFixed, largestFixed}
 use Rattle.responses.specs.Figures.{rowsAbove, worstLoad, bestLoad}
-use Rattle.responses.specs.Claims.{NoneHolds, switched}
+use Rattle.responses.specs.Claims.{NoneHolds, NoSwitch, switched, SwitchUpTo}
 use Rattle.boards.specs.Claims.{LastsInRange, Finishes, AfterFirstReleases, latestAt, earliestAt, NoneLate}
 use Rattle.boards.specs.Runs.{boardGoesTo}
 
@@ -65,6 +65,8 @@ pub record RunsMet : Type 0 where
       → boardGoesTo exampleOrder atOnce (lasting (2 ∷ 6 ∷ 17 ∷ [])) never i k 226 ≡ true → ⊥
   pub highest-short : (k : ℕ) → lasting (2 ∷ 6 ∷ 19 ∷ []) 0 k ≤ rowAt exampleOrder 0 .period
   pub none-holds : NoneHolds exampleOrder
+  pub no-switch : NoSwitch exampleOrder
+  pub switch-up-to : SwitchUpTo 1 exampleOrder
 
 -- ---- the lowest task may hold the processor for 5 ticks
 abbrev pub heldOrder : List Row
@@ -117,3 +119,6 @@ pub record SwitchCounts : Type 0 where
   pub earliest-reached : Finishes switchedOrder atOnce (lasting (2 ∷ 6 ∷ 17 ∷ [])) never 2 200 225
   -- no job lasts longer
   pub no-longer : LastsInRange switchedOrder (lasting (3 ∷ 7 ∷ 21 ∷ [])) → ⊥
+  -- a hold below adds its ticks and no switch: the latest response of rank 1 over a hold of 5 is 14, and a job takes it
+  pub held-latest : latestAt (switched 1 heldOrder) 1 ≡ 14
+  pub held-reached : Finishes (switched 1 heldOrder) (aheadFrom 2) (lasting (3 ∷ 7 ∷ 20 ∷ [])) always 1 1 15

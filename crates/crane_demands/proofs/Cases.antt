@@ -22,4 +22,4 @@ pub cranes-so : AllSo cranes
 unfolding digits decimal signed keyLine numberOf lineAt formAt readFor readTable
     cost blocking smallest largest overSet rankText headText planText refusalText fitted onTable ifOrdered
     craneText craned
-cranes-so = (refl, (refl, (refl, (refl, (refl, (refl, (refl, (refl, (refl, (refl, tt))))))))))
+cranes-so = (refl, (refl, (refl, (refl, (refl, (refl, (refl, (refl, (refl, (refl, (refl, tt)))))))))))

@@ -2,9 +2,10 @@
 use mathlib.Core.Path.{_≡_}
 use mathlib.Core.List.{List, [], _∷_, _++_}
 use Prim.Native.Nat.{ℕ, zero, suc}
+use Prim.Native.String.{String}
 use Rattle.text.specs.Text.{bytes, lined}
 use Rattle.plans.specs.Outcomes.{Outcome, writes, refuses}
-use Rattle.demands.specs.Cases.{alone}
+use Rattle.demands.specs.Cases.{alone, oneUnder}
 use Rattle.crane_demands.specs.Pieces.{pieces}
 use Rattle.crane_demands.specs.Calls.{craned, cranePrints}
 
@@ -44,6 +45,11 @@ onePlan = lined (
     ∷ "rank=1" ∷ "task=1" ∷ "best=10" ∷ "worst=10" ∷ "jitter=0" ∷ "margin=0"
     ∷ [])
 
+-- the plan of a task with a best time of 7 under a switch
+abbrev pub switchedPlan : String → String → String → List ℕ
+switchedPlan worst jitter margin = lined (
+    "plan=1" ∷ "board=7" ∷ "tasks=1" ∷ "rank=1" ∷ "task=1" ∷ "best=7" ∷ worst ∷ jitter ∷ margin ∷ [])
+
 abbrev pub noBoardRefusal : List ℕ
 noBoardRefusal = lined ("plan=0" ∷ "refusal=1" ∷ "line=1" ∷ [])
 
@@ -82,5 +88,8 @@ cranes =
     ∷ call (lined ("x" ∷ []) ++ one ++ one) 168 (writes (noBoardRefusal ++ onePlan ++ onePlan))
     ∷ call (lined ("x" ∷ []) ++ one ++ one) 167 (refuses 9 0)
     ∷ prints (one ++ one) (onePlan ++ onePlan)
+    -- each piece has its own switch
+    ∷ prints (oneUnder "switch=3" "worst=7" "best=7" "hold=0" ++ (one ++ oneUnder "switch=2" "worst=7" "best=7" "hold=0"))
+    (switchedPlan "worst=10" "jitter=3" "margin=0" ++ (onePlan ++ switchedPlan "worst=9" "jitter=2" "margin=1000"))
     ∷ prints (one ++ lined ("x" ∷ []) ++ one) (lined ("plan=0" ∷ "refusal=1" ∷ "line=11" ∷ []) ++ onePlan)
     ∷ []

@@ -95,7 +95,7 @@ holds-so = (
 
 pub switch-so : AllSo ofSwitch
 unfolding digits decimal signed keyLine numberOf lineAt formAt readFor readTable
-    cost blocking smallest largest overSet rankText headText planText refusalText fitted onTable ifOrdered
+    cost blocking smallest largest overSet rankText headText planText refusalText fitted ifInTime onTable ifOrdered
 switch-so = (
   over (withSwitch 5 (row13 57000)) [] (refl, refl, refl, refl, refl),
   (
@@ -104,10 +104,13 @@ switch-so = (
       over (withSwitch 1 (row13 57000)) (withSwitch 1 (row11 8000) ∷ withSwitch 1 (row12 8000) ∷ [])
           (refl, refl, refl, refl, refl),
       (
-        (refl, refl, refl, refl, refl),
+        over (withSwitch 2 (row13 57000)) (row11 8000 ∷ withSwitch 1 (row12 8000) ∷ []) (refl, refl, refl, refl, refl),
         (
-          late-over (withSwitch 6 (row12 8000)) (withSwitch 6 (row11 8000) ∷ []) refl,
-          (refl, (refl, (refl, (refl, (refl, (refl, (refl, (refl, (refl, (refl, (refl, (refl, (refl, tt))))))))))))),
+          (refl, refl, refl, refl, refl),
+          (
+            late-over (withSwitch 6 (row12 8000)) (withSwitch 6 (row11 8000) ∷ []) refl,
+            (refl, (refl, (refl, (refl, (refl, (refl, (refl, (refl, (refl, (refl, (refl, (refl, (refl, (refl, tt)))))))))))))),
+          ),
         ),
       ),
     ),

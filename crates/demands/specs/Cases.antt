@@ -200,6 +200,8 @@ ofSwitch =
     ∷ figures (withSwitch 1 (row13 57000)) (withSwitch 1 (row12 8000) ∷ []) 19 26 7 (pos 17000)
     ∷ figures (withSwitch 1 (row13 57000)) (withSwitch 1 (row11 8000) ∷ withSwitch 1 (row12 8000) ∷ []) 25 43 18
     (negsuc 21999)
+    -- each row's own
+    ∷ figures (withSwitch 2 (row13 57000)) (row11 8000 ∷ withSwitch 1 (row12 8000) ∷ []) 25 42 17 (negsuc 18999)
     -- not in the blocking time
     ∷ between (withSwitch 1 (row11 8000)) (withSwitch 1 (row12 8000) ∷ []) (withSwitch 1 (holding13 5) ∷ []) 6 14 8
     (negsuc 5999)
@@ -213,6 +215,14 @@ ofSwitch =
     ∷ "rank=1" ∷ "task=12" ∷ "best=2" ∷ "worst=3" ∷ "jitter=1" ∷ "margin=7000"
     ∷ "rank=2" ∷ "task=11" ∷ "best=6" ∷ "worst=10" ∷ "jitter=4" ∷ "margin=0"
     ∷ "rank=3" ∷ "task=13" ∷ "best=25" ∷ "worst=43" ∷ "jitter=18" ∷ "margin=0"
+    ∷ []))
+    ∷ reviewer
+    (tableUnder "switch=1" "beta=8000" "beta=8000" "beta=57000" ++ lined ("rank=12" ∷ "rank=11" ∷ "rank=13" ∷ []))
+    (lined (
+    "plan=1" ∷ "board=7" ∷ "tasks=3"
+    ∷ "rank=1" ∷ "task=12" ∷ "best=2" ∷ "worst=3" ∷ "jitter=1" ∷ "margin=5000"
+    ∷ "rank=2" ∷ "task=11" ∷ "best=6" ∷ "worst=10" ∷ "jitter=4" ∷ "margin=-2000"
+    ∷ "rank=3" ∷ "task=13" ∷ "best=25" ∷ "worst=43" ∷ "jitter=18" ∷ "margin=-22000"
     ∷ []))
     -- worst and switch together at the period, and past it
     ∷ plan (oneUnder "switch=3" "worst=7" "best=7" "hold=7")

@@ -1,17 +1,18 @@
 -- Lines with a number in a range: which numbers pass there, and what a step comes to for code that reads such a line.
 -- And where any number is expected, those pass that can be written.
-use mathlib.Core.Path.{_≡_, refl, sym, ap, _∙_, subst}
+use mathlib.Core.Path.{_≡_, refl, sym, ap, ap₂, _∙_, subst}
 use mathlib.Core.Bool.{Bool, true, false}
 use mathlib.Core.List.{List}
 use mathlib.Core.Logic.{inl, inr}
 use Prim.Native.Nat.{ℕ, zero, suc, _^_, _≤_, _<_}
 use native.Mathlib.Omega.{arith}
 use lib.Dec.{ltb}
-use lib.IntN.{ℤ, pos}
+use lib.IntN.{ℤ, pos, negsuc}
 use lib.ListN.{length}
 use borrow.Author.Tests.{ltb-true, lt-ltb}
 use Rattle.basics.specs.Basics.{pick, within}
-use Rattle.basics.proofs.Tests.{test-of, Within, within-true, true-within}
+use Rattle.basics.proofs.Tests.{test-of, never, Within, within-true, true-within}
+use Rattle.text.specs.Text.{decimal, signed, keyLine}
 use Rattle.text.specs.Lines.{maxDigits, lineAt, endAt}
 use Rattle.text.specs.declared.Line.{Line}
 use Rattle.text.specs.declared.Line.the-variants as L
@@ -28,6 +29,21 @@ natural-passes {key = key} {z = z} p lock low high x =
     let same : a-line key (p .form) ≡ a-line lock (natural low high) = sym (p .is-expected) ∙ x in
     let is : p .form ≡ natural low high = cc in
     within-true low high (size z) (subst (λ f. inForm f z ≡ true) is (p .in-range))
+
+-- and it is written without a sign
+unsigned : (low high : ℕ) (z : ℤ) → fits (natural low high) z ≡ true → signed z ≡ decimal (size z)
+unfolding signed
+unsigned low high (pos v) h = refl
+unsigned low high (negsuc n) h = never h
+
+pub natural-written : {S : Type 0} {g : Grammar S} {s : S} {key : List ℕ} {z : ℤ} → Passes g s key z
+    → (lock : List ℕ) (low high : ℕ) → g .expected s ≡ a-line lock (natural low high)
+    → keyLine key (signed z) ≡ keyLine lock (decimal (size z))
+natural-written {key = key} {z = z} p lock low high x =
+    let same : a-line key (p .form) ≡ a-line lock (natural low high) = sym (p .is-expected) ∙ x in
+    let is : p .form ≡ natural low high = cc in
+    let named : key ≡ lock = cc in
+    ap₂ keyLine named (unsigned low high z (subst (λ f. fits f z ≡ true) is (p .is-number)))
 
 -- ---- and which numbers pass: those in the range, where the range itself can be written, which computes
 module _ {S : Type 0} {g : Grammar S} {s : S} {key : List ℕ} where

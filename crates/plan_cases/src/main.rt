@@ -1,5 +1,5 @@
-// Document 01's cases and some of holds and of the switch, as texts: what has to be answered stands beside each, and the whole buffer is
-// compared.
+// Document 01's cases and some of holds and of the switch, as texts: what has to be answered stands beside each, and the
+// whole buffer is compared.
 use trials::Answer;
 use trials::SPACE;
 ghost use Rattle.io.specs.Counts.{Counts};

@@ -2,6 +2,7 @@
 pub mod RowLines
 pub mod Keys
 pub mod Soundness
+pub mod Heads
 pub mod Readings
 pub mod Refusals
 pub mod LineNumbers

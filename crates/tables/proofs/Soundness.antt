@@ -24,9 +24,9 @@ use Rattle.grammars.proofs.Naturals.{natural-passes}
 use Rattle.rows.specs.Rows.{minTasks, maxTasks, inRange, allRows, tasksOf, hasTask, distinctRows, allTasks, isPossible}
 use Rattle.rows.specs.declared.Row.{Row}
 use Rattle.rows.proofs.Tasks.{tasks-last, all-tasks-last}
-use Rattle.rows.proofs.Limits.{in-range, append-passes, at-passes}
+use Rattle.rows.proofs.Limits.{in-range, append-passes}
 use Rattle.rows.specs.Rows.{taskAt, periodAt, worstAt, bestAt, alphaAt, betaAt, holdAt, switchAt, rowOf}
-use Rattle.rows.specs.Rows.{minSwitch, maxSwitch, fullCost, cost, rowAt}
+use Rattle.rows.specs.Rows.{minSwitch, maxSwitch, fullCost, cost}
 use Rattle.tables.specs.TableLines.{minBoard, maxBoard, exceeding, repeated, impossible}
 use Rattle.tables.specs.TableLines.{rowLineAt, atMost, newRank}
 use Rattle.tables.specs.TableLines.{Stage, at-board, at-tasks, at-switch, at-field, at-rank, at-end}
@@ -34,10 +34,6 @@ use Rattle.tables.specs.TableLines.{ranksStage, rowsStage, fault, after,
 use Rattle.tables.specs.Claims.{Accepted}
 
 -- ---- what is known at each stage
--- a row has the switch
-abbrev under : ℕ → Row → Bool
-under s r = eqb (r .switch) s
-
 -- the rows so far, of n in all
 pub record Rows (b n s : ℕ) (rs : List Row) : Type 0 where
   board : Within minBoard maxBoard b
@@ -45,7 +41,6 @@ pub record Rows (b n s : ℕ) (rs : List Row) : Type 0 where
   switch : Within minSwitch maxSwitch s
   ranges : allRows inRange rs ≡ true
   once : distinctRows rs ≡ true
-  same : allRows (under s) rs ≡ true
 
 -- each number of a row passed where it stands
 pub record FieldPasses (s : ℕ) (rs : List Row) (vs : List ℕ) (i v : ℕ) : Type 0 where
@@ -156,7 +151,6 @@ module _ (s : ℕ) (rs : List Row) where
       once =
           ap distinct (tasks-last rs (rowOf numbers))
           ∙ distinct-last (tasksOf rs) (rowOf numbers .task) (h .once) row-new;
-      same = append-passes (under s) rs (rowOf numbers ∷ []) (h .same) (rw (eq-eqb _ s of-switch));
     }
 
 -- ---- every number that passes keeps it
@@ -169,13 +163,9 @@ table-known ranked b s rs os h possible none = record {
   few-rows = h .count .le-high;
   rows-in-range = h .ranges;
   rows-distinct = h .once;
-  one-switch = λ i j l m. switch-at i l ∙ sym (switch-at j m);
   ranks-possible = possible;
   no-ranks = none;
 }
-  where
-    switch-at : (i : ℕ) → i < length rs → rowAt rs i .switch ≡ s
-    switch-at i l = eqb-true (rowAt rs i .switch) s (at-passes (under s) rs i (h .same) l)
 
 ranks-known : (ranked : Bool) (n b : ℕ) (rs : List Row) (os : List ℕ) → Ranks ranked n b rs os
     → Known ranked (ranksStage n b rs os)
@@ -247,7 +237,6 @@ sound ranked = record { begins = tt; keeps = keeps }
           switch = natural-passes p (bytes "switch=") minSwitch maxSwitch refl;
           ranges = refl;
           once = refl;
-          same = refl;
         })
     keeps (at-field n b s rs vs) key z h p =
         let l = rowLineAt (length vs) in

@@ -2,9 +2,10 @@
 -- and a refusal has its reason.
 use mathlib.Core.Path.{_≡_}
 use mathlib.Core.Bool.{Bool, true, false}
-use mathlib.Core.List.{List, []}
+use mathlib.Core.List.{List, [], _++_}
 use Prim.Native.Nat.{ℕ, suc, _≤_, _<_}
 use lib.ListN.{length}
+use Rattle.text.specs.Text.{bytes, decimal, keyLine}
 use Rattle.grammars.specs.Claims.{AsWritten, Reason}
 use Rattle.rows.specs.Rows.{minTasks, maxTasks, switchAt, rowAt, inRange, allRows, distinctRows, isPossible}
 use Rattle.rows.specs.declared.Row.{Row}
@@ -19,8 +20,6 @@ pub record Accepted (ranked : Bool) (a : TableRead) : Type 0 where
   pub few-rows : length (a .rows) ≤ maxTasks
   pub rows-in-range : allRows inRange (a .rows) ≡ true
   pub rows-distinct : distinctRows (a .rows) ≡ true
-  pub one-switch :
-      (i j : ℕ) → i < length (a .rows) → j < length (a .rows) → rowAt (a .rows) i .switch ≡ rowAt (a .rows) j .switch
   pub ranks-possible : ranked ≡ true → isPossible (a .order) (a .rows) ≡ true
   pub no-ranks : ranked ≡ false → a .order ≡ []
 
@@ -31,6 +30,16 @@ Tells ranked text board rows tasks = AsWritten (table ranked) at-board text (at-
 -- the lines before line k are as expected, and the condition of refusal n holds there
 abbrev pub Fails : Bool → List ℕ → ℕ → ℕ → Type 0
 Fails ranked text n k = Reason (table ranked) at-board text n k
+
+-- the text begins with the lines of the table's head, and the rows have the switch of its third line
+pub record Switched (text : List ℕ) (board : ℕ) (rows : List Row) : Type 0 where
+  pub switch : ℕ
+  pub rest : List ℕ
+  pub head :
+      text
+      ≡ keyLine (bytes "board=") (decimal board)
+      ++ (keyLine (bytes "tasks=") (decimal (length rows)) ++ (keyLine (bytes "switch=") (decimal switch) ++ rest))
+  pub in-rows : (i : ℕ) → i < length rows → rowAt rows i .switch ≡ switch
 
 -- every text is accepted as it is written, or refused for its reason
 pub record Read (ranked : Bool) (text : List ℕ) : Type 0 where
@@ -46,3 +55,4 @@ pub record Read (ranked : Bool) (text : List ℕ) : Type 0 where
   pub accepts :
       (b : ℕ) (rs : List Row) (os : List ℕ) → Tells ranked text b rs os → readTable ranked text ≡ tableOf b rs os
   pub refuses : (n k : ℕ) → Fails ranked text n k → readTable ranked text ≡ turnedDown n k
+  pub switched : (b : ℕ) (rs : List Row) (os : List ℕ) → Tells ranked text b rs os → Switched text b rs
