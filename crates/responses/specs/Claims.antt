@@ -169,7 +169,7 @@ pub record Demand-2 : Type 0 where
 -- ---- what a call that answers a row's figures promises
 pub record FiguresSay (t : Row) (above below : List Row) (x : Figures) : Type 0 where
   pub answer : x ≡ figuresOf t above below
-  -- demand 2, of these very rows
+  -- demand 2, of these very rows, each with its own switch
   pub by-formulas : inLimits t above below ≡ true → Figured t above below
   pub by-numbers : ByNumbers t above below
   -- under a greater switch no W falls and no E changes
