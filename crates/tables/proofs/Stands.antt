@@ -30,7 +30,8 @@ use Rattle.tables.specs.declared.progress.Part.the-variants as P
 use Rattle.tables.specs.declared.progress.Stand.{Stand}
 use Rattle.tables.specs.TableLines.{minBoard, maxBoard, newRank, rowLineAt}
 use Rattle.tables.specs.TableLines.{Stage, at-board, at-tasks, at-switch, at-field, ranksStage, rowsStage, after, table}
-use Rattle.tables.specs.inside.Numbers.{headCount, lineBytes, rowStart, boardIn, switchIn, rowsIn, behind}
+use Rattle.tables.specs.inside.Numbers.{headCount, lineBytes, rowStart, boardIn, headSwitchAt, switchIn, rowsIn}
+use Rattle.tables.specs.inside.Numbers.{behind}
 use Rattle.tables.specs.inside.Stands.{fieldLine, lineHere, faultIn, stand, ranksNext, rowsNext, afterField}
 use Rattle.tables.specs.inside.Stands.{standAfter, linesBy, readBy, Counted, endsRow, stageIn, progress, endedBy}
 use Rattle.rows.proofs.RowNumbers.{rows-length, between-length}
@@ -66,7 +67,7 @@ module _ (ranked : Bool) (text : List ℕ) (at k : ℕ) (s : Stand) (ns : List �
       let vs = behind (s .count) (s .position) ns in
       let st = stageIn P.Row s (take (readBy P.Row s) ns) in
       let l = rowLineAt (length vs) in
-      let sw = getD-take (readBy P.Row s) ns 2 0 (omega arith) in
+      let sw = getD-take (readBy P.Row s) ns headSwitchAt 0 (omega arith) in
       step-line (table ranked) text st at k (l .key) (l .low) (l .high) refl
       ∙ ap (λ d. onAnswer (table ranked) st k (tested (l .fault d (rowsIn (s .count) (take (readBy P.Row s) ns)) vs)
       (fieldLine (length vs) text at k) k)) sw
@@ -227,7 +228,7 @@ stand-follows P.Tasks ranked count left position ws v e h w = record {
 stand-follows P.Switch ranked count left position ws v e h w =
     let long : length (ws ++ (v ∷ [])) ≡ rowStart 0 = length-append ws (v ∷ []) ∙ omega arith in
     renamed (rows-follow ranked 0 (omega arith) (ws ++ (v ∷ [])) left (omega (arith, h .2)) long)
-    (ap₂ (λ b d. rowsStage ranked left b d []) (board-stays ws (v ∷ []) (omega arith)) (getD-at ws v [] 0 2 e)) refl
+    (ap₂ (λ b d. rowsStage ranked left b d []) (board-stays ws (v ∷ []) (omega arith)) (getD-at ws v [] 0 headSwitchAt e)) refl
     (sym long)
 stand-follows P.Row ranked count left position ws v e h w =
     field-follows ranked count left position ws v e (h .0) (h .1)

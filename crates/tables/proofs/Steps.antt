@@ -25,7 +25,7 @@ use Rattle.tables.specs.declared.progress.Part.the-variants as P
 use Rattle.tables.specs.declared.progress.Stand.{Stand}
 use Rattle.tables.specs.declared.progress.Progress.{Progress}
 use Rattle.tables.specs.TableLines.{Stage, after, table}
-use Rattle.tables.specs.inside.Numbers.{mostNumbers, lineBytes, numberBytes, switchIn}
+use Rattle.tables.specs.inside.Numbers.{mostNumbers, lineBytes, numberBytes, headSwitchAt, switchIn}
 use Rattle.tables.specs.inside.Stands.{lineHere, faultIn, ranksNext, rowsNext, standAfter, linesBy, readBy}
 use Rattle.tables.specs.inside.Stands.{Counted, endsRow, withNumber, PutAt, stageIn, stageOf}
 use Rattle.tables.specs.inside.Stands.{Stands, progress, endedBy, reader, On, TakesLine}
@@ -85,7 +85,7 @@ put-grown true at v ns h =
     let long : length (ws ++ (v ∷ switchIn ws ∷ [])) ≡ suc (suc at) =
     length-append ws (v ∷ switchIn ws ∷ []) ∙ omega (arith, length-take-le at ns (omega (arith, h .here))) in
     let same : sw ≡ switchIn ws =
-    getD-set-other ns at 2 v 0 (λ e. omega (arith, e, past)) ∙ sym (getD-take at ns 2 0 past) in
+    getD-set-other ns at headSwitchAt v 0 (λ e. omega (arith, e, past)) ∙ sym (getD-take at ns headSwitchAt 0 past) in
     ap (λ m. take m (set ms (suc at) sw)) long
     ∙ take-suc-set ms (suc at) sw (omega (arith, room, length-set ns at v))
     ∙ ap (λ xs. xs ++ (sw ∷ [])) (take-suc-set ns at v (h .here))
@@ -122,7 +122,7 @@ row-whole P.Rank s v h =
 row-whole P.End s v h = ap not (eq-eqb (s .count) (s .count) refl)
 
 -- the last number of a row stands behind the head
-ends-behind : (p : Part) (s : Stand) (i : ℕ) → endsRow p i ≡ true → 2 < readBy p s
+ends-behind : (p : Part) (s : Stand) (i : ℕ) → endsRow p i ≡ true → headSwitchAt < readBy p s
 ends-behind P.Board s i e = never e
 ends-behind P.Tasks s i e = never e
 ends-behind P.Switch s i e = never e

@@ -39,8 +39,12 @@ rowStart n = headCount + fieldCount * n
 abbrev pub boardIn : List ℕ → ℕ
 boardIn ws = getD ws 0 0
 
+-- where the switch stands
+abbrev pub headSwitchAt : ℕ
+headSwitchAt = 2
+
 abbrev pub switchIn : List ℕ → ℕ
-switchIn ws = getD ws 2 0
+switchIn ws = getD ws headSwitchAt 0
 
 -- the first n rows
 abbrev pub rowsIn : ℕ → List ℕ → List Row

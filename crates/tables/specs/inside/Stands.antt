@@ -20,7 +20,8 @@ use Rattle.tables.specs.declared.progress.Stand.{Stand}
 use Rattle.tables.specs.declared.progress.Progress.{Progress}
 use Rattle.tables.specs.TableLines.{minBoard, maxBoard, newRank, rowLineAt}
 use Rattle.tables.specs.TableLines.{Stage, at-board, at-tasks, at-switch, at-field, at-rank, at-end, table}
-use Rattle.tables.specs.inside.Numbers.{headCount, lineBytes, Room, rowStart, boardIn, switchIn, rowsIn, behind}
+use Rattle.tables.specs.inside.Numbers.{headCount, lineBytes, Room, rowStart, boardIn, headSwitchAt, switchIn}
+use Rattle.tables.specs.inside.Numbers.{rowsIn, behind}
 
 -- ---- the line that is expected
 abbrev pub fieldLine : ℕ → List ℕ → ℕ → ℕ → Line
@@ -120,7 +121,7 @@ withNumber ends at v ns = let ms = set ns at v in pick ends (set ms (suc at) (sw
 -- there is room for it
 pub record PutAt (ends : Bool) (at : ℕ) (ns : List ℕ) : Type 0 where
   pub here : at < length ns
-  pub behind : ends ≡ true → (2 < at) × (suc at < length ns)
+  pub behind : ends ≡ true → (headSwitchAt < at) × (suc at < length ns)
 
 -- ---- what it shows of the text's reading, with the numbers so far
 abbrev pub stageIn : Part → Stand → List ℕ → Stage

@@ -4,11 +4,12 @@ use native.Mathlib.Numerals.{add-one}
 use native.Mathlib.Omega.{arith}
 use lib.ListN.{length, length-set}
 use borrow.Author.Needs.{needs}
+use Rattle.tables.specs.inside.Numbers.{headSwitchAt}
 use Rattle.tables.proofs.progress.put_number.Statement.{statement}
 use Rattle.tables.proofs.progress.put_number.Tie as tie
 
 -- where the row is whole
-room : (c : tie.Then1) → let a = c .before .args in (2 < a .at) × (suc (a .at) < length (a .numbers .now))
+room : (c : tie.Then1) → let a = c .before .args in (headSwitchAt < a .at) × (suc (a .at) < length (a .numbers .now))
 room c = c .before .pre .behind (c .if1 .taken)
 
 slice-read-numbers : tie.Need-slice-read-numbers
