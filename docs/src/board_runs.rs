@@ -10,6 +10,8 @@ use std::time::Instant;
 const MOST_TICKS: u64 = 6_000;
 /// A table with a longer period is left out, since a run of it takes too long.
 const LONGEST_PERIOD: u64 = 10_000;
+/// So many plans have a switch in some of them.
+const MANY_PLANS: u64 = 50;
 
 /// How many tasks came how close to one of their lines, each over all its runs.
 #[derive(Default)]
@@ -75,6 +77,10 @@ impl Report {
             let gap = smallest.abs_diff(boards::shortest(tasks, rank));
             self.note("shortest response", rank, gap, text);
             self.to_best.add(smallest - task.best);
+            // No stretch, or one for the whole job: the line itself is reached.
+            if task.hold < 2 || task.hold >= task.best {
+                self.note("best line", rank, smallest - task.best, text);
+            }
             if task.hold >= 2 {
                 self.to_best_holding.add(smallest - task.best);
                 self.to_shortest.add(gap);
@@ -105,10 +111,18 @@ impl Report {
         );
         self.to_best_holding.print("best line, by task with such a hold");
         self.to_shortest.print("shortest response that its stretches allow, by such a task");
+    }
+
+    /// That the runs tried what they should: each task came to its lines, and switches were paid.
+    fn complete(&self, plans: u64) -> Result<(), String> {
         if let Some(Missed { what, rank, ticks, table }) = &self.missed {
-            println!("  first not reached: {what} of rank {rank}, by {ticks} ticks, table:");
-            println!("  \"{table}\"");
+            let by = format!("{what} of rank {rank}, by {ticks} ticks");
+            return Err(format!("NOT REACHED: {by}, table:\n  \"{table}\"\n"));
         }
+        if plans >= MANY_PLANS && self.switching == 0 {
+            return Err(format!("NO SWITCH in {plans} plans\n"));
+        }
+        Ok(())
     }
 }
 
@@ -213,5 +227,5 @@ pub fn run(dice: &mut Dice, count: u64) -> Result<(), String> {
     }
     println!("{count} plans on boards, {} runs, no line broken", report.runs);
     report.print();
-    Ok(())
+    report.complete(count)
 }

@@ -32,6 +32,8 @@ use std::time::Instant;
 const SHORT_PLAN: usize = 200;
 /// How often a table's betas are lowered at most.
 const MOST_SQUEEZES: u64 = 3;
+/// A table with hundreds of jobs of one task in the time of another's has so many tasks at most.
+const MOST_CROWDED: usize = 5;
 
 const USAGE: &str = "usage: compare [--texts N] [--tables N] [--boards N] [--cranes N] [--seed S]
          20000 texts, 1200 tables, 100 boards, 4000 cranes and seed 1 where nothing else is said
@@ -171,6 +173,23 @@ fn run_tables(dice: &mut Dice, count: u64) -> Result<(), String> {
     Ok(())
 }
 
+/// Tables in which hundreds of jobs of one task, each with its switch, delay another's.
+fn run_crowded(dice: &mut Dice, count: u64) -> Result<(), String> {
+    let (mut tally, started) = (Tally::default(), Instant::now());
+    let mut accepted = 0;
+    for done in 1..=count {
+        let tasks = 2 + dice.below(MOST_CROWDED - 1);
+        let table = tables::crowded(dice, tasks);
+        let order = compare_table(dice, &mut tally, &table)?;
+        accepted += order.is_some() as u64;
+        progress("crowded tables", done, count, started);
+    }
+    print!("{count} tables of 2 to {MOST_CROWDED} tasks, hundreds of jobs of one in the time of ");
+    println!("another's, {} calls, no difference", tally.calls());
+    println!("  with a stable order: {accepted}");
+    Ok(())
+}
+
 // ---- The program ------------------------------------------------------------------------
 
 struct Options {
@@ -214,7 +233,8 @@ fn run_all(options: &Options) -> Result<(), String> {
     run_texts(&mut Dice::new(options.seed), options.texts)?;
     run_tables(&mut Dice::new(options.seed ^ 1 << 32), options.tables)?;
     board_runs::run(&mut Dice::new(options.seed ^ 2 << 32), options.boards)?;
-    crane_runs::run(&mut Dice::new(options.seed ^ 3 << 32), options.cranes)
+    crane_runs::run(&mut Dice::new(options.seed ^ 3 << 32), options.cranes)?;
+    run_crowded(&mut Dice::new(options.seed ^ 4 << 32), options.tables / 10)
 }
 
 fn main() -> ExitCode {

@@ -639,20 +639,44 @@ mod tests {
         rows.iter().map(|row| Row { worst: row.worst + switch, ..*row }).collect()
     }
 
-    /// With a switch of 0 the formulas are those of before it, and else those with longer jobs.
+    /// Whether the first row is in time under some of the others; its figures are those of trying
+    /// every number. With a switch of 0 the formulas are those of before it, and else those with
+    /// longer jobs.
+    fn agrees_with_trying(dice: &mut Dice, Table { switch, rows, .. }: &Table) -> bool {
+        let split = dice.below(rows.len());
+        let found = figures_at(*switch, rows, split).map(|f| (f.best, f.worst));
+        let longer = lengthened(*switch, rows);
+        let others: Vec<&Row> = longer[1..].iter().collect();
+        let (above, below) = others.split_at(split);
+        let tried = figures_by_trying(&longer[0], above, below);
+        assert_eq!(found, tried, "switch {switch}, {rows:?}");
+        tried.is_some()
+    }
+
     #[test]
     fn figures_agree_with_trying_every_number() {
         let mut dice = Dice::new(1);
         for round in 0..20_000 {
-            let Table { switch, rows, .. } = small_table(&mut dice, 1 + round % 6);
-            let split = dice.below(rows.len());
-            let found = figures_at(switch, &rows, split).map(|f| (f.best, f.worst));
-            let longer = lengthened(switch, &rows);
-            let others: Vec<&Row> = longer[1..].iter().collect();
-            let (above, below) = others.split_at(split);
-            let tried = figures_by_trying(&longer[0], above, below);
-            assert_eq!(found, tried, "switch {switch}, {rows:?}");
+            let table = small_table(&mut dice, 1 + round % 6);
+            agrees_with_trying(&mut dice, &table);
         }
+    }
+
+    /// The same of full tables, with periods long enough that many a task is in time.
+    #[test]
+    fn figures_agree_in_full_tables() {
+        let mut dice = Dice::new(3);
+        let full = |dice: &mut Dice| {
+            let mut table = small_table(dice, MOST_TASKS);
+            table.rows.iter_mut().for_each(|row| row.period *= 20);
+            table
+        };
+        let in_time = (0..2_000).filter(|_| {
+            let table = full(&mut dice);
+            agrees_with_trying(&mut dice, &table)
+        });
+        let in_time = in_time.count();
+        assert!(in_time > 500, "{in_time} of 2000 are in time");
     }
 
     #[test]

@@ -310,6 +310,23 @@ pub fn switching(dice: &mut Dice, family: Family, count: usize, loose: bool) -> 
     table
 }
 
+/// A few tasks under a switch, one of them with hundreds of jobs in the time of another's.
+pub fn crowded(dice: &mut Dice, count: usize) -> Table {
+    let switch = dice.pick(&[1, 2, 10, 100, MOST_SWITCH - 1, MOST_SWITCH]);
+    let mut table = loose_table(dice, Huge, count, NO_SWITCH);
+    table.switch = switch;
+    table.rows.iter_mut().for_each(|row| row.worst = row.worst.min(MOST_TICKS / 8));
+    let index = dice.below(count);
+    let row = &mut table.rows[index];
+    row.worst = dice.between(1, 3);
+    row.period = (row.worst + switch) * dice.between(2, 4) / 2 + dice.between(1, 3);
+    for row in &mut table.rows {
+        row.best = best(dice, row.worst);
+    }
+    set_betas(dice, &mut table);
+    table
+}
+
 /// A table of any board, with a switch in five of eight.
 pub fn any(dice: &mut Dice, family: Family, count: usize, loose: bool) -> Table {
     let draw = if dice.below(8) < 3 { holding } else { switching };
