@@ -2,21 +2,19 @@
 use mathlib.Core.Path.{_≡_, refl}
 use mathlib.Core.Bool.{true, false}
 use mathlib.Core.List.{List, [], _∷_}
-use mathlib.Core.Logic.{_⊎_, inl, inr}
-use Prim.Native.Nat.{ℕ, zero, suc, _≤_, _<_}
+use Prim.Native.Nat.{ℕ, zero, suc, _+_, _≤_, _<_}
 use native.Mathlib.Omega.{arith}
 use lib.ListN.{length}
 use Rattle.basics.proofs.Tests.{true-not-false}
-use Rattle.rows.specs.Rows.{timesInRange, allRows, rowAt, cost}
+use Rattle.rows.specs.Rows.{rowAt, cost}
 use Rattle.rows.specs.declared.Row.{Row}
-use Rattle.rows.proofs.Limits.{times, at-passes}
 use Rattle.responses.specs.Extremes.{smallest, largest}
 use Rattle.responses.specs.Figures.{rowsAbove, rowsBelow, blocking, isLate}
-use Rattle.responses.specs.Claims.{NoneHolds}
+use Rattle.responses.specs.Claims.{NoneHolds, switched}
 use Rattle.boards.specs.Claims.{LastsInRange, NoneLate}
 use Rattle.boards.specs.Runs.{boardGoesTo}
 use Rattle.boards.specs.Witnesses.{withHolds, exampleOrder, heldOrder, switchedOrder, atOnce, lasting}
-use Rattle.boards.specs.Witnesses.{never, RunsMet, HoldsCount, SwitchCounts}
+use Rattle.boards.specs.Witnesses.{never, NeedsByNumbers, RunsMet, HoldsCount, SwitchCounts}
 
 -- of three ranks, each
 each : (P : ℕ → Type 0) → P 0 → P 1 → P 2 → (i : ℕ) → i < 3 → P i
@@ -39,15 +37,20 @@ in-time-held = each (InTime heldOrder) refl refl refl
 no-hold : (m l : ℕ) → m ≤ 1 → l ≤ 1 → NoneHolds (withHolds m l)
 no-hold m l a b = each (λ i. rowAt (withHolds m l) i .hold ≤ 1) (omega arith) a b
 
-either : (order : List Row) (need : ℕ → ℕ → ℕ) → allRows timesInRange order ≡ true
-    → ((i k : ℕ) → (need i k ≡ rowAt order i .best) ⊎ (need i k ≡ cost (rowAt order i)))
-    → LastsInRange order need
-either order need ok is i k l =
-    let r = times (rowAt order i) (at-passes timesInRange order i ok l) in
-    elim (is i k) [
-      | inl e ↦ (omega (arith, e), omega (arith, e, r .best-cost))
-      | inr e ↦ (omega (arith, e, r .best-cost), omega (arith, e))
-    ]
+-- a job's needs, by the definition of its cost
+lasts-by : (order : List Row) (need : ℕ → ℕ → ℕ) → NeedsByNumbers order need → LastsInRange order need
+unfolding cost
+lasts-by order need h = h
+
+lasts-only-by : (order : List Row) (need : ℕ → ℕ → ℕ) → LastsInRange order need → NeedsByNumbers order need
+unfolding cost
+lasts-only-by order need h = h
+
+-- rows under a switch have it
+under : (s : ℕ) (rows : List Row) (i : ℕ) → i < length (switched s rows) → rowAt (switched s rows) i .switch ≡ s
+under s [] i l = absurd (omega arith)
+under s (r ∷ rs) zero l = refl
+under s (r ∷ rs) (suc i) l = under s rs i (omega arith)
 
 -- the lowest rank's jobs last from 17 to 19 ticks, whatever its hold
 between : (hold n : ℕ) → 17 ≤ n → n ≤ 19 → LastsInRange (withHolds 0 hold) (lasting (2 ∷ 6 ∷ n ∷ []))
@@ -73,8 +76,8 @@ idle i k l = each (λ i. boardGoesTo exampleOrder atOnce (lasting (2 ∷ 6 ∷ 1
 pub runs-met : RunsMet
 runs-met = record {
   none-late = in-time;
-  lasts = either;
-  lasts-between = between 0 18 (omega arith) (omega arith);
+  lasts = lasts-by;
+  lasts-only = lasts-only-by;
   held-early = λ j l. omega arith;
   earliest-reached = refl;
   latest-reached = refl;
@@ -82,8 +85,8 @@ runs-met = record {
   idle-there = idle;
   highest-short = λ k. omega arith;
   none-holds = no-hold 0 0 (omega arith) (omega arith);
-  no-switch = each (λ i. rowAt exampleOrder i .switch ≡ 0) refl refl refl;
-  switch-up-to = each (λ i. rowAt exampleOrder i .switch ≤ 1) (omega arith) (omega arith) (omega arith);
+  no-switch = under 0;
+  switch-up-to = λ u s h rows i l. omega (arith, h, under u rows i l);
 }
 
 pub holds-count : HoldsCount
@@ -112,17 +115,23 @@ in-time-switched : NoneLate switchedOrder
 unfolding smallest cost blocking
 in-time-switched = each (InTime switchedOrder) refl refl refl
 
-lasts-under : (a b c : ℕ) → (2 ≤ a) × (a ≤ 3) → (6 ≤ b) × (b ≤ 7) → (17 ≤ c) × (c ≤ 20)
-    → LastsInRange switchedOrder (lasting (a ∷ b ∷ c ∷ []))
-unfolding cost
-lasts-under a b c first second third i k l =
-    each (λ i. (rowAt switchedOrder i .best ≤ lasting (a ∷ b ∷ c ∷ []) i k)
-    × (lasting (a ∷ b ∷ c ∷ []) i k ≤ cost (rowAt switchedOrder i)))
-    first second third i l
+in-time-switched-held : NoneLate (switched 1 heldOrder)
+unfolding smallest cost blocking
+in-time-switched-held = each (InTime (switched 1 heldOrder)) refl refl refl
 
-too-long : LastsInRange switchedOrder (lasting (3 ∷ 7 ∷ 21 ∷ [])) → ⊥
-unfolding cost
-too-long h = omega (arith, h 2 0 (omega arith) .1)
+-- the longest jobs under it, whatever the lowest rank's hold
+longest-under : (hold : ℕ) → LastsInRange (switched 1 (withHolds 0 hold)) (lasting (3 ∷ 7 ∷ 20 ∷ []))
+longest-under hold = lasts-by (switched 1 (withHolds 0 hold)) (lasting (3 ∷ 7 ∷ 20 ∷ []))
+    (λ i k l. each (λ i. let r = rowAt (switched 1 (withHolds 0 hold)) i in
+    (r .best ≤ lasting (3 ∷ 7 ∷ 20 ∷ []) i k) × (lasting (3 ∷ 7 ∷ 20 ∷ []) i k ≤ r .worst + r .switch))
+    (omega arith, omega arith) (omega arith, omega arith) (omega arith, omega arith) i l)
+
+-- and the shortest
+shortest-under : LastsInRange switchedOrder (lasting (2 ∷ 6 ∷ 17 ∷ []))
+shortest-under = lasts-by switchedOrder (lasting (2 ∷ 6 ∷ 17 ∷ []))
+    (λ i k l. each (λ i. let r = rowAt switchedOrder i in
+    (r .best ≤ lasting (2 ∷ 6 ∷ 17 ∷ []) i k) × (lasting (2 ∷ 6 ∷ 17 ∷ []) i k ≤ r .worst + r .switch))
+    (omega arith, omega arith) (omega arith, omega arith) (omega arith, omega arith) i l)
 
 pub switch-counts : SwitchCounts
 unfolding smallest largest cost blocking
@@ -130,15 +139,14 @@ switch-counts = record {
   none-late = in-time-switched;
   latest-is = refl;
   latest-without = refl;
-  lasts-latest =
-      lasts-under 3 7 20 (omega arith, omega arith) (omega arith, omega arith) (omega arith, omega arith);
+  lasts-latest = longest-under 0;
   latest-reached = refl;
   earliest-is = refl;
   held-early = λ j l. omega arith;
-  lasts-earliest =
-      lasts-under 2 6 17 (omega arith, omega arith) (omega arith, omega arith) (omega arith, omega arith);
+  lasts-earliest = shortest-under;
   earliest-reached = refl;
-  no-longer = too-long;
+  held-none-late = in-time-switched-held;
+  held-lasts = longest-under 5;
   held-latest = refl;
   held-reached = refl;
 }

@@ -3,12 +3,11 @@
 use mathlib.Core.Path.{_≡_}
 use mathlib.Core.Bool.{Bool, true, false}
 use mathlib.Core.List.{List, [], _∷_, map}
-use mathlib.Core.Logic.{_⊎_}
-use Prim.Native.Nat.{ℕ, _≤_, _<_}
+use Prim.Native.Nat.{ℕ, _+_, _≤_, _<_}
 use lib.Dec.{leb}
 use lib.ListN.{length, getD}
 use Rattle.basics.specs.Basics.{pick}
-use Rattle.rows.specs.Rows.{row, timesInRange, allRows, rowAt, cost}
+use Rattle.rows.specs.Rows.{row, rowAt, cost}
 use Rattle.rows.specs.declared.Row.{Row}
 use Rattle.responses.specs.Interference.{leastFixed, largestFixed}
 use Rattle.responses.specs.Figures.{rowsAbove, worstLoad, bestLoad}
@@ -45,14 +44,17 @@ always t = true
 abbrev pub keptFrom : ℕ → ℕ → Bool
 keptFrom u t = leb u t
 
+-- what jobs may need, by the numbers of the rows
+abbrev pub NeedsByNumbers : List Row → (ℕ → ℕ → ℕ) → Type 0
+NeedsByNumbers order need =
+    (i k : ℕ) → i < length order
+    → let r = rowAt order i in (r .best ≤ need i k) × (need i k ≤ r .worst + r .switch)
+
 pub record RunsMet : Type 0 where
   pub none-late : NoneLate exampleOrder
-  -- jobs may need their best or their cost, each its own, or something between
-  pub lasts :
-      (order : List Row) (need : ℕ → ℕ → ℕ) → allRows timesInRange order ≡ true
-      → ((i k : ℕ) → (need i k ≡ rowAt order i .best) ⊎ (need i k ≡ cost (rowAt order i)))
-      → LastsInRange order need
-  pub lasts-between : LastsInRange exampleOrder (lasting (2 ∷ 6 ∷ 18 ∷ []))
+  -- jobs may need whatever is from their best to their worst and the switch, each its own, and nothing else
+  pub lasts : (order : List Row) (need : ℕ → ℕ → ℕ) → NeedsByNumbers order need → LastsInRange order need
+  pub lasts-only : (order : List Row) (need : ℕ → ℕ → ℕ) → LastsInRange order need → NeedsByNumbers order need
   -- a job of the lowest rank that is held to its earliest response, 25, and finishes just then; and one that takes its
   -- latest, 35
   pub held-early : AfterFirstReleases exampleOrder atOnce 2 200
@@ -65,8 +67,9 @@ pub record RunsMet : Type 0 where
       → boardGoesTo exampleOrder atOnce (lasting (2 ∷ 6 ∷ 17 ∷ [])) never i k 226 ≡ true → ⊥
   pub highest-short : (k : ℕ) → lasting (2 ∷ 6 ∷ 19 ∷ []) 0 k ≤ rowAt exampleOrder 0 .period
   pub none-holds : NoneHolds exampleOrder
-  pub no-switch : NoSwitch exampleOrder
-  pub switch-up-to : SwitchUpTo 1 exampleOrder
+  -- any rows under a switch of 0, and under one that is no greater than another
+  pub no-switch : (rows : List Row) → NoSwitch (switched 0 rows)
+  pub switch-up-to : (u s : ℕ) → u ≤ s → (rows : List Row) → SwitchUpTo s (switched u rows)
 
 -- ---- the lowest task may hold the processor for 5 ticks
 abbrev pub heldOrder : List Row
@@ -117,8 +120,8 @@ pub record SwitchCounts : Type 0 where
   pub held-early : AfterFirstReleases switchedOrder atOnce 2 200
   pub lasts-earliest : LastsInRange switchedOrder (lasting (2 ∷ 6 ∷ 17 ∷ []))
   pub earliest-reached : Finishes switchedOrder atOnce (lasting (2 ∷ 6 ∷ 17 ∷ [])) never 2 200 225
-  -- no job lasts longer
-  pub no-longer : LastsInRange switchedOrder (lasting (3 ∷ 7 ∷ 21 ∷ [])) → ⊥
   -- a hold below adds its ticks and no switch: the latest response of rank 1 over a hold of 5 is 14, and a job takes it
+  pub held-none-late : NoneLate (switched 1 heldOrder)
+  pub held-lasts : LastsInRange (switched 1 heldOrder) (lasting (3 ∷ 7 ∷ 20 ∷ []))
   pub held-latest : latestAt (switched 1 heldOrder) 1 ≡ 14
   pub held-reached : Finishes (switched 1 heldOrder) (aheadFrom 2) (lasting (3 ∷ 7 ∷ 20 ∷ [])) always 1 1 15

@@ -1,4 +1,4 @@
--- The starred cases, the others and those of holds are so, by computing.
+-- The starred cases, the others, and those of holds and of the switch are so, by computing.
 use mathlib.Core.Path.{_≡_, refl, sym, _∙_}
 use mathlib.Core.Bool.{true}
 use mathlib.Core.List.{List, [], _∷_}

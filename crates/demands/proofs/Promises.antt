@@ -12,7 +12,7 @@ use Rattle.rows.specs.declared.Row.{Row}
 use Rattle.rows.proofs.Limits.{all-times, at-passes, front-passes}
 use Rattle.responses.specs.Figures.{rowsAbove, rowsBelow}
 use Rattle.responses.specs.Claims.{Figured, AsRequest2, AsDocument01, NoSwitch, NoneHolds, SwitchUpTo, Grows}
-use Rattle.responses.proofs.Responses.{figured, without-holds}
+use Rattle.responses.proofs.Responses.{figured, without-either}
 use Rattle.responses.proofs.Switches.{by-numbers, without-switch, switch-grows}
 use Rattle.responses.proofs.Sequences.{by-set}
 use Rattle.responses.proofs.Blocking.{rest-holds}
@@ -76,8 +76,8 @@ module _ (order : List Row) (ok : allRows inRange order ≡ true) (in-time : Non
   as-before : NoSwitch order → NoneHolds order → (i : ℕ) → i < length order
       → AsDocument01 (rowAt order i) (rowsAbove order i) (rowsBelow order i)
   as-before free none i h =
-      without-holds (rowAt order i) (rowsAbove order i) (rowsBelow order i) (none i h) (rest-holds order (suc i) none)
-      (free i h) (front-each (λ r. r .switch ≡ 0) order i free)
+      without-either (rowAt order i) (rowsAbove order i) (rowsBelow order i) (free i h)
+      (front-each (λ r. r .switch ≡ 0) order i free) (none i h) (rest-holds order (suc i) none)
 
   grows : (s : ℕ) → SwitchUpTo s order → (i : ℕ) → i < length order
       → Grows (rowAt order i) (rowsAbove order i) (rowsBelow order i) s
@@ -93,7 +93,7 @@ module _ (order : List Row) (ok : allRows inRange order ≡ true) (in-time : Non
     by-sets = by-sets;
     by-numbers = λ i h. by-numbers (rowAt order i) (rowsAbove order i) (rowsBelow order i);
     without-switch = before-switch;
-    without-holds = as-before;
+    without-either = as-before;
     switch-grows = grows;
     by-rules = λ offset need keeps lasts. board-runs order offset need keeps times-ok lasts;
     kept = kept;

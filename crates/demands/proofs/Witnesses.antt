@@ -15,7 +15,7 @@ use Rattle.rows.specs.declared.Row.{Row}
 use Rattle.tables.specs.TableLines.{TableRead, readTable}
 use Rattle.responses.specs.Extremes.{smallest, largest}
 use Rattle.responses.specs.Figures.{worstLoad, bestLoad, worstIn, bestIn, blocking, isLate, latest, earliest, marginAt}
-use Rattle.responses.specs.Claims.{Figured}
+use Rattle.responses.specs.Claims.{Figured, switched}
 use Rattle.responses.proofs.Responses.{figured}
 use Rattle.responses.proofs.Sums.{interference-mono}
 use Rattle.orders.specs.Orders.{overSet}
@@ -28,7 +28,7 @@ use Rattle.demands.specs.Cases.{table}
 use Rattle.boards.specs.Witnesses.{exampleOrder}
 use Rattle.boards.proofs.Witnesses.{runs-met}
 use Rattle.demands.specs.Witnesses.{example, exampleRows, timelyText, lateOrder, lateText, malformed}
-use Rattle.demands.specs.Witnesses.{tenth, tenths, mostText}
+use Rattle.demands.specs.Witnesses.{tenth, tenths, mostText, switchedText, looseOrder}
 use Rattle.demands.specs.Witnesses.{Met, Excluded}
 use Rattle.demands.proofs.Outcomes.{same-refusal, not-both}
 use Rattle.demands.proofs.Texts.{failing, telling, fails-only}
@@ -113,6 +113,15 @@ met =
       record-short = omega arith;
       beside-most = refl;
       beside-more = refl;
+      limits-met = refl;
+      worst-past = refl;
+      best-past = refl;
+      hold-past = refl;
+      switch-most = refl;
+      switch-past = refl;
+      tells-switched = telling false switchedText refl;
+      by-rule-switched = Planner.rule-of switchedText 0 refl (switched 1 looseOrder) refl;
+      beside-switched = refl;
       room-is = refl;
       head-filled = refl;
       rank-in-limits = refl;

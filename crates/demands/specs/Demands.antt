@@ -49,7 +49,7 @@ pub record Promised (order : List Row) : Type 0 where
   pub without-switch :
       NoSwitch order → (i : ℕ) → i < length order
       → AsRequest2 (rowAt order i) (rowsAbove order i) (rowsBelow order i)
-  pub without-holds :
+  pub without-either :
       NoSwitch order → NoneHolds order → (i : ℕ) → i < length order
       → AsDocument01 (rowAt order i) (rowsAbove order i) (rowsBelow order i)
   -- under a greater switch no `worst` line of the same order falls and no `best` line changes, and what is stable there

@@ -8,15 +8,17 @@ use Prim.Native.Nat.{ℕ, zero, suc, _+_, _-_, _*_, _/_, _^_, _≤_, _<_}
 use Prim.Native.String.{String}
 use lib.ListN.{length}
 use Rattle.text.specs.Text.{bytes, lined, decimal, keyLine}
-use Rattle.rows.specs.Rows.{maxTask, maxTicks, minAlpha, maxBeta, minHold, minSwitch, maxTasks, maxBuffer, row}
+use Rattle.rows.specs.Rows.{maxTask, maxTicks, minAlpha, maxBeta, minHold, minSwitch, maxSwitch, maxTasks, maxBuffer}
+use Rattle.rows.specs.Rows.{row, withSwitch, inRange}
 use Rattle.rows.specs.declared.Row.{Row}
 use Rattle.boards.specs.Claims.{NoneLate}
 use Rattle.boards.specs.Witnesses.{exampleOrder}
 use Rattle.responses.specs.Figures.{isLate, inLimits}
+use Rattle.responses.specs.Claims.{switched}
 use Rattle.plans.specs.Entries.{entry, entries}
 use Rattle.plans.specs.Plans.{rankText, headText, planText, headRoom, rankRoom, planRoom}
 use Rattle.plans.specs.Outcomes.{writes, refuses}
-use Rattle.demands.specs.Cases.{row11, row12, row13, table}
+use Rattle.demands.specs.Cases.{row11, row12, row13, tableUnder, table}
 use Rattle.tables.specs.TableLines.{maxBoard}
 use Rattle.tables.specs.Claims.{Tells, Fails}
 use Rattle.demands.specs.Demands.{EveryOrderFails, ByRule, PlanDemands}
@@ -71,6 +73,16 @@ mostText =
     lined ("board=7" ∷ []) ++ keyLine (bytes "tasks=") (decimal maxTasks) ++ lined ("switch=0" ∷ [])
     ++ tenthLines maxTasks
 
+-- its rows with greater betas, as a table under a switch and in the sequence of its order
+abbrev pub switchedText : List ℕ
+switchedText = tableUnder "switch=1" "beta=10000" "beta=10000" "beta=79000"
+
+abbrev pub looseRows : List Row
+looseRows = row11 10000 ∷ row12 10000 ∷ row13 79000 ∷ []
+
+abbrev pub looseOrder : List Row
+looseOrder = row12 10000 ∷ row11 10000 ∷ row13 79000 ∷ []
+
 pub record Met : Type 0 where
   -- refusals 1 to 6, each at its line
   pub missing : Fails false [] 1 1
@@ -99,6 +111,18 @@ pub record Met : Type 0 where
   -- a row's figures are asked for beside one row fewer, and beside no more
   pub beside-most : inLimits (tenth maxTask) (tenths (maxTasks - 1)) [] ≡ true
   pub beside-more : inLimits (tenth maxTask) (tenths maxTasks) [] ≡ false
+  -- a row at its limits under a switch, and a tick past each; a switch at its limit, and past it
+  pub limits-met : inRange (row 1 10 7 7 1000 0 7 3) ≡ true
+  pub worst-past : inRange (row 1 10 8 7 1000 0 7 3) ≡ false
+  pub best-past : inRange (row 1 10 7 8 1000 0 7 3) ≡ false
+  pub hold-past : inRange (row 1 10 7 7 1000 0 8 3) ≡ false
+  pub switch-most : inRange (row 1 maxTicks 7 7 1000 0 7 maxSwitch) ≡ true
+  pub switch-past : inRange (row 1 maxTicks 7 7 1000 0 7 (suc maxSwitch)) ≡ false
+  -- a table under a switch, with an order; figures of rows that have different ones
+  pub tells-switched : Tells false switchedText 7 (switched 1 looseRows) []
+  pub by-rule-switched : ByRule (switched 1 looseRows) (switched 1 looseOrder)
+  pub beside-switched :
+      inLimits (withSwitch 2 (row13 57000)) (row11 8000 ∷ withSwitch 1 (row12 8000) ∷ []) [] ≡ true
   -- the room of a plan's parts is no more than it must be: lines before the ranks, and those of a rank, that fill it
   pub room-is : planRoom ≡ headRoom + maxTasks * rankRoom
   pub head-filled : length (headText maxBoard maxTasks) ≡ headRoom

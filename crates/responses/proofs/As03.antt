@@ -26,7 +26,7 @@ use Rattle.responses.proofs.Margins.{not-below-zero}
 use Rattle.responses.proofs.FixedPoints.{demand-mono, least-is, least-none, largest-is}
 use Rattle.responses.specs.Claims.{plainLoad, NoneHolds, NoSwitch}
 use Rattle.responses.proofs.Switches.{cost-is}
-use Rattle.responses.proofs.Responses.{responses, limits-times, without-holds}
+use Rattle.responses.proofs.Responses.{responses, limits-times, without-either}
 
 -- ---- document 03
 abbrev pub worstSum : ℕ → List Row → ℕ
@@ -151,7 +151,7 @@ module _ (t : Row) (rs below : List Row) (own : t .hold ≤ 1) (none : NoneHolds
       let l = times t ht in
       let some : 1 ≤ t .worst = omega (arith, l .best-some, l .best-cost, cost-is t, free) in
       raised t rs (suc (t .period)) (t .worst) some (omega arith) (λ v a e b. omega arith) (omega arith)
-      ∙ sym (without-holds t rs below own none free others .latest-then)
+      ∙ sym (without-either t rs below free others own none .latest-then)
 
   from-latest : (w : ℕ) → w ≡ F.latest t rs below → earliestFrom w t rs w ≡ largestFixed (t .best) w (map bestLoad rs)
   unfolding largest
@@ -165,7 +165,7 @@ module _ (t : Row) (rs below : List Row) (own : t .hold ≤ 1) (none : NoneHolds
   pub earliest-is : earliest t rs ≡ F.earliest t rs below
   earliest-is = from-latest (latest t rs) latest-is
       ∙ ap (λ (w : ℕ). largestFixed (t .best) w (map bestLoad rs)) latest-is
-      ∙ sym (without-holds t rs below own none free others .earliest-then)
+      ∙ sym (without-either t rs below free others own none .earliest-then)
 
   spent-is : cost t rs ≡ 1000 * F.earliest t rs below + t .alpha * F.jitter t rs below
   spent-is = ap₂ (λ (w e : ℕ). 1000 * e + t .alpha * (w - e)) latest-is earliest-is

@@ -21,7 +21,7 @@ use Rattle.responses.specs.Interference.{ceiling, leastFixed, largestFix
 use Rattle.responses.specs.Figures.{worstLoad, bestLoad, worstIn, bestIn, blocking, latest, isLate, earliest}
 use Rattle.responses.specs.Figures.{isStable, marginAt, margin, lateFigures, figuresAt, figuresUnder}
 use Rattle.responses.specs.Figures.{leastHold, mayHold, maxOthers, inLimits}
-use Rattle.responses.specs.Claims.{spent, Figured, plainLoad, WithoutHolds, Demand-2}
+use Rattle.responses.specs.Claims.{spent, Figured, plainLoad, WithoutEither, Demand-2}
 use Rattle.responses.proofs.Sums.{rounds-up}
 use Rattle.responses.proofs.Margins.{sub-is, not-below-zero}
 use Rattle.responses.proofs.Blocking.{blocks, no-blocking}
@@ -125,8 +125,8 @@ figured t above below ht ha = record {
     known = responses t above below ht ha
 
 -- ---- where neither a hold nor a switch counts
-pub without-holds : WithoutHolds
-without-holds t above below own none unswitched others = record {
+pub without-either : WithoutEither
+without-either t above below unswitched others own none = record {
   latest-then =
       let base : t .worst + blocking below ≡ t .worst = omega (arith, no-blocking below none) in
       without-switch t above below unswitched others .latest-then
@@ -140,7 +140,7 @@ demand-2 = record {
   figured = figured;
   by-numbers = by-numbers;
   without-switch = without-switch;
-  without-holds = without-holds;
+  without-either = without-either;
   switch-grows = switch-grows;
 }
 

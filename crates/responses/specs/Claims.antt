@@ -13,7 +13,7 @@ use Rattle.rows.specs.Rows.{cost, rowAt, withSwitch, timesInRange, allRows}
 use Rattle.rows.specs.declared.Row.{Row}
 use Rattle.responses.specs.declared.Figures.{Figures}
 use Rattle.responses.specs.Interference.{Load, load, ceiling, leastFixed, largestFixed}
-use Rattle.responses.specs.Figures.{bestLoad, worstIn, bestIn, blocking, latest, isLate}
+use Rattle.responses.specs.Figures.{worstIn, bestIn, blocking, latest, isLate}
 use Rattle.responses.specs.Figures.{mayHold, earliest, jitter}
 use Rattle.responses.specs.Figures.{margin, isStable, inLimits, figuresOf}
 
@@ -90,13 +90,16 @@ ByBlocking =
 abbrev pub switchedLoad : Row → Load
 switchedLoad r = load (r .period) (r .worst + r .switch)
 
+abbrev pub shortestLoad : Row → Load
+shortestLoad r = load (r .period) (r .best)
+
 pub record ByNumbers (t : Row) (above below : List Row) : Type 0 where
   pub latest-by :
       latest t above below ≡ leastFixed (t .worst + t .switch + blocking below) (t .period) (map switchedLoad above)
   pub earliest-by :
       earliest t above below
       ≡ pick (mayHold t) (t .best)
-      (largestFixed (t .best) (latest t above below) (map (λ r. load (r .period) (r .best)) above))
+      (largestFixed (t .best) (latest t above below) (map shortestLoad above))
 
 -- ---- where a switch costs nothing: the figures as request 2 has them
 abbrev pub plainLoad : Row → Load
@@ -106,7 +109,7 @@ pub record AsRequest2 (t : Row) (above below : List Row) : Type 0 where
   pub latest-then : latest t above below ≡ leastFixed (t .worst + blocking below) (t .period) (map plainLoad above)
   pub earliest-then :
       earliest t above below
-      ≡ pick (mayHold t) (t .best) (largestFixed (t .best) (latest t above below) (map bestLoad above))
+      ≡ pick (mayHold t) (t .best) (largestFixed (t .best) (latest t above below) (map shortestLoad above))
 
 abbrev pub NoSwitch : List Row → Type 0
 NoSwitch rows = (i : ℕ) → i < length rows → rowAt rows i .switch ≡ 0
@@ -118,17 +121,17 @@ WithoutSwitch = (t : Row) (above below : List Row) → t .switch ≡ 0 → NoSwi
 pub record AsDocument01 (t : Row) (above below : List Row) : Type 0 where
   pub latest-then : latest t above below ≡ leastFixed (t .worst) (t .period) (map plainLoad above)
   pub earliest-then :
-      earliest t above below ≡ largestFixed (t .best) (latest t above below) (map bestLoad above)
+      earliest t above below ≡ largestFixed (t .best) (latest t above below) (map shortestLoad above)
 
 -- no job of some rows may hold the processor past a tick
 abbrev pub NoneHolds : List Row → Type 0
 NoneHolds rows = (i : ℕ) → i < length rows → rowAt rows i .hold ≤ 1
 
 -- where neither a hold nor a switch counts, they are these
-abbrev pub WithoutHolds : Type 0
-WithoutHolds =
-    (t : Row) (above below : List Row) → t .hold ≤ 1 → NoneHolds below
-    → t .switch ≡ 0 → NoSwitch above → AsDocument01 t above below
+abbrev pub WithoutEither : Type 0
+WithoutEither =
+    (t : Row) (above below : List Row) → t .switch ≡ 0 → NoSwitch above
+    → t .hold ≤ 1 → NoneHolds below → AsDocument01 t above below
 
 -- ---- under a switch that is no less a late task stays late; of one that is not late there W does not fall and E is the
 -- same, and where it is stable there, it is stable here
@@ -163,7 +166,7 @@ pub record Demand-2 : Type 0 where
       → timesInRange t ≡ true → allRows timesInRange above ≡ true → Figured t above below
   pub by-numbers : (t : Row) (above below : List Row) → ByNumbers t above below
   pub without-switch : WithoutSwitch
-  pub without-holds : WithoutHolds
+  pub without-either : WithoutEither
   pub switch-grows : SwitchGrows
 
 -- ---- what a call that answers a row's figures promises

@@ -42,7 +42,7 @@ minHold = 0
 abbrev pub maxHold : ℕ
 maxHold = 1000000
 
--- the ticks that a board spends when a job first gets the processor
+-- the most ticks that a board spends when a job first gets the processor
 abbrev pub minSwitch : ℕ
 minSwitch = 0
 
@@ -121,10 +121,10 @@ rowAt table i = getD table i noRow
 
 -- the most ticks that a job takes: its worst-case execution time, and the switch to it
 abbrev pub fullCost : ℕ → ℕ → ℕ
-fullCost switch worst = worst + switch
+fullCost worst switch = worst + switch
 
 unfoldable pub cost : Row → ℕ
-cost r = fullCost (r .switch) (r .worst)
+cost r = fullCost (r .worst) (r .switch)
 
 -- each number is within its limits, cost ≤ period, best ≤ worst, and hold ≤ worst
 abbrev pub inRange : Row → Bool

@@ -82,7 +82,7 @@ impl Row {
 
     // Whether a job of so many ticks at most, with the switch to it, fits a period.
     pub fn fits(worst: u64, switch: u64, period: u64) -> bool
-        ensures { λ r. ⌜ r ≡ leb (fullCost switch worst) period ⌝ }
+        ensures { λ r. ⌜ r ≡ leb (fullCost worst switch) period ⌝ }
     {
         if period < switch {
             return false;
@@ -177,8 +177,8 @@ impl Row {
 
 // The most ticks that a job takes, with the switch to it.
 fn full_cost(worst: u64, switch: u64) -> u64
-    requires { ⌜ fullCost switch worst < 2 ^ 64 ⌝ }
-    ensures { λ r. ⌜ r ≡ fullCost switch worst ⌝ }
+    requires { ⌜ fullCost worst switch < 2 ^ 64 ⌝ }
+    ensures { λ r. ⌜ r ≡ fullCost worst switch ⌝ }
 {
     worst + switch
 }

@@ -24,7 +24,7 @@ use Rattle.rows.proofs.Limits.{append-passes, at-passes}
 use Rattle.tables.specs.TableLines.{minBoard, maxBoard}
 use Rattle.tables.specs.TableLines.{Stage, at-board, at-tasks, at-switch, at-field, at-rank, at-end}
 use Rattle.tables.specs.TableLines.{ranksStage, rowsStage, after, table}
-use Rattle.tables.specs.Claims.{Tells, Switched}
+use Rattle.tables.specs.Claims.{Tells, HeadSays}
 
 -- a row has the switch
 abbrev under : ℕ → Row → Bool
@@ -96,8 +96,8 @@ module _ (ranked : Bool) (text : List ℕ) where
   behind begin = refl
   behind (line {s = st} {here = here} key z rest r p is) = next st key z here rest (behind r) p is
 
-  pub switched : (b : ℕ) (rs : List Row) (os : List ℕ) → Tells ranked text b rs os → Switched text b rs
-  switched b rs os t =
+  pub head-says : (b : ℕ) (rs : List Row) (os : List ℕ) → Tells ranked text b rs os → HeadSays text b rs
+  head-says b rs os t =
       let (s, ((rest, head), same)) = behind (t .whole) in
       record {
         switch = s;

@@ -17,7 +17,7 @@ use Rattle.tables.specs.TableLines.{expected, table, TableRead, turnedDo
 use Rattle.tables.specs.Claims.{Accepted, Tells, Fails, Read}
 use Rattle.tables.proofs.Keys.{table-plain}
 use Rattle.tables.proofs.Soundness.{Known, sound}
-use Rattle.tables.proofs.Heads.{switched}
+use Rattle.tables.proofs.Heads.{head-says}
 
 -- ---- what is read
 pub data Ending : Stage → Type 0 where
@@ -65,7 +65,7 @@ module _ (ranked : Bool) (text : List ℕ) where
             reason = λ n z. absurd (omega (arith, ap (λ (a : TableRead). a .refused) is));
             accepts = accepts;
             refuses = refuses;
-            switched = switched ranked text;
+            head-says = head-says ranked text;
           }
 
       go : (v : Verdict Stage) → verdict ≡ v → Read ranked text
@@ -84,5 +84,5 @@ module _ (ranked : Bool) (text : List ℕ) where
                 (subst (λ (a : TableRead). Fails ranked text n (a .line)) (sym is) why);
             accepts = accepts;
             refuses = refuses;
-            switched = switched ranked text;
+            head-says = head-says ranked text;
           }

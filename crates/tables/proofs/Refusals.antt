@@ -34,7 +34,7 @@ field-small =
       (
         none,
         (
-          λ s rs vs v. small (ltb (getD vs periodAt 0) (fullCost s v)) exceeding (omega arith),
+          λ s rs vs v. small (ltb (getD vs periodAt 0) (fullCost v s)) exceeding (omega arith),
           (
             λ s rs vs v. small (ltb (getD vs worstAt 0) v) exceeding (omega arith),
             (none, (none, (λ s rs vs v. small (ltb (getD vs worstAt 0) v) exceeding (omega arith), tt))),

@@ -127,7 +127,7 @@ module _ (s : ℕ) (rs : List Row) where
                 period,
                 worst,
                 of-switch,
-                at-most worstAt periodAt (fullCost s (getD vs worstAt 0)) (omega arith) (omega arith) refl,
+                at-most worstAt periodAt (fullCost (getD vs worstAt 0) s) (omega arith) (omega arith) refl,
               );
           best-worst =
               omega (arith, worst, best, at-most bestAt worstAt (getD vs bestAt 0) (omega arith) (omega arith) refl);

@@ -31,15 +31,19 @@ Tells ranked text board rows tasks = AsWritten (table ranked) at-board text (at-
 abbrev pub Fails : Bool → List ℕ → ℕ → ℕ → Type 0
 Fails ranked text n k = Reason (table ranked) at-board text n k
 
+-- every row has the switch
+abbrev pub OneSwitch : ℕ → List Row → Type 0
+OneSwitch s rows = (i : ℕ) → i < length rows → rowAt rows i .switch ≡ s
+
 -- the text begins with the lines of the table's head, and the rows have the switch of its third line
-pub record Switched (text : List ℕ) (board : ℕ) (rows : List Row) : Type 0 where
+pub record HeadSays (text : List ℕ) (board : ℕ) (rows : List Row) : Type 0 where
   pub switch : ℕ
   pub rest : List ℕ
   pub head :
       text
       ≡ keyLine (bytes "board=") (decimal board)
       ++ (keyLine (bytes "tasks=") (decimal (length rows)) ++ (keyLine (bytes "switch=") (decimal switch) ++ rest))
-  pub in-rows : (i : ℕ) → i < length rows → rowAt rows i .switch ≡ switch
+  pub in-rows : OneSwitch switch rows
 
 -- every text is accepted as it is written, or refused for its reason
 pub record Read (ranked : Bool) (text : List ℕ) : Type 0 where
@@ -55,4 +59,4 @@ pub record Read (ranked : Bool) (text : List ℕ) : Type 0 where
   pub accepts :
       (b : ℕ) (rs : List Row) (os : List ℕ) → Tells ranked text b rs os → readTable ranked text ≡ tableOf b rs os
   pub refuses : (n k : ℕ) → Fails ranked text n k → readTable ranked text ≡ turnedDown n k
-  pub switched : (b : ℕ) (rs : List Row) (os : List ℕ) → Tells ranked text b rs os → Switched text b rs
+  pub head-says : (b : ℕ) (rs : List Row) (os : List ℕ) → Tells ranked text b rs os → HeadSays text b rs

@@ -64,7 +64,7 @@ abbrev pub rowLines : List RowLine
 rowLines =
     rowLine (bytes "task=") minTask maxTask (λ s rs vs. newTask rs)
     ∷ rowLine (bytes "period=") minTicks maxTicks (λ s rs vs. anyNumber)
-    ∷ rowLine (bytes "worst=") minTicks maxTicks (λ s rs vs v. atMost (getD vs periodAt 0) (fullCost s v))
+    ∷ rowLine (bytes "worst=") minTicks maxTicks (λ s rs vs v. atMost (getD vs periodAt 0) (fullCost v s))
     ∷ rowLine (bytes "best=") minTicks maxTicks (λ s rs vs. atMost (getD vs worstAt 0))
     ∷ rowLine (bytes "alpha=") minAlpha maxAlpha (λ s rs vs. anyNumber)
     ∷ rowLine (bytes "beta=") minBeta maxBeta (λ s rs vs. anyNumber)
@@ -76,8 +76,8 @@ abbrev pub rowLineAt : ℕ → RowLine
 rowLineAt i = getD rowLines i (rowLine [] 0 0 (λ s rs vs. anyNumber))
 
 -- ---- what has been read
--- the tasks that are to come; the rows so far and how many are left after the one that is being read, with its numbers
--- so far; the ranks so far and how many are left after the next
+-- the tasks that are to come; the switch, the rows so far and how many are left after the one that is being read, with
+-- its numbers so far; the ranks so far and how many are left after the next
 pub data Stage : Type 0 where
   at-board : Stage
   at-tasks : (board : ℕ) → Stage

@@ -18,7 +18,7 @@ pub const HEAD: usize = 3;
 
 pub const BOARD: usize = 0;
 
-pub const BOARD_SWITCH: usize = 2;
+pub const HEAD_SWITCH: usize = 2;
 
 // Room for the numbers of the longest table with its ranks.
 pub const MOST_NUMBERS: usize = HEAD + FIELDS * MAX_TASKS + MAX_TASKS;

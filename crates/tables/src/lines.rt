@@ -7,8 +7,8 @@ ghost use Rattle.rows.specs.Rows.{maxTasks, switchAt, fullCost};
 ghost use Rattle.tables.specs.TableLines.{atMost, newTask, newRank};
 ghost use Rattle.tables.specs.inside.Numbers.{rowStart, rowsIn, behind};
 ghost use Rattle.tables.specs.inside.Stands.{rowLineTested, lineHere, faultIn, Stands};
-use super::BOARD_SWITCH;
 use super::HEAD;
+use super::HEAD_SWITCH;
 use super::progress::Part;
 use super::progress::Stand;
 use rows::ALPHA;
@@ -58,7 +58,7 @@ fn at_most(limit: u64, answer: Line, line: u32) -> Line
 
 // A worst time that does not fit its period with the switch is refused.
 fn fits_period(period: u64, switch: u64, answer: Line, line: u32) -> Line
-    ensures { λ r. ⌜ r ≡ tested (λ v. atMost period (fullCost switch v)) answer line ⌝ }
+    ensures { λ r. ⌜ r ≡ tested (λ v. atMost period (fullCost v switch)) answer line ⌝ }
 {
     let Line::Number(value, _) = answer else {
         return answer;
@@ -123,7 +123,7 @@ fn row_line(
         PERIOD => line_at(text, at, line, b"period=", Row::TICKS_MIN, Row::TICKS_MAX),
         WORST => {
             let answer = line_at(text, at, line, b"worst=", Row::TICKS_MIN, Row::TICKS_MAX);
-            fits_period(numbers[start + PERIOD], numbers[BOARD_SWITCH], answer, line)
+            fits_period(numbers[start + PERIOD], numbers[HEAD_SWITCH], answer, line)
         }
         BEST => {
             let answer = line_at(text, at, line, b"best=", Row::TICKS_MIN, Row::TICKS_MAX);

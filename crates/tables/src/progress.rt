@@ -5,7 +5,7 @@ ghost use Rattle.basics.specs.Basics.{pick};
 ghost use Rattle.rows.specs.Rows.{maxTasks, switchAt};
 ghost use Rattle.tables.specs.inside.Stands.{begun, ranksNext, rowsNext, afterField, standAfter, Counted};
 ghost use Rattle.tables.specs.inside.Stands.{PutAt, withNumber, endedBy, Stands, TakesLine};
-use super::BOARD_SWITCH;
+use super::HEAD_SWITCH;
 use super::lines::expected_line;
 use rows::SWITCH;
 use text::Line;
@@ -163,7 +163,7 @@ fn put_number(numbers: &mut [u64], at: usize, value: u64, whole: bool)
 {
     numbers[at] = value;
     if whole {
-        numbers[at + 1] = numbers[BOARD_SWITCH];
+        numbers[at + 1] = numbers[HEAD_SWITCH];
     }
 }
 

@@ -12,21 +12,21 @@ use Rattle.tables.proofs.lines.fits_period.Tie as tie
 returns : tie.Need-returns
 returns c =
     let a = c .before .args in
-    untested (λ v. atMost (a .period) (fullCost (a .switch) v)) (a .answer) (a .line) (c .match .keys2)
+    untested (λ v. atMost (a .period) (fullCost v (a .switch))) (a .answer) (a .line) (c .match .keys2)
 
 returns-2 : tie.Need-returns-2
 returns-2 c =
     let a = c .before .before .before .before .before .args in
     let d = c .before .before .before .answer .given in
-    let fits = leb-true (fullCost (a .switch) (d .0 .0)) (a .period) (sym (c .before .fits2 .ensures) ∙ c .if1 .taken) in
-    rw (d .1, le-ltb (a .period) (fullCost (a .switch) (d .0 .0)) fits)
+    let fits = leb-true (fullCost (d .0 .0) (a .switch)) (a .period) (sym (c .before .fits2 .ensures) ∙ c .if1 .taken) in
+    rw (d .1, le-ltb (a .period) (fullCost (d .0 .0) (a .switch)) fits)
 
 returns-3 : tie.Need-returns-3
 returns-3 c =
     let a = c .before .before .before .before .before .args in
     let d = c .before .before .before .answer .given in
-    let past = leb-false (fullCost (a .switch) (d .0 .0)) (a .period) (sym (c .before .fits2 .ensures) ∙ c .if1 .left) in
-    rw (d .1, lt-ltb (a .period) (fullCost (a .switch) (d .0 .0)) past)
+    let past = leb-false (fullCost (d .0 .0) (a .switch)) (a .period) (sym (c .before .fits2 .ensures) ∙ c .if1 .left) in
+    rw (d .1, lt-ltb (a .period) (fullCost (d .0 .0) (a .switch)) past)
 
 pub fits-period-spec : {M : Type 1} → statement M
 fits-period-spec = tie.close (tie.spec (λ c. search needs) returns (λ c κs. search needs) returns-2 returns-3)

@@ -46,7 +46,7 @@ returns-3 c =
     let line = fieldLine worstAt (a .text .now) (a .at) (a .line) in
     rw (m .match .keys3)
     ((rw (c .before .before .before .line-at3 .ensures) at (c .fits-period .ensures))
-    ∙ ap (λ x. tested (λ v. atMost x (fullCost (switchIn ns) v)) line (a .line)) (sym limit))
+    ∙ ap (λ x. tested (λ v. atMost x (fullCost v (switchIn ns))) line (a .line)) (sym limit))
 
 returns-4 : tie.Need-returns-4
 returns-4 c =
