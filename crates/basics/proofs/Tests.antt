@@ -1,5 +1,5 @@
 -- A test is true or false, joined tests are taken apart and put together, and a range's test gives its two bounds.
-use mathlib.Core.Path.{_≡_, refl, sym}
+use mathlib.Core.Path.{_≡_, refl, sym, _∙_}
 use mathlib.Core.Bool.{Bool, true, false, _&&_, _||_, not}
 use mathlib.Core.List.{List, [], _∷_, _++_}
 use mathlib.Core.Logic.{_⊎_, inl, inr}
@@ -89,3 +89,13 @@ distinct-last (y ∷ xs) x e h =
     let o = or-neither (eqb x y) (isIn x xs) h in
     rw (in-append y xs (x ∷ []), new, eqb-swap x y (o .0))
     (distinct-last xs x (and-right (not (isIn y xs)) (distinct xs) e) (o .1))
+
+-- among different numbers, one is none of those before it
+pub distinct-before : (xs : List ℕ) (x : ℕ) (ys : List ℕ) → distinct (xs ++ (x ∷ ys)) ≡ true → isIn x xs ≡ false
+distinct-before [] x ys h = refl
+distinct-before (y ∷ xs) x ys h =
+    let all = xs ++ (x ∷ ys) in
+    let other = not-true (isIn y all) (and-left (not (isIn y all)) (distinct all) h) in
+    let behind = or-neither (isIn y xs) (isIn y (x ∷ ys)) (sym (in-append y xs (x ∷ ys)) ∙ other) .1 in
+    rw (eqb-swap y x (or-neither (eqb y x) (isIn y ys) behind .0))
+    (distinct-before xs x ys (and-right (not (isIn y all)) (distinct all) h))

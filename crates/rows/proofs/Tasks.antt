@@ -9,10 +9,10 @@ use lib.Dec.{eqb}
 use lib.ListN.{length, getD, take, drop, length-map}
 use lib.Seq.{length-take-le, take-append-seam}
 use borrow.Author.Tests.{eqb-true}
-use Rattle.basics.proofs.Tests.{never, and-left, and-right, and-both, or-cases}
+use Rattle.basics.proofs.Tests.{never, and-left, and-right, and-both, or-cases, Within}
 use Rattle.rows.specs.declared.Row.{Row}
-use Rattle.rows.specs.Rows.{maxTask, noRow, inRange, allRows, tasksOf, hasTask, positionOf, rowFor, rowsFor}
-use Rattle.rows.specs.Rows.{rowAt, allTasks}
+use Rattle.rows.specs.Rows.{minTask, maxTask, noRow, inRange, allRows, tasksOf, hasTask, positionOf}
+use Rattle.rows.specs.Rows.{rowFor, rowsFor, rowAt, allTasks}
 use Rattle.rows.specs.inside.Numbers.{rowsAt, positionsFor, Below, TaskNumbers}
 use Rattle.rows.proofs.Limits.{limits, head-passes, tail-passes, at-passes}
 
@@ -33,18 +33,17 @@ all-tasks-last (x ∷ ts) t rs e h =
     (all-tasks-last ts t rs (and-right (hasTask x rs) (allTasks ts rs) e) h)
 
 -- those of rows in range are task numbers
-has-small : (t : ℕ) (rs : List Row) → hasTask t rs ≡ true → allRows inRange rs ≡ true → t ≤ maxTask
-has-small t [] h ok = never h
-has-small t (r ∷ rs) h ok =
+pub has-within : (t : ℕ) (rs : List Row) → hasTask t rs ≡ true → allRows inRange rs ≡ true → Within minTask maxTask t
+has-within t [] h ok = never h
+has-within t (r ∷ rs) h ok =
     elim (or-cases (eqb t (r .task)) (hasTask t rs) h) [
-      | inl e ↦
-          omega (arith, eqb-true t (r .task) e, limits r (head-passes inRange r rs ok) .task .le-high)
-      | inr e ↦ has-small t rs e (tail-passes inRange r rs ok)
+      | inl e ↦ rw (eqb-true t (r .task) e) (limits r (head-passes inRange r rs ok) .task)
+      | inr e ↦ has-within t rs e (tail-passes inRange r rs ok)
     ]
 
 pub all-small : (ts : List ℕ) (rs : List Row) → allTasks ts rs ≡ true → allRows inRange rs ≡ true → TaskNumbers ts
 all-small [] rs h ok i l = absurd (omega arith)
-all-small (t ∷ ts) rs h ok zero l = has-small t rs (and-left (hasTask t rs) (allTasks ts rs) h) ok
+all-small (t ∷ ts) rs h ok zero l = has-within t rs (and-left (hasTask t rs) (allTasks ts rs) h) ok .le-high
 all-small (t ∷ ts) rs h ok (suc i) l =
     all-small ts rs (and-right (hasTask t rs) (allTasks ts rs) h) ok i (omega arith)
 

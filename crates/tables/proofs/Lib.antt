@@ -3,6 +3,7 @@ pub mod RowLines
 pub mod Keys
 pub mod Soundness
 pub mod Heads
+pub mod ReadBack
 pub mod Readings
 pub mod Refusals
 pub mod LineNumbers

@@ -18,6 +18,7 @@ use Rattle.tables.specs.Claims.{Accepted, Tells, Fails, Read}
 use Rattle.tables.proofs.Keys.{table-plain}
 use Rattle.tables.proofs.Soundness.{Known, sound}
 use Rattle.tables.proofs.Heads.{head-says}
+use Rattle.tables.proofs.ReadBack.{reads-back}
 
 -- ---- what is read
 pub data Ending : Stage → Type 0 where
@@ -66,6 +67,7 @@ module _ (ranked : Bool) (text : List ℕ) where
             accepts = accepts;
             refuses = refuses;
             head-says = head-says ranked text;
+            reads-back = reads-back ranked;
           }
 
       go : (v : Verdict Stage) → verdict ≡ v → Read ranked text
@@ -85,4 +87,5 @@ module _ (ranked : Bool) (text : List ℕ) where
             accepts = accepts;
             refuses = refuses;
             head-says = head-says ranked text;
+            reads-back = reads-back ranked;
           }

@@ -2,8 +2,9 @@
 -- and a refusal has its reason.
 use mathlib.Core.Path.{_≡_}
 use mathlib.Core.Bool.{Bool, true, false}
-use mathlib.Core.List.{List, [], _++_}
+use mathlib.Core.List.{List, [], _∷_, _++_}
 use Prim.Native.Nat.{ℕ, suc, _≤_, _<_}
+use Prim.Native.String.{String}
 use lib.ListN.{length}
 use Rattle.text.specs.Text.{bytes, decimal, keyLine}
 use Rattle.grammars.specs.Claims.{AsWritten, Reason}
@@ -31,6 +32,28 @@ Tells ranked text board rows tasks = AsWritten (table ranked) at-board text (at-
 abbrev pub Fails : Bool → List ℕ → ℕ → ℕ → Type 0
 Fails ranked text n k = Reason (table ranked) at-board text n k
 
+-- ---- a table's own text
+-- a line before what follows it; the lines of a row, of some rows, of some ranks, and of a table
+abbrev pub line : String → ℕ → List ℕ → List ℕ
+line key v rest = keyLine (bytes key) (decimal v) ++ rest
+
+abbrev pub rowText : Row → List ℕ → List ℕ
+rowText r rest =
+    line "task=" (r .task) (line "period=" (r .period) (line "worst=" (r .worst) (line "best=" (r .best)
+    (line "alpha=" (r .alpha) (line "beta=" (r .beta) (line "hold=" (r .hold) rest))))))
+
+abbrev pub rowsText : List Row → List ℕ → List ℕ
+rowsText [] rest = rest
+rowsText (r ∷ rs) rest = rowText r (rowsText rs rest)
+
+abbrev pub ranksText : List ℕ → List ℕ
+ranksText [] = []
+ranksText (t ∷ ts) = line "rank=" t (ranksText ts)
+
+abbrev pub tableText : ℕ → ℕ → List Row → List ℕ → List ℕ
+tableText board switch rows tasks =
+    line "board=" board (line "tasks=" (length rows) (line "switch=" switch (rowsText rows (ranksText tasks))))
+
 -- every row has the switch
 abbrev pub OneSwitch : ℕ → List Row → Type 0
 OneSwitch s rows = (i : ℕ) → i < length rows → rowAt rows i .switch ≡ s
@@ -39,11 +62,14 @@ OneSwitch s rows = (i : ℕ) → i < length rows → rowAt rows i .switch ≡ s
 pub record HeadSays (text : List ℕ) (board : ℕ) (rows : List Row) : Type 0 where
   pub switch : ℕ
   pub rest : List ℕ
-  pub head :
-      text
-      ≡ keyLine (bytes "board=") (decimal board)
-      ++ (keyLine (bytes "tasks=") (decimal (length rows)) ++ (keyLine (bytes "switch=") (decimal switch) ++ rest))
+  pub head : text ≡ line "board=" board (line "tasks=" (length rows) (line "switch=" switch rest))
   pub in-rows : OneSwitch switch rows
+
+-- a table in its limits whose rows have one switch is read from its own text
+abbrev pub ReadsBack : Bool → Type 0
+ReadsBack ranked =
+    (b s : ℕ) (rs : List Row) (os : List ℕ) → Accepted ranked (tableOf b rs os) → OneSwitch s rs
+    → readTable ranked (tableText b s rs os) ≡ tableOf b rs os
 
 -- every text is accepted as it is written, or refused for its reason
 pub record Read (ranked : Bool) (text : List ℕ) : Type 0 where
@@ -60,3 +86,5 @@ pub record Read (ranked : Bool) (text : List ℕ) : Type 0 where
       (b : ℕ) (rs : List Row) (os : List ℕ) → Tells ranked text b rs os → readTable ranked text ≡ tableOf b rs os
   pub refuses : (n k : ℕ) → Fails ranked text n k → readTable ranked text ≡ turnedDown n k
   pub head-says : (b : ℕ) (rs : List Row) (os : List ℕ) → Tells ranked text b rs os → HeadSays text b rs
+  -- what is written is read
+  pub reads-back : ReadsBack ranked
