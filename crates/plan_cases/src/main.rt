@@ -276,6 +276,13 @@ fn switch_cases() {
         b"plan=1\nboard=7\ntasks=1\nrank=1\ntask=5\nbest=7\nworst=10\njitter=3\nmargin=0\n",
         71,
     );
+    plans(
+        b"the document's rows under a switch of 1, reviewed",
+        true,
+        b"board=7\ntasks=3\nswitch=1\ntask=11\nperiod=24\nworst=6\nbest=6\nalpha=1000\nbeta=8000\nhold=0\ntask=12\nperiod=18\nworst=2\nbest=2\nalpha=1000\nbeta=8000\nhold=0\ntask=13\nperiod=200\nworst=19\nbest=17\nalpha=3000\nbeta=57000\nhold=0\nrank=12\nrank=11\nrank=13\n",
+        b"plan=1\nboard=7\ntasks=3\nrank=1\ntask=12\nbest=2\nworst=3\njitter=1\nmargin=5000\nrank=2\ntask=11\nbest=6\nworst=10\njitter=4\nmargin=-2000\nrank=3\ntask=13\nbest=25\nworst=43\njitter=18\nmargin=-22000\n",
+        183,
+    );
     refuses(
         b"worst + switch = period + 1",
         false,
