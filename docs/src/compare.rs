@@ -35,8 +35,10 @@ const MOST_SQUEEZES: u64 = 3;
 /// A table with hundreds of jobs of one task in the time of another's has so many tasks at most.
 const MOST_CROWDED: usize = 5;
 
-const USAGE: &str = "usage: compare [--texts N] [--tables N] [--boards N] [--cranes N] [--seed S]
-         20000 texts, 1200 tables, 100 boards, 4000 cranes and seed 1 where nothing else is said
+const USAGE: &str = "usage: compare [--texts N] [--tables N] [--boards N] [--cranes N] [--crowded N]
+               [--seed S]
+         20000 texts, 1200 tables, 100 boards, 4000 cranes, 200 crowded tables and seed 1 where
+         nothing else is said
        compare --says plan|review|crane    print what the model says to standard input";
 
 /// A line ten times in a run, so that a long one is seen to go on.
@@ -197,13 +199,21 @@ struct Options {
     tables: u64,
     boards: u64,
     cranes: u64,
+    crowded: u64,
     seed: u64,
     says: Option<Call>,
 }
 
 fn options() -> Option<Options> {
-    let mut options =
-        Options { texts: 20_000, tables: 1_200, boards: 100, cranes: 4_000, seed: 1, says: None };
+    let mut options = Options {
+        texts: 20_000,
+        tables: 1_200,
+        boards: 100,
+        cranes: 4_000,
+        crowded: 200,
+        seed: 1,
+        says: None,
+    };
     let mut words = std::env::args().skip(1);
     while let Some(word) = words.next() {
         let value = words.next()?;
@@ -212,6 +222,7 @@ fn options() -> Option<Options> {
             ("--tables", count) => options.tables = count.parse().ok()?,
             ("--boards", count) => options.boards = count.parse().ok()?,
             ("--cranes", count) => options.cranes = count.parse().ok()?,
+            ("--crowded", count) => options.crowded = count.parse().ok()?,
             ("--seed", seed) => options.seed = seed.parse().ok()?,
             ("--says", "plan") => options.says = Some(Call::Plan),
             ("--says", "review") => options.says = Some(Call::Review),
@@ -234,7 +245,7 @@ fn run_all(options: &Options) -> Result<(), String> {
     run_tables(&mut Dice::new(options.seed ^ 1 << 32), options.tables)?;
     board_runs::run(&mut Dice::new(options.seed ^ 2 << 32), options.boards)?;
     crane_runs::run(&mut Dice::new(options.seed ^ 3 << 32), options.cranes)?;
-    run_crowded(&mut Dice::new(options.seed ^ 4 << 32), options.tables / 10)
+    run_crowded(&mut Dice::new(options.seed ^ 4 << 32), options.crowded)
 }
 
 fn main() -> ExitCode {
