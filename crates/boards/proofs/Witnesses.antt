@@ -52,18 +52,28 @@ under s [] i l = absurd (omega arith)
 under s (r ∷ rs) zero l = refl
 under s (r ∷ rs) (suc i) l = under s rs i (omega arith)
 
--- the lowest rank's jobs last from 17 to 19 ticks, whatever its hold
-between : (hold n : ℕ) → 17 ≤ n → n ≤ 19 → LastsInRange (withHolds 0 hold) (lasting (2 ∷ 6 ∷ n ∷ []))
-unfolding cost
-between hold n low high i k l =
-    each (λ i. (rowAt order i .best ≤ ticks i) × (ticks i ≤ cost (rowAt order i)))
-    (omega arith, omega arith) (omega arith, omega arith) (low, high) i l
+-- jobs of the example's ranks under a switch, whatever the lowest rank's hold
+lasts-under : (s hold a b c : ℕ) → (2 ≤ a) × (a ≤ 2 + s) → (6 ≤ b) × (b ≤ 6 + s) → (17 ≤ c) × (c ≤ 19 + s)
+    → LastsInRange (switched s (withHolds 0 hold)) (lasting (a ∷ b ∷ c ∷ []))
+lasts-under s hold a b c first second third = lasts-by order need
+    (λ i k l. each (λ i. (rowAt order i .best ≤ need i k) × (need i k ≤ rowAt order i .worst + rowAt order i .switch))
+    first second third i l)
   where
     order : List Row
-    order = withHolds 0 hold
+    order = switched s (withHolds 0 hold)
 
-    ticks : ℕ → ℕ
-    ticks i = lasting (2 ∷ 6 ∷ n ∷ []) i k
+    need : ℕ → ℕ → ℕ
+    need = lasting (a ∷ b ∷ c ∷ [])
+
+-- the longest, and the shortest
+longest-under : (s hold : ℕ) → LastsInRange (switched s (withHolds 0 hold)) (lasting ((2 + s) ∷ (6 + s) ∷ (19 + s) ∷ []))
+longest-under s hold =
+    lasts-under s hold (2 + s) (6 + s) (19 + s) (omega arith, omega arith) (omega arith, omega arith)
+    (omega arith, omega arith)
+
+shortest-under : (s hold : ℕ) → LastsInRange (switched s (withHolds 0 hold)) (lasting (2 ∷ 6 ∷ 17 ∷ []))
+shortest-under s hold =
+    lasts-under s hold 2 6 17 (omega arith, omega arith) (omega arith, omega arith) (omega arith, omega arith)
 
 idle : (i k : ℕ) → i < length exampleOrder
     → boardGoesTo exampleOrder atOnce (lasting (2 ∷ 6 ∷ 17 ∷ [])) never i k 226 ≡ true → ⊥
@@ -95,12 +105,12 @@ holds-count = record {
   none-late = in-time-held;
   latest-is = refl;
   latest-without = refl;
-  lasts-latest = between 5 19 (omega arith) (omega arith);
+  lasts-latest = longest-under 0 5;
   latest-reached = refl;
   earliest-is = refl;
   earliest-by-equation = refl;
   held-early = λ j l. omega arith;
-  lasts-earliest = between 5 17 (omega arith) (omega arith);
+  lasts-earliest = shortest-under 0 5;
   earliest-reached = refl;
   not-kept = refl;
   not-kept-yet = refl;
@@ -111,42 +121,20 @@ holds-count = record {
 }
 
 -- ---- under a switch
-in-time-switched : NoneLate switchedOrder
-unfolding smallest cost blocking
-in-time-switched = each (InTime switchedOrder) refl refl refl
-
-in-time-switched-held : NoneLate (switched 1 heldOrder)
-unfolding smallest cost blocking
-in-time-switched-held = each (InTime (switched 1 heldOrder)) refl refl refl
-
--- the longest jobs under it, whatever the lowest rank's hold
-longest-under : (hold : ℕ) → LastsInRange (switched 1 (withHolds 0 hold)) (lasting (3 ∷ 7 ∷ 20 ∷ []))
-longest-under hold = lasts-by (switched 1 (withHolds 0 hold)) (lasting (3 ∷ 7 ∷ 20 ∷ []))
-    (λ i k l. each (λ i. let r = rowAt (switched 1 (withHolds 0 hold)) i in
-    (r .best ≤ lasting (3 ∷ 7 ∷ 20 ∷ []) i k) × (lasting (3 ∷ 7 ∷ 20 ∷ []) i k ≤ r .worst + r .switch))
-    (omega arith, omega arith) (omega arith, omega arith) (omega arith, omega arith) i l)
-
--- and the shortest
-shortest-under : LastsInRange switchedOrder (lasting (2 ∷ 6 ∷ 17 ∷ []))
-shortest-under = lasts-by switchedOrder (lasting (2 ∷ 6 ∷ 17 ∷ []))
-    (λ i k l. each (λ i. let r = rowAt switchedOrder i in
-    (r .best ≤ lasting (2 ∷ 6 ∷ 17 ∷ []) i k) × (lasting (2 ∷ 6 ∷ 17 ∷ []) i k ≤ r .worst + r .switch))
-    (omega arith, omega arith) (omega arith, omega arith) (omega arith, omega arith) i l)
-
 pub switch-counts : SwitchCounts
 unfolding smallest largest cost blocking
 switch-counts = record {
-  none-late = in-time-switched;
+  none-late = each (InTime switchedOrder) refl refl refl;
   latest-is = refl;
   latest-without = refl;
-  lasts-latest = longest-under 0;
+  lasts-latest = longest-under 1 0;
   latest-reached = refl;
   earliest-is = refl;
   held-early = λ j l. omega arith;
-  lasts-earliest = shortest-under;
+  lasts-earliest = shortest-under 1 0;
   earliest-reached = refl;
-  held-none-late = in-time-switched-held;
-  held-lasts = longest-under 5;
+  held-none-late = each (InTime (switched 1 heldOrder)) refl refl refl;
+  held-lasts = longest-under 1 5;
   held-latest = refl;
   held-reached = refl;
 }

@@ -73,7 +73,7 @@ mostText =
     lined ("board=7" ∷ []) ++ keyLine (bytes "tasks=") (decimal maxTasks) ++ lined ("switch=0" ∷ [])
     ++ tenthLines maxTasks
 
--- its rows with greater betas, as a table under a switch and in the sequence of its order
+-- the example's rows with greater betas: as a table under a switch, in its sequence, and in that of its order
 abbrev pub switchedText : List ℕ
 switchedText = tableUnder "switch=1" "beta=10000" "beta=10000" "beta=79000"
 

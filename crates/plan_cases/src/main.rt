@@ -52,6 +52,59 @@ jitter=10
 margin=2000
 ";
 
+// Its rows under a switch of 1, with an order, and what the reviewer has to say of it.
+const SWITCHED: [u8; 236] = *b"board=7
+tasks=3
+switch=1
+task=11
+period=24
+worst=6
+best=6
+alpha=1000
+beta=8000
+hold=0
+task=12
+period=18
+worst=2
+best=2
+alpha=1000
+beta=8000
+hold=0
+task=13
+period=200
+worst=19
+best=17
+alpha=3000
+beta=57000
+hold=0
+rank=12
+rank=11
+rank=13
+";
+
+const SWITCHED_PLAN: [u8; 183] = *b"plan=1
+board=7
+tasks=3
+rank=1
+task=12
+best=2
+worst=3
+jitter=1
+margin=5000
+rank=2
+task=11
+best=6
+worst=10
+jitter=4
+margin=-2000
+rank=3
+task=13
+best=25
+worst=43
+jitter=18
+margin=-22000
+";
+
 fn print_verdict(expected: Answer, same: bool) {
     if expected.number == 0 {
         io::write_all(1, b": the plan, ");
@@ -279,8 +332,8 @@ fn switch_cases() {
     plans(
         b"the document's rows under a switch of 1, reviewed",
         true,
-        b"board=7\ntasks=3\nswitch=1\ntask=11\nperiod=24\nworst=6\nbest=6\nalpha=1000\nbeta=8000\nhold=0\ntask=12\nperiod=18\nworst=2\nbest=2\nalpha=1000\nbeta=8000\nhold=0\ntask=13\nperiod=200\nworst=19\nbest=17\nalpha=3000\nbeta=57000\nhold=0\nrank=12\nrank=11\nrank=13\n",
-        b"plan=1\nboard=7\ntasks=3\nrank=1\ntask=12\nbest=2\nworst=3\njitter=1\nmargin=5000\nrank=2\ntask=11\nbest=6\nworst=10\njitter=4\nmargin=-2000\nrank=3\ntask=13\nbest=25\nworst=43\njitter=18\nmargin=-22000\n",
+        &SWITCHED,
+        &SWITCHED_PLAN,
         183,
     );
     refuses(

@@ -9,7 +9,7 @@ use Prim.Native.Nat.{ℕ, _+_, _*_, _≤_, _<_}
 use lib.ListN.{length}
 use lib.IntN.{pos, _-ℤ_}
 use Rattle.basics.specs.Basics.{pick}
-use Rattle.rows.specs.Rows.{cost, rowAt, withSwitch, timesInRange, allRows}
+use Rattle.rows.specs.Rows.{cost, rowAt, withSwitch, OneSwitch, timesInRange, allRows}
 use Rattle.rows.specs.declared.Row.{Row}
 use Rattle.responses.specs.declared.Figures.{Figures}
 use Rattle.responses.specs.Interference.{Load, load, ceiling, leastFixed, largestFixed}
@@ -112,7 +112,7 @@ pub record AsRequest2 (t : Row) (above below : List Row) : Type 0 where
       ≡ pick (mayHold t) (t .best) (largestFixed (t .best) (latest t above below) (map shortestLoad above))
 
 abbrev pub NoSwitch : List Row → Type 0
-NoSwitch rows = (i : ℕ) → i < length rows → rowAt rows i .switch ≡ 0
+NoSwitch rows = OneSwitch 0 rows
 
 abbrev pub WithoutSwitch : Type 0
 WithoutSwitch = (t : Row) (above below : List Row) → t .switch ≡ 0 → NoSwitch above → AsRequest2 t above below

@@ -1,7 +1,8 @@
 -- A task's row: the limits of its numbers, each once and by name, and rows in range.
+use mathlib.Core.Path.{_≡_}
 use mathlib.Core.Bool.{Bool, true, false, _&&_}
 use mathlib.Core.List.{List, [], _∷_}
-use Prim.Native.Nat.{ℕ, suc, _+_}
+use Prim.Native.Nat.{ℕ, suc, _+_, _<_}
 use lib.Dec.{eqb, leb}
 use lib.ListN.{length, getD}
 use Rattle.basics.specs.Basics.{within, isIn, distinct}
@@ -118,6 +119,10 @@ withSwitch s r = row (r .task) (r .period) (r .worst) (r .best) (r .alpha) (r .b
 -- row i of a table
 abbrev pub rowAt : List Row → ℕ → Row
 rowAt table i = getD table i noRow
+
+-- every row has the switch
+abbrev pub OneSwitch : ℕ → List Row → Type 0
+OneSwitch s rows = (i : ℕ) → i < length rows → rowAt rows i .switch ≡ s
 
 -- the most ticks that a job takes: its worst-case execution time, and the switch to it
 abbrev pub fullCost : ℕ → ℕ → ℕ

@@ -18,7 +18,7 @@ use Rattle.grammars.specs.Grammars.{a-line}
 use Rattle.grammars.specs.Claims.{Writes, done, then}
 use Rattle.grammars.proofs.Naturals.{in-range-passes}
 use Rattle.grammars.proofs.RoundTrip as RoundTrip
-use Rattle.rows.specs.Rows.{minSwitch, maxSwitch, fullCost, cost, withSwitch, rowAt, inRange, allRows}
+use Rattle.rows.specs.Rows.{minSwitch, maxSwitch, fullCost, cost, withSwitch, rowAt, OneSwitch, inRange, allRows}
 use Rattle.rows.specs.Rows.{tasksOf, hasTask, allTasks}
 use Rattle.rows.specs.declared.Row.{Row}
 use Rattle.rows.proofs.Limits.{Limits, limits, head-passes, tail-passes, at-passes}
@@ -26,7 +26,7 @@ use Rattle.rows.proofs.Tasks.{tasks-last, has-within}
 use Rattle.tables.specs.TableLines.{exceeding, repeated, atMost, newRank}
 use Rattle.tables.specs.TableLines.{Stage, at-board, at-field, at-end, ranksStage, rowsStage}
 use Rattle.tables.specs.TableLines.{expected, fault, after, table, tableOf, onVerdict, readTable}
-use Rattle.tables.specs.Claims.{Accepted, OneSwitch, rowText, rowsText, ranksText, tableText, ReadsBack}
+use Rattle.tables.specs.Claims.{Accepted, rowText, rowsText, ranksText, tableText, ReadsBack}
 use Rattle.tables.proofs.Keys.{table-plain}
 
 allowed : (limit v : ℕ) → v ≤ limit → atMost limit v ≡ 0

@@ -3,12 +3,12 @@
 use mathlib.Core.Path.{_≡_}
 use mathlib.Core.Bool.{Bool, true, false}
 use mathlib.Core.List.{List, [], _∷_, _++_}
-use Prim.Native.Nat.{ℕ, suc, _≤_, _<_}
+use Prim.Native.Nat.{ℕ, suc, _≤_}
 use Prim.Native.String.{String}
 use lib.ListN.{length}
 use Rattle.text.specs.Text.{bytes, decimal, keyLine}
 use Rattle.grammars.specs.Claims.{AsWritten, Reason}
-use Rattle.rows.specs.Rows.{minTasks, maxTasks, switchAt, rowAt, inRange, allRows, distinctRows, isPossible}
+use Rattle.rows.specs.Rows.{minTasks, maxTasks, switchAt, OneSwitch, inRange, allRows, distinctRows, isPossible}
 use Rattle.rows.specs.declared.Row.{Row}
 use Rattle.tables.specs.TableLines.{minBoard, maxBoard, rowLines, at-board, at-end, table}
 use Rattle.tables.specs.TableLines.{TableRead, tableOf, turnedDown, readTable}
@@ -34,13 +34,13 @@ Fails ranked text n k = Reason (table ranked) at-board text n k
 
 -- ---- a table's own text
 -- a line before what follows it; the lines of a row, of some rows, of some ranks, and of a table
-abbrev pub line : String → ℕ → List ℕ → List ℕ
-line key v rest = keyLine (bytes key) (decimal v) ++ rest
+abbrev pub lineOf : String → ℕ → List ℕ → List ℕ
+lineOf key v rest = keyLine (bytes key) (decimal v) ++ rest
 
 abbrev pub rowText : Row → List ℕ → List ℕ
 rowText r rest =
-    line "task=" (r .task) (line "period=" (r .period) (line "worst=" (r .worst) (line "best=" (r .best)
-    (line "alpha=" (r .alpha) (line "beta=" (r .beta) (line "hold=" (r .hold) rest))))))
+    lineOf "task=" (r .task) (lineOf "period=" (r .period) (lineOf "worst=" (r .worst)
+    (lineOf "best=" (r .best) (lineOf "alpha=" (r .alpha) (lineOf "beta=" (r .beta) (lineOf "hold=" (r .hold) rest))))))
 
 abbrev pub rowsText : List Row → List ℕ → List ℕ
 rowsText [] rest = rest
@@ -48,21 +48,17 @@ rowsText (r ∷ rs) rest = rowText r (rowsText rs rest)
 
 abbrev pub ranksText : List ℕ → List ℕ
 ranksText [] = []
-ranksText (t ∷ ts) = line "rank=" t (ranksText ts)
+ranksText (t ∷ ts) = lineOf "rank=" t (ranksText ts)
 
 abbrev pub tableText : ℕ → ℕ → List Row → List ℕ → List ℕ
 tableText board switch rows tasks =
-    line "board=" board (line "tasks=" (length rows) (line "switch=" switch (rowsText rows (ranksText tasks))))
-
--- every row has the switch
-abbrev pub OneSwitch : ℕ → List Row → Type 0
-OneSwitch s rows = (i : ℕ) → i < length rows → rowAt rows i .switch ≡ s
+    lineOf "board=" board (lineOf "tasks=" (length rows) (lineOf "switch=" switch (rowsText rows (ranksText tasks))))
 
 -- the text begins with the lines of the table's head, and the rows have the switch of its third line
 pub record HeadSays (text : List ℕ) (board : ℕ) (rows : List Row) : Type 0 where
   pub switch : ℕ
   pub rest : List ℕ
-  pub head : text ≡ line "board=" board (line "tasks=" (length rows) (line "switch=" switch rest))
+  pub head : text ≡ lineOf "board=" board (lineOf "tasks=" (length rows) (lineOf "switch=" switch rest))
   pub in-rows : OneSwitch switch rows
 
 -- a table in its limits whose rows have one switch is read from its own text
