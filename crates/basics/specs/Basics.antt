@@ -1,7 +1,7 @@
--- Choices by a test, the larger of two numbers, ranges, and lists of numbers.
+-- Choices by a test, the larger of two numbers, sums, ranges, and lists of numbers.
 use mathlib.Core.Bool.{Bool, true, false, _&&_, _||_, not}
 use mathlib.Core.List.{List, [], _∷_}
-use Prim.Native.Nat.{ℕ}
+use Prim.Native.Nat.{ℕ, zero, suc, _+_}
 use lib.Dec.{eqb, leb}
 
 abbrev pub pick : {A : Type 0} → Bool → A → A → A
@@ -10,6 +10,11 @@ pick false a b = b
 
 abbrev pub larger : ℕ → ℕ → ℕ
 larger a b = pick (leb a b) b a
+
+-- f 0 + f 1 + .. + f (n - 1)
+abbrev pub sumTo : ℕ → (ℕ → ℕ) → ℕ
+sumTo zero f = 0
+sumTo (suc n) f = f 0 + sumTo n (λ j. f (suc j))
 
 -- low ≤ value ≤ high
 abbrev pub within : ℕ → ℕ → ℕ → Bool

@@ -5,11 +5,11 @@ use mathlib.Core.List.{List, [], _∷_}
 use Prim.Native.Nat.{ℕ, zero, suc, _+_, _-_, _*_, _≤_, _<_}
 use native.Mathlib.Nat.{not-suc-le-zero, le-of-suc-le-suc, sub-zero}
 use lib.ListN.{length, drop}
+use Rattle.basics.specs.Basics.{sumTo}
 use Rattle.rows.specs.Rows.{rowAt, cost}
 use Rattle.rows.specs.declared.Row.{Row}
 use Rattle.responses.specs.Interference.{ceiling}
 use Rattle.responses.specs.Figures.{rowsAbove, worstIn, bestIn}
-use Rattle.boards.proofs.Sums.{sumTo}
 
 -- ---- a sum over rows, by rank
 module _ (part : Row → ℕ) (total : List Row → ℕ) (none : total [] ≡ 0)

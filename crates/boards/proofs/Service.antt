@@ -10,8 +10,9 @@ use native.Mathlib.Omega.{arith}
 use native.Mathlib.Nat.{add-zero, add-suc, le-refl, le-trans, le-of-eq, lt-of-lt-of-le, lt-of-not-le, lt-trans}
 use lib.Dec.{eqb, ltb, leb·suc-zero, leb·suc-suc, eqb·zero-suc, eqb·suc-zero, eqb·suc-suc}
 use borrow.Author.Tests.{eqb-true, eq-eqb, lt-ltb}
+use Rattle.basics.specs.Basics.{sumTo}
 use Rattle.basics.proofs.Tests.{test-of, le-or-lt}
-use Rattle.boards.proofs.Sums.{sumTo, Above, sum-zero, sum-le, sum-add, sum-last, sum-tight}
+use Rattle.boards.proofs.Sums.{Above, sum-zero, sum-le, sum-add, sum-last, sum-tight}
 
 -- 1 for a test that holds
 abbrev pub mark : Bool → ℕ

@@ -3,11 +3,7 @@
 use mathlib.Core.Path.{_≡_, refl}
 use Prim.Native.Nat.{ℕ, zero, suc, _+_, _≤_, _<_}
 use native.Mathlib.Omega.{arith}
-
--- f 0 + f 1 + .. + f (n - 1)
-abbrev pub sumTo : ℕ → (ℕ → ℕ) → ℕ
-sumTo zero f = 0
-sumTo (suc n) f = f 0 + sumTo n (λ j. f (suc j))
+use Rattle.basics.specs.Basics.{sumTo}
 
 -- P holds of every rank above n
 abbrev pub Above : ℕ → (ℕ → Type 0) → Type 0

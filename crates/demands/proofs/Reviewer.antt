@@ -40,6 +40,33 @@ none-late-first order h = elim (zero-or-more (firstLate order)) [
       absurd (true-not-false _ (l .late) (h (e .0) (l .there))))
 ]
 
+-- the first late rank is the one that is noted
+pub first-of : (order : List Row) (k : ℕ) → firstLate order ≡ suc k → FirstLate order k
+first-of order k e =
+    let l = first-late-some order k e in
+    record { there = l .there; late = l .late; above-in-time = l .above-in-time }
+
+pub first-is : (order : List Row) (k : ℕ) → FirstLate order k → firstLate order ≡ suc k
+first-is order k l = elim (zero-or-more (firstLate order)) [
+  | inl z ↦ absurd (true-not-false _ (l .late) (first-late-none order z k (l .there)))
+  | inr e ↦ (
+      let n = first-of order (e .0) (e .1) in
+      let low = not-lower (e .0) k (n .late) l in
+      let high = not-lower k (e .0) (l .late) n in
+      omega (arith, e .1))
+]
+  where
+    -- a late rank is not above the first
+    not-lower :
+        (i j : ℕ) →
+        isLate (rowAt order i) (rowsAbove order i) (rowsBelow order i) ≡ true →
+        FirstLate order j →
+        j ≤ i
+    not-lower i j late f = elim (le-or-lt j i) [
+      | inl h ↦ h
+      | inr h ↦ absurd (true-not-false _ late (f .above-in-time i h))
+    ]
+
 module _ (text : List ℕ) where
   abbrev answer : TableRead
   answer = readTable true text
@@ -74,33 +101,6 @@ module _ (text : List ℕ) where
     abbrev plan : List ℕ
     plan = planText (answer .board) (entries order)
 
-    -- the first late rank is the one that is noted
-    first-of : (k : ℕ) → firstLate order ≡ suc k → FirstLate order k
-    first-of k e =
-        let l = first-late-some order k e in
-        record { there = l .there; late = l .late; above-in-time = l .above-in-time }
-
-    first-is : (k : ℕ) → FirstLate order k → firstLate order ≡ suc k
-    first-is k l = elim (zero-or-more (firstLate order)) [
-      | inl z ↦ absurd (true-not-false _ (l .late) (first-late-none order z k (l .there)))
-      | inr e ↦ (
-          let n = first-of (e .0) (e .1) in
-          let low = not-lower (e .0) k (n .late) l in
-          let high = not-lower k (e .0) (l .late) n in
-          omega (arith, e .1))
-    ]
-      where
-        -- a late rank is not above the first
-        not-lower :
-            (i j : ℕ) →
-            isLate (rowAt order i) (rowsAbove order i) (rowsBelow order i) ≡ true →
-            FirstLate order j →
-            j ≤ i
-        not-lower i j late f = elim (le-or-lt j i) [
-          | inl h ↦ h
-          | inr h ↦ absurd (true-not-false _ late (f .above-in-time i h))
-        ]
-
     data Cases : Type 0 where
       refused : (n : ℕ) → answer .refused ≡ suc n → reviewed text room ≡ refuses (suc n) (answer .line) → Cases
       late : Accepts true text → (k : ℕ) → FirstLate order k → reviewed text room ≡ refuses 7 (suc k) → Cases
@@ -120,7 +120,7 @@ module _ (text : List ℕ) where
               ]
           | inr l ↦
               let is = late-outcome room (answer .board) order (suc (l .0)) (l .1) (λ e. omega (arith, e)) in
-              late a (l .0) (first-of (l .0) (l .1)) (on-accepted answer _ a ∙ is)
+              late a (l .0) (first-of order (l .0) (l .1)) (on-accepted answer _ a ∙ is)
         ]
 
     cases : Cases
@@ -172,7 +172,7 @@ module _ (text : List ℕ) where
               let s = seven-only cases (suc k) e in
               subst (FirstLate order) (omega (arith, s .1)) (s .2),
           λ l.
-              let at = first-is k l in
+              let at = first-is order k l in
               on-order ∙ late-outcome room (answer .board) order (suc k) at (λ e. omega (arith, e)),
         );
         in-time = λ t.

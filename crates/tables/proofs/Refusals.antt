@@ -43,7 +43,7 @@ field-small =
       ),
     )
 
-fault-small : (s : Stage) (v : ℕ) → fault s v ≤ 6
+pub fault-small : (s : Stage) (v : ℕ) → fault s v ≤ 6
 fault-small at-board v = omega arith
 fault-small (at-tasks b) v = omega arith
 fault-small (at-switch n b) v = omega arith

@@ -1,0 +1,309 @@
+-- The watcher's demands, for every text and every room. A text fails at one line for one reason or tells one run; that
+-- has a late rank, or its lines fit the room or not. So the outcome is one, and it is the call's.
+use mathlib.Core.Path.{_≡_, refl, sym, ap, subst, _∙_}
+use mathlib.Core.Bool.{Bool, true}
+use mathlib.Core.List.{List, [], _∷_}
+use mathlib.Core.Logic.{_⊎_, inl, inr, _↔_}
+use Prim.Native.Nat.{ℕ, zero, suc, _≤_, _<_}
+use native.Mathlib.Omega.{arith}
+use lib.Dec.{leb}
+use lib.IntN.{ℤ}
+use lib.ListN.{length}
+use borrow.Author.Tests.{leb-true, le-leb}
+use Rattle.basics.specs.Basics.{isIn}
+use Rattle.basics.proofs.Tests.{le-or-lt, and-both}
+use Rattle.grammars.specs.Forms.{size}
+use Rattle.grammars.specs.Grammars.{Verdict, accepted, refused, read}
+use Rattle.grammars.specs.Sequences.{first, second}
+use Rattle.grammars.specs.Claims.{Decides}
+use Rattle.grammars.proofs.Decision.{decides, refused-some, refused-small}
+use Rattle.rows.specs.Rows.{inRange, allRows, rowAt, rowsFor, tasksOf, cost}
+use Rattle.rows.specs.declared.Row.{Row}
+use Rattle.rows.proofs.Limits.{limits, at-passes}
+use Rattle.tables.specs.TableLines.{at-end, tableOf}
+use Rattle.tables.specs.Claims.{Accepted}
+use Rattle.tables.proofs.Refusals.{fault-small}
+use Rattle.responses.specs.Claims.{NoneHolds}
+use Rattle.orders.specs.Orders.{Possible}
+use Rattle.orders.proofs.Possible.{possible-passes}
+use Rattle.orders.proofs.Tasks.{possible-tasks, rows-for}
+use Rattle.boards.specs.Boards.{Done}
+use Rattle.boards.specs.Claims.{LastsInRange, NoneLate}
+use Rattle.boards.specs.Witnesses.{never}
+use Rattle.plans.specs.Entries.{firstLate}
+use Rattle.plans.specs.Outcomes.{Outcome, writes, refuses, fitted}
+use Rattle.plans.proofs.Outcomes.{fits, fits-not, Numbered}
+use Rattle.plans.proofs.Entries.{first-late-none}
+use Rattle.demands.specs.Demands.{Promised, Given, FirstLate}
+use Rattle.demands.proofs.Outcomes.{same-refusal, not-both, zero-or-more, nine-is, written-is, up-to-six, numbered}
+use Rattle.demands.proofs.Promises.{promised}
+use Rattle.demands.proofs.Reviewer.{none-late-first, first-of, first-is}
+use Rattle.watch_demands.specs.Jobs.{lengthOf, Indexed}
+use Rattle.watch_demands.specs.Runs.{finishedText, finishedBy, runText, FinishedWithin}
+use Rattle.watch_demands.specs.WatchLines.{run-end, offsetOf, WatchStage, watchText, watch-start}
+use Rattle.watch_demands.specs.Calls.{runInTime, onWatch, watched}
+use Rattle.watch_demands.specs.Demands.{TellsRun, FailsRun, RunSays, RunOf, watcherRefusals, WatchDemands}
+use Rattle.watch_demands.proofs.Merges.{indexed}
+use Rattle.watch_demands.proofs.Finished.{finished-within}
+use Rattle.watch_demands.proofs.Texts.{watch-plain, Ended, at-both, ended, sound, run-says}
+use Rattle.watch_demands.proofs.Kept.{lasts, finished-same, run-kept}
+
+-- ---- by the first late rank
+late-run : (room : ℕ) (order : List Row) (offset : ℕ → ℕ) (ls : List ℕ) (t k : ℕ) → firstLate order ≡ suc k
+    → runInTime room order offset ls t ≡ refuses 7 (suc k)
+unfolding runInTime
+late-run room order offset ls t k e = rw (e, runInTime)
+
+timely-run : (room : ℕ) (order : List Row) (offset : ℕ → ℕ) (ls : List ℕ) (t : ℕ) → firstLate order ≡ 0
+    → runInTime room order offset ls t ≡ fitted room (runText order offset ls t)
+unfolding runInTime
+timely-run room order offset ls t e = rw (e, runInTime)
+
+-- ---- refusals of a text
+fault-up-to-six : (x : WatchStage) (z : ℤ) → watchText .fault x z ≤ 6
+fault-up-to-six (first s) z = fault-small s (size z)
+fault-up-to-six (second s t) z = omega arith
+
+number-small : (text : List ℕ) (n k : ℕ) → FailsRun text n k → (1 ≤ n) × (n ≤ 6)
+number-small text n k why = (
+  refused-some (why .condition),
+  refused-small 6 (omega arith) (fault-up-to-six (why .state)) (why .condition),
+)
+
+every-passes : (f : Row → Bool) (rs : List Row) → ((i : ℕ) → i < length rs → f (rowAt rs i) ≡ true)
+    → allRows f rs ≡ true
+every-passes f [] h = refl
+every-passes f (r ∷ rs) h =
+    and-both (f r) (allRows f rs) (h 0 (omega arith)) (every-passes f rs (λ i l. h (suc i) (omega arith)))
+
+-- ---- the run that a text tells
+module _ (text : List ℕ) (b : ℕ) (rs : List Row) (os rels : List ℕ) (t : ℕ) (ls : List ℕ)
+    (told : TellsRun text b rs os rels t ls) where
+  abbrev order : List Row
+  order = rowsFor os rs
+
+  abbrev offset : ℕ → ℕ
+  offset = offsetOf rs os rels
+
+  says : RunSays text b rs os rels t ls
+  says = run-says text b rs os rels t ls told
+
+  table-sound : Accepted true (tableOf b rs os)
+  table-sound = sound text b rs os rels t ls told
+
+  is-possible : Possible order rs × (tasksOf order ≡ os)
+  is-possible = possible-tasks os rs (table-sound .ranks-possible refl)
+
+  pub order-in-range : allRows inRange order ≡ true
+  order-in-range = possible-passes inRange (is-possible .0) (table-sound .rows-in-range)
+
+  -- what each row of a table has, each of an order of it has
+  pub order-unheld : NoneHolds order
+  order-unheld i l =
+      let short : Row → Bool = λ r. leb (r .hold) 1 in
+      let all = every-passes short rs (λ j h. le-leb (rowAt rs j .hold) 1 (omega (arith, says .none-holds j h))) in
+      leb-true (rowAt order i .hold) 1 (at-passes short order i (possible-passes short (is-possible .0) all) l)
+
+  pub is-given : Given rs os order
+  is-given = record { possible = is-possible .0; tasks-are = is-possible .1 }
+
+  pub given-only : (os′ : List Row) → Given rs os os′ → order ≡ os′
+  given-only os′ g =
+      ap (λ (ts : List ℕ). rowsFor ts rs) (sym (g .tasks-are)) ∙ rows-for (table-sound .rows-distinct) (g .possible)
+
+  run-indexed : Indexed order offset
+  run-indexed =
+      indexed order offset (λ j l. limits (rowAt order j) (at-passes inRange order j order-in-range l) .period .low-le)
+
+  run-lasts : LastsInRange order (lengthOf order offset ls)
+  unfolding cost
+  run-lasts = lasts order offset ls run-indexed sane (says .lengths-in)
+    where
+      sane : (i : ℕ) → i < length order → rowAt order i .best ≤ cost (rowAt order i)
+      sane i l = let x = limits (rowAt order i) (at-passes inRange order i order-in-range l) in omega (arith, x .best-worst)
+
+  -- ---- what it comes to
+  module _ (room : ℕ) where
+    abbrev lines : List ℕ
+    lines = runText order offset ls t
+
+    abbrev outcome : Outcome
+    outcome = runInTime room order offset ls t
+
+    timely : NoneLate order → outcome ≡ fitted room lines
+    timely h = timely-run room order offset ls t (none-late-first order h)
+
+    seven-is : (k : ℕ) → (outcome ≡ refuses 7 (suc k)) ↔ FirstLate order k
+    seven-is k = (
+      λ e. elim (zero-or-more (firstLate order)) [
+        | inl z ↦ absurd (nine-for-seven (timely-run room order offset ls t z) e)
+        | inr l ↦ (
+            let same = same-refusal (sym (late-run room order offset ls t (l .0) (l .1)) ∙ e) .1 in
+            subst (FirstLate order) (omega (arith, same)) (first-of order (l .0) (l .1)))
+      ],
+      λ l. late-run room order offset ls t k (first-is order k l),
+    )
+      where
+        nine-for-seven : outcome ≡ fitted room lines → outcome ≡ refuses 7 (suc k) → ⊥
+        nine-for-seven is e = elim (le-or-lt (length lines) room) [
+          | inl h ↦ not-both (sym (is ∙ fits room lines h) ∙ e)
+          | inr h ↦ let z : _≡_ {A = ℕ} 9 7 = same-refusal (sym (is ∙ fits-not room lines h) ∙ e) .0 in omega arith
+        ]
+
+    pub run-of : RunOf order offset ls room t outcome
+    run-of = record {
+      indexed = run-indexed;
+      lasts = run-lasts;
+      seven = seven-is;
+      nine = λ h keeps ds w.
+          subst (λ x. (outcome ≡ refuses 9 0) ↔ (room < length (finishedText order x))) (sym (is keeps ds w))
+          (nine-is room lines outcome (timely h));
+      written = λ h keeps ds w.
+          subst (λ x. (outcome ≡ writes (finishedText order x)) ↔ (length (finishedText order x) ≤ room))
+          (sym (is keeps ds w)) (written-is room lines outcome (timely h));
+      some-run = λ keeps. (_, finished-within order offset (lengthOf order offset ls) keeps t);
+      promised = λ h. promised order order-in-range h;
+      kept = λ h keeps ds w.
+          run-kept order offset ls (promised order order-in-range h) run-lasts keeps t ds w;
+    }
+      where
+        is : (keeps : ℕ → Bool) (ds : List Done) → FinishedWithin order offset (lengthOf order offset ls) keeps t ds
+            → ds ≡ finishedBy order offset ls t
+        is keeps ds w = finished-same order offset ls order-unheld keeps t ds w
+
+-- ---- how the outcome comes about
+module _ (text : List ℕ) where
+  abbrev verdict : Verdict WatchStage
+  verdict = read watchText watch-start text
+
+  decided : Decides watchText watch-start text
+  decided = decides watchText watch-plain watch-start text
+
+  watched-is : (room : ℕ) (v : Verdict WatchStage) → verdict ≡ v → watched text room ≡ onWatch room v
+  unfolding watched
+  watched-is room v e = ap (onWatch room) e
+
+  pub data Read (room : ℕ) : Type 0 where
+    fails : (n k : ℕ) → FailsRun text n k → watched text room ≡ refuses n k → Read room
+    tells : (b : ℕ) (rs : List Row) (os rels : List ℕ) (t : ℕ) (ls : List ℕ) → TellsRun text b rs os rels t ls
+        → watched text room ≡ runInTime room (rowsFor os rs) (offsetOf rs os rels) ls t → Read room
+
+  pub as-read : (room : ℕ) → Read room
+  as-read room = go verdict refl
+    where
+      told : (x : WatchStage) → Ended x → verdict ≡ accepted x → Read room
+      told x (at-both b rs os rels t ls) e =
+          tells b rs os rels t ls (decided .as-written _ e) (watched-is room (accepted _) e)
+
+      go : (v : Verdict WatchStage) → verdict ≡ v → Read room
+      go (accepted x) e = told x (ended text x (decided .as-written x e)) e
+      go (refused n k) e = fails n k (decided .reason n k e) (watched-is room (refused n k) e)
+
+  -- the outcome of a text that is known to fail, or to tell a run
+  fails-is : (room n k : ℕ) → FailsRun text n k → watched text room ≡ refuses n k
+  fails-is room n k f = watched-is room (refused n k) (decided .refuses n k f)
+
+  tells-is : (room b : ℕ) (rs : List Row) (os rels : List ℕ) (t : ℕ) (ls : List ℕ) → TellsRun text b rs os rels t ls
+      → watched text room ≡ runInTime room (rowsFor os rs) (offsetOf rs os rels) ls t
+  tells-is room b rs os rels t ls told = watched-is room (accepted _) (decided .accepts _ told)
+
+  module _ (room : ℕ) where
+    -- an accepted text is refused with 7 or 9 only
+    late-or-long : (b : ℕ) (rs : List Row) (os rels : List ℕ) (t : ℕ) (ls : List ℕ) → TellsRun text b rs os rels t ls
+        → (n p : ℕ) → runInTime room (rowsFor os rs) (offsetOf rs os rels) ls t ≡ refuses n p → (n ≡ 7) ⊎ (n ≡ 9)
+    late-or-long b rs os rels t ls told n p e =
+        let order = rowsFor os rs in
+        let offset = offsetOf rs os rels in
+        let lines = runText order offset ls t in
+        elim (zero-or-more (firstLate order)) [
+          | inl z ↦
+              let is = timely-run room order offset ls t z in
+              elim (le-or-lt (length lines) room) [
+                | inl h ↦ absurd (not-both (sym (is ∙ fits room lines h) ∙ e))
+                | inr h ↦ inr (sym (same-refusal (sym (is ∙ fits-not room lines h) ∙ e) .0))
+              ]
+          | inr l ↦ inl (sym (same-refusal (sym (late-run room order offset ls t (l .0) (l .1)) ∙ e) .0))
+        ]
+
+    listed : Read room → (n p : ℕ) → watched text room ≡ refuses n p → isIn n watcherRefusals ≡ true
+    listed (fails m k f is) n p e = subst (λ x. isIn x watcherRefusals ≡ true) (same-refusal (sym is ∙ e) .0) (low m f)
+      where
+        low : (m : ℕ) → FailsRun text m k → isIn m watcherRefusals ≡ true
+        low zero f = absurd (omega (arith, number-small text 0 k f .0))
+        low (suc m) f = up-to-six m (7 ∷ 9 ∷ []) (number-small text (suc m) k f .1)
+    listed (tells b rs os rels t ls told is) n p e =
+        elim (late-or-long b rs os rels t ls told n p (sym is ∙ e)) [ inl h ↦ rw h | inr h ↦ rw h ]
+
+    refused-exactly : Read room → (n k : ℕ) → ((watched text room ≡ refuses n k) × (n ≤ 6)) ↔ FailsRun text n k
+    refused-exactly r n k = (by r, λ f. (fails-is room n k f, number-small text n k f .1))
+      where
+        by : Read room → (watched text room ≡ refuses n k) × (n ≤ 6) → FailsRun text n k
+        by (fails m j f is) e =
+            let same = same-refusal (sym is ∙ e .0) in
+            subst (λ x. FailsRun text x k) (same .0) (subst (FailsRun text m) (same .1) f)
+        by (tells b rs os rels t ls told is) e =
+            elim (late-or-long b rs os rels t ls told n k (sym is ∙ e .0)) [
+              | inl h ↦ absurd (omega (arith, h, e .1))
+              | inr h ↦ absurd (omega (arith, h, e .1))
+            ]
+
+    pub watch-demands : WatchDemands text room (watched text room)
+    watch-demands = record {
+      decides = decided;
+      listed = listed (as-read room);
+      refused = refused-exactly (as-read room);
+      says = λ b rs os rels t ls told.
+          (run-says text b rs os rels t ls told, is-given text b rs os rels t ls told);
+      accepted = λ b rs os rels t ls told order g.
+          subst (λ o. RunOf o (offsetOf rs os rels) ls room t (watched text room))
+          (given-only text b rs os rels t ls told order g)
+          (subst (RunOf (rowsFor os rs) (offsetOf rs os rels) ls room t)
+          (sym (tells-is room b rs os rels t ls told)) (run-of text b rs os rels t ls told room));
+    }
+
+    -- ---- the demands decide: the outcome that meets them is the call's
+    module _ (w : Outcome) (d : WatchDemands text room w) where
+      module _ (b : ℕ) (rs : List Row) (os rels : List ℕ) (t : ℕ) (ls : List ℕ) (told : TellsRun text b rs os rels t ls)
+        where
+          abbrev given : List Row
+          given = rowsFor os rs
+
+          abbrev from : ℕ → ℕ
+          from = offsetOf rs os rels
+
+          abbrev finished : List Done
+          finished = finishedBy given from ls t
+
+          abbrev text-of : List ℕ
+          text-of = runText given from ls t
+
+          run : RunOf given from ls room t w
+          run = d .accepted b rs os rels t ls told given (is-given text b rs os rels t ls told)
+
+          within : FinishedWithin given from (lengthOf given from ls) never t finished
+          within = finished-within given from (lengthOf given from ls) never t
+
+          run-only : w ≡ runInTime room given from ls t
+          run-only = elim (zero-or-more (firstLate given)) [
+            | inl z ↦
+                let is = timely-run room given from ls t z in
+                let in-time = first-late-none given z in
+                elim (le-or-lt (length text-of) room) [
+                  | inl h ↦ run .written in-time never finished within .1 h ∙ sym (is ∙ fits room text-of h)
+                  | inr h ↦ run .nine in-time never finished within .1 h ∙ sym (is ∙ fits-not room text-of h)
+                ]
+            | inr l ↦
+                run .seven (l .0) .1 (first-of given (l .0) (l .1))
+                ∙ sym (late-run room given from ls t (l .0) (l .1))
+          ]
+
+      only : Read room → w ≡ watched text room
+      only (fails n k f is) = d .refused n k .1 f .0 ∙ sym is
+      only (tells b rs os rels t ls told is) = run-only b rs os rels t ls told ∙ sym is
+
+      pub decided-by : w ≡ watched text room
+      decided-by = only (as-read room)
+
+  -- a refusal has a number
+  pub watched-numbered : (room : ℕ) → Numbered (watched text room)
+  watched-numbered room = numbered (watched text room) watcherRefusals refl (listed room (as-read room))

@@ -1,0 +1,39 @@
+-- The lines that have been read stand before the rest of a text, and are read alike whatever the rest is; and numbers
+-- that pass by a narrower grammar pass by the wider one.
+use mathlib.Core.Path.{_≡_, refl, sym, ap, subst, _∙_}
+use mathlib.Core.List.{List, [], _++_, append-assoc}
+use Prim.Native.Nat.{ℕ, suc}
+use lib.IntN.{ℤ}
+use Rattle.text.specs.Text.{signed, keyLine}
+use Rattle.grammars.specs.Grammars.{Grammar}
+use Rattle.grammars.specs.Reasons.{Passes, Reaches, begin, line}
+
+-- the lines before line k, apart from what follows them
+pub record Front {S : Type 0} (g : Grammar S) (start : S) (text : List ℕ) (k : ℕ) (s : S) (here : List ℕ) : Type 0 where
+  pub front : List ℕ
+  pub joins : text ≡ front ++ here
+  pub before : (more : List ℕ) → Reaches g start (front ++ more) k s more
+
+pub in-front : {S : Type 0} {g : Grammar S} {start : S} {text : List ℕ} {k : ℕ} {s : S} {here : List ℕ}
+    → Reaches g start text k s here → Front g start text k s here
+in-front begin = record { front = []; joins = refl; before = λ more. begin }
+in-front {g = g} {start = start} (line {k = k} {s = s} key z rest r p is) =
+    let f = in-front r in
+    let this = keyLine key (signed z) in
+    record {
+      front = f .front ++ this;
+      joins = f .joins ∙ ap (λ x. f .front ++ x) is ∙ sym (append-assoc (f .front) this rest);
+      before = λ more.
+          subst (λ x. Reaches g start x (suc k) (g .after s z) more) (sym (append-assoc (f .front) this more))
+          (line key z more (f .before (this ++ more)) p refl);
+    }
+
+-- two grammars with the same states after a number, the one's lines narrower
+pub widens : {S : Type 0} (g h : Grammar S) → ((s : S) (z : ℤ) → g .after s z ≡ h .after s z)
+    → ((s : S) (key : List ℕ) (z : ℤ) → Passes g s key z → Passes h s key z)
+    → {start : S} {text : List ℕ} {k : ℕ} {s : S} {here : List ℕ}
+    → Reaches g start text k s here → Reaches h start text k s here
+widens g h same passes begin = begin
+widens g h same passes {start} {text} (line {k = k} {s = s} key z rest r p is) =
+    subst (λ x. Reaches h start text (suc k) x rest) (sym (same s z))
+    (line key z rest (widens g h same passes r) (passes s key z p) is)

@@ -1,0 +1,141 @@
+-- A text to watch that is accepted is a table that the reviewer takes, none of whose tasks holds, and behind it the lines
+-- of its run, in their limits.
+use mathlib.Core.Path.{_≡_, refl, sym, ap, subst, _∙_}
+use mathlib.Core.Bool.{Bool, true, false, not}
+use mathlib.Core.List.{List, [], _∷_, _++_, append-nil}
+use mathlib.Core.Logic.{inl, inr}
+use Prim.Native.Nat.{ℕ, zero, suc, _+_, _≤_, _<_}
+use native.Mathlib.Omega.{arith}
+use lib.Dec.{eqb}
+use lib.IntN.{ℤ}
+use lib.ListN.{length, getD}
+use borrow.Author.Tests.{eq-eqb, ne-eqb, eqb-true, not-true}
+use Rattle.basics.specs.Basics.{pick, isIn}
+use Rattle.basics.proofs.Tests.{test-of, true-not-false, and-left, and-right, or-right}
+use Rattle.grammars.specs.Grammars.{Expected, the-end, a-line, Plain}
+use Rattle.grammars.specs.Sequences.{Sequel, first, second, whereEnded, onward, Split}
+use Rattle.grammars.specs.Reasons.{Passes, Reaches}
+use Rattle.grammars.specs.Claims.{AsWritten}
+use Rattle.grammars.proofs.Invariants.{Invariant, holds}
+use Rattle.grammars.proofs.Sequences.{plain-sequence, split}
+use Rattle.grammars.proofs.Steps.{no-line}
+use Rattle.rows.specs.Rows.{holdAt, tasksOf, hasTask, distinctRows, rowAt, positionOf}
+use Rattle.rows.specs.declared.Row.{Row}
+use Rattle.tables.specs.TableLines.{Stage, at-board, at-tasks, at-switch, at-field, at-rank, at-end, tableOf, tableAt, table}
+use Rattle.tables.specs.Claims.{Accepted, Tells}
+use Rattle.tables.proofs.Readings.{Ending, at-last, ending}
+use Rattle.tables.proofs.Soundness as Soundness
+use Rattle.watch_demands.specs.WatchLines.{RunStage, at-release, at-ticks, at-lengths, at-length, run-end}
+use Rattle.watch_demands.specs.WatchLines.{offsetOf, unheldLine, unheld, run, runOf, runBegins}
+use Rattle.watch_demands.specs.WatchLines.{WatchStage, watchText, watch-start}
+use Rattle.watch_demands.specs.Demands.{TellsRun, runLines, RunSays}
+use Rattle.watch_demands.proofs.Fronts.{Front, in-front}
+use Rattle.watch_demands.proofs.Unheld.{unheld-plain, as-reviewed, Kept, kept}
+use Rattle.watch_demands.proofs.RunTexts.{run-plain, Ran, run-told}
+
+pub watch-plain : Plain watchText
+watch-plain = plain-sequence unheld runOf runBegins unheld-plain (λ s. run-plain (tableAt s .rows) (tableAt s .order))
+
+-- ---- where a reading ends
+-- a table's end is the beginning of its run
+abbrev Open : WatchStage → Type 0
+Open (first s) = unheldLine s ≡ the-end → ⊥
+Open (second s t) = Unit {0}
+
+onward-open : (s : Stage) → Open (onward unheld runBegins s)
+onward-open s = go (unheldLine s) refl
+  where
+    go : (x : Expected) → unheldLine s ≡ x → Open (whereEnded x s (runBegins s))
+    go the-end e = tt
+    go (a-line key form) e = λ h. no-line (sym e ∙ h)
+
+all-open : Invariant watchText watch-start Open
+all-open = record { begins = onward-open at-board; keeps = go }
+  where
+    go : (x : WatchStage) (key : List ℕ) (z : ℤ) → Open x → Passes watchText x key z → Open (watchText .after x z)
+    go (first s) key z h p = onward-open (unheld .after s z)
+    go (second s t) key z h p = tt
+
+unheld-ending : (s : Stage) → unheldLine s ≡ the-end → Ending s
+unheld-ending at-board e = no-line e
+unheld-ending (at-tasks b) e = no-line e
+unheld-ending (at-switch n b) e = no-line e
+unheld-ending (at-field n b s rs vs) e = elim (test-of (eqb (length vs) holdAt)) [
+  | inl h ↦ no-line (rw h at e)
+  | inr h ↦ no-line (rw h at e)
+]
+unheld-ending (at-rank n b rs os) e = no-line e
+unheld-ending (at-end b rs os) e = at-last b rs os
+
+pub data Ended : WatchStage → Type 0 where
+  at-both : (b : ℕ) (rs : List Row) (os rels : List ℕ) (t : ℕ) (ls : List ℕ)
+      → Ended (second (at-end b rs os) (run-end rels t ls))
+
+module _ (text : List ℕ) where
+  pub ended : (x : WatchStage) → AsWritten watchText watch-start text x → Ended x
+  ended (first s) w = absurd (holds watchText watch-start Open all-open (w .whole) (w .ends))
+  ended (second s t) w =
+      by-table s (unheld-ending s (split unheld runOf runBegins at-board text (w .whole) .ended)) t (w .ends)
+    where
+      by-table : (s : Stage) → Ending s → (t : RunStage) → runOf s .expected t ≡ the-end → Ended (second s t)
+      by-table s (at-last b rs os) (at-release rels) e = no-line e
+      by-table s (at-last b rs os) (at-ticks rels) e = no-line e
+      by-table s (at-last b rs os) (at-lengths rels t) e = no-line e
+      by-table s (at-last b rs os) (at-length n rels t ls) e = no-line e
+      by-table s (at-last b rs os) (run-end rels t ls) e = at-both b rs os rels t ls
+
+-- ---- a task's row is the first with its number, since none has it twice
+position-is : (rs : List Row) (j t : ℕ) → distinctRows rs ≡ true → j < length rs → t ≡ rowAt rs j .task
+    → positionOf t (tasksOf rs) ≡ j
+position-is [] j t d l e = absurd (omega arith)
+position-is (r ∷ rs) zero t d l e = rw (eq-eqb t (r .task) e, positionOf)
+position-is (r ∷ rs) (suc j) t d l e =
+    let new = not-true (hasTask (r .task) rs) (and-left (not (hasTask (r .task) rs)) (distinctRows rs) d) in
+    let other : t ≡ r .task → ⊥ =
+    λ h. true-not-false _ (has-at rs j t (omega arith) e) (subst (λ x. hasTask x rs ≡ false) (sym h) new) in
+    rw (ne-eqb t (r .task) other, positionOf)
+    (ap suc (position-is rs j t (and-right (not (hasTask (r .task) rs)) (distinctRows rs) d) (omega arith) e))
+  where
+    has-at : (rs : List Row) (j t : ℕ) → j < length rs → t ≡ rowAt rs j .task → hasTask t rs ≡ true
+    has-at [] j t l e = absurd (omega arith)
+    has-at (r ∷ rs) zero t l e = rw (eq-eqb t (r .task) e)
+    has-at (r ∷ rs) (suc j) t l e = or-right (eqb t (r .task)) (hasTask t rs) (has-at rs j t (omega arith) e)
+
+-- ---- what an accepted text says
+module _ (text : List ℕ) (b : ℕ) (rs : List Row) (os rels : List ℕ) (t : ℕ) (ls : List ℕ)
+    (told : TellsRun text b rs os rels t ls) where
+  parts : Split unheld runOf runBegins at-board text (told .lines) (at-end b rs os) (run-end rels t ls) []
+  parts = split unheld runOf runBegins at-board text (told .whole)
+
+  table-front : Front unheld at-board text (parts .lines) (at-end b rs os) (parts .middle)
+  table-front = in-front (parts .before)
+
+  table-lines : Reaches unheld at-board (table-front .front) (parts .lines) (at-end b rs os) []
+  table-lines =
+      subst (λ x. Reaches unheld at-board x (parts .lines) (at-end b rs os) []) (append-nil (table-front .front))
+      (table-front .before [])
+
+  ran : Ran rs os rels t ls × (parts .middle ≡ runLines rels t ls)
+  ran = run-told rs os (parts .after)
+
+  tells-table : Tells true (table-front .front) b rs os
+  tells-table = record { lines = parts .lines; whole = as-reviewed table-lines; ends = refl }
+
+  pub sound : Accepted true (tableOf b rs os)
+  sound = holds (table true) at-board (Soundness.Known true) (Soundness.sound true) (as-reviewed table-lines)
+
+  pub run-says : RunSays text b rs os rels t ls
+  run-says = record {
+    front = table-front .front;
+    joins = table-front .joins ∙ ap (λ x. table-front .front ++ x) (ran .1);
+    reviewed = tells-table;
+    none-holds = holds unheld at-board Kept kept table-lines;
+    one-each = ran .0 .released .one-each;
+    releases-in = ran .0 .released .in-limits;
+    first-release = λ i j l h e.
+        ap (λ p. getD rels p 0) (position-is rs j (getD os i 0) (sound .rows-distinct) h e);
+    some-ticks = ran .0 .ticks .low-le;
+    few-ticks = ran .0 .ticks .le-high;
+    few-lengths = ran .0 .few;
+    lengths-in = ran .0 .lengths-in;
+  }
