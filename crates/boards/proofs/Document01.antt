@@ -16,12 +16,12 @@ use Rattle.boards.proofs.Queues.{queue-there, goes-on}
 use Rattle.boards.proofs.Stretches.{boardBefore, queuesIn, runsIn, ranks-in, runs-new, off, left-new, not-ended}
 
 -- ---- a tick of document 01's board is one of the highest rank with a job
-work-is : (qs : List (List Job)) → afterWork qs ≡ workedAt (highest qs) qs
+pub work-is : (qs : List (List Job)) → afterWork qs ≡ workedAt (highest qs) qs
 work-is [] = refl
 work-is ([] ∷ qs) = ap (λ (x : List (List Job)). [] ∷ x) (work-is qs)
 work-is ((x ∷ q) ∷ qs) = refl
 
-finishes-is : (i t : ℕ) (qs : List (List Job))
+pub finishes-is : (i t : ℕ) (qs : List (List Job))
     → finishes i t qs ≡ finishing (i + highest qs) t (queueAt qs (highest qs))
 finishes-is i t [] = refl
 finishes-is i t ([] ∷ qs) =

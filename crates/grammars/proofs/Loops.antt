@@ -35,7 +35,7 @@ module _ {S : Type 0} (g : Grammar S) (text : List ℕ) (s : S) (at k : ℕ) whe
       let past = step-onward g text s at k t next j e .0 in omega (arith, past .further, past .inside)
 
   -- its refusals have a number, and the line where it ends
-  refused-here : Plain g → (n j : ℕ) → step g text s at k ≡ stops (refused n j) → (1 ≤ n) × (j ≡ k)
+  pub refused-here : Plain g → (n j : ℕ) → step g text s at k ≡ stops (refused n j) → (1 ≤ n) × (j ≡ k)
   refused-here plain n j e = by-expected (g .expected s) refl e
     where
       no-feed : (key : List ℕ) (form : Form) → g .expected s ≡ a-line key form → isIn lineFeed key ≡ false

@@ -6,6 +6,7 @@ ghost use Rattle.text.specs.Buffers.{Wrote};
 ghost use Rattle.rows.specs.Rows.{maxTasks};
 ghost use Rattle.rows.specs.inside.Numbers.{rowsIn};
 ghost use Rattle.analysis.specs.inside.Columns.{Filled};
+ghost use Rattle.plans.specs.Entries.{firstLate};
 ghost use Rattle.plans.specs.Plans.{rankRoom, roomFor, planRoom, mostRanks};
 ghost use Rattle.plans.specs.Outcomes.{ifInTime, Written};
 ghost use Rattle.plans.specs.inside.Prints.{toPrint};
@@ -103,6 +104,17 @@ fn put_plan(
     fill_columns(rows, positions, n, columns);
     let at = put_head(text, board, n);
     put_ranks(text, at, rows, positions, n, columns)
+}
+
+// The first late rank of an order, counted from 1; 0 for none. Its plan is found as far as that rank, and is not wanted.
+pub fn late_rank(rows: &[u64], positions: &[usize], n: usize) -> u32
+    requires { ⌜ (n ≤ maxTasks) × Ordered (now rows) (now positions) n ⌝ }
+    ensures { λ r. ⌜ r ≡ firstLate (rowsIn (now (rows .entry)) (take n (now (positions .entry)))) ⌝ }
+{
+    let mut text = [0; ROOM];
+    let mut columns = [0u64; 3 * MAX_TASKS];
+    let put = put_plan(&mut text, &mut columns, 0, rows, positions, n);
+    put.late
 }
 
 // The outcome of a plan that stands in a text: refusal 7 where a rank is late, 9 where out is shorter.

@@ -28,7 +28,7 @@ use Rattle.tables.specs.inside.Readings.{ReadAs}
 use Rattle.tables.proofs.Readings.{verdict, decided, read-is, read}
 use Rattle.tables.proofs.LineNumbers.{rows-front}
 
-abbrev reading : ℕ → ℕ → ℕ → Reading
+abbrev pub reading : ℕ → ℕ → ℕ → Reading
 reading number line count = record { refused = number; line = line; count = count }
 
 -- ---- a sound table has as many ranks as rows, where they are expected
@@ -42,10 +42,10 @@ ranks-counted true a h =
 ranks-counted false a h = ap length (h .no-ranks refl)
 
 -- ---- where nothing more is expected, the numbers so far are the table's
-abbrev endIn : Stand → List ℕ → Stage
+abbrev pub endIn : Stand → List ℕ → Stage
 endIn s ns = at-end (boardIn ns) (rowsIn (s .count) ns) (behind (s .count) (s .position) ns)
 
-shown-end : (p : Part) (s : Stand) (ns : List ℕ) → readBy p s ≤ length ns
+pub shown-end : (p : Part) (s : Stand) (ns : List ℕ) → readBy p s ≤ length ns
     → expected (stageIn p s (take (readBy p s) ns)) ≡ the-end
     → (stageIn p s (take (readBy p s) ns) ≡ endIn s ns)
     × (rowStart (s .count) + s .position ≤ length ns)
@@ -59,6 +59,22 @@ shown-end P.End s ns long e =
     let board = getD-take n ns 0 0 (omega arith) in
     let rows = rows-front (s .count) n ns (omega arith) long in
     (ap₂ (λ d qs. at-end d qs (behind (s .count) (s .position) ns)) board rows, long)
+
+-- so a table that stands there is read as the code has it
+pub in-numbers : (ranked : Bool) (text : List ℕ) (s : Stand) (ns : List ℕ) → rowStart (s .count) + s .position ≤ length ns
+    → readTable ranked text ≡ tableAt (endIn s ns) → ReadAs ranked text ns (reading 0 0 (s .count))
+in-numbers ranked text s ns fit is =
+    let ranks = between-length (rowStart (s .count)) ns (s .position) fit in
+    record {
+      refused-is = rw is;
+      line-is = rw is;
+      count-is = rw is (sym (rows-length (s .count) (drop headCount ns)));
+      long = λ z. rw is (omega (arith, ranks, fit));
+      board-is = λ z. rw is;
+      rows-are = λ z. rw is;
+      order-is = λ z. rw is (ap (λ m. behind (s .count) m ns) ranks);
+      read = read ranked text;
+    }
 
 module _ (ranked : Bool) (text : List ℕ) (p : Progress) (ns : List ℕ) (ends : Ends (verdict ranked text) p ns) where
   pub as-refused : (p .refused ≡ 0 → ⊥) → ReadAs ranked text ns (reading (p .refused) (p .line) 0)
@@ -91,17 +107,5 @@ module _ (ranked : Bool) (text : List ℕ) (p : Progress) (ns : List ℕ) (ends 
           let s = p .stand in
           let last = ap expected (h .1) ∙ decided ranked text .as-written st e .ends in
           let (stage, fit) = shown-end (s .part) s ns (h .2 .1) last in
-          let is : readTable ranked text ≡ tableAt (endIn s ns) =
-          read-is ranked text (accepted st) e ∙ ap tableAt (sym (h .1) ∙ stage) in
-          let ranks = between-length (rowStart (s .count)) ns (s .position) fit in
-          record {
-            refused-is = rw is;
-            line-is = rw is;
-            count-is = rw is (sym (rows-length (s .count) (drop headCount ns)));
-            long = λ z. rw is (omega (arith, ranks, fit));
-            board-is = λ z. rw is;
-            rows-are = λ z. rw is;
-            order-is = λ z. rw is (ap (λ m. behind (s .count) m ns) ranks);
-            read = read ranked text;
-          }
+          in-numbers ranked text s ns fit (read-is ranked text (accepted st) e ∙ ap tableAt (sym (h .1) ∙ stage))
       go (refused n k) e h = absurd (h .2 none)

@@ -89,7 +89,7 @@ module _ (text : List ℕ) (b : ℕ) (rs : List Row) (os rels : List ℕ) (t : �
   says = run-says text b rs os rels t ls told
 
   table-sound : Accepted true (tableOf b rs os)
-  table-sound = sound text b rs os rels t ls told
+  table-sound = sound (told .whole)
 
   is-possible : Possible order rs × (tasksOf order ≡ os)
   is-possible = possible-tasks os rs (table-sound .ranks-possible refl)

@@ -4,7 +4,7 @@ use mathlib.Core.Path.{_≡_, refl, sym, ap, _∙_}
 use mathlib.Core.Bool.{Bool, true, false}
 use mathlib.Core.List.{List}
 use mathlib.Core.Logic.{inl, inr}
-use Prim.Native.Nat.{ℕ, zero, suc, _+_, _*_, _≤_, _<_}
+use Prim.Native.Nat.{ℕ, zero, suc, _≤_, _<_}
 use native.Mathlib.Omega.{arith}
 use native.Mathlib.Nat.{le-antisymm, mul-le-mul-right, eq-of-mul-eq-mul-right, not-suc-le-zero}
 use lib.Dec.{eqb, ltb}
@@ -147,8 +147,9 @@ module _ (order : List Row) (offset : ℕ → ℕ) (periods : (j : ℕ) → j < 
   has-own : (i k : ℕ) → i < length order → hasIndex order offset (indexOf order offset i k) i ≡ true
   has-own i k l =
       let m = indexOf order offset i k in
+      let within : k < suc m = omega (arith, index-least i k l) in
       lt-ltb (firstOf (suc m) (λ x. eqb (indexOf order offset i x) m)) (suc m)
-      (first-below (suc m) (λ x. eqb (indexOf order offset i x) m) k (omega (arith, index-least i k l)) (eq-eqb m m refl))
+      (first-below (suc m) (λ x. eqb (indexOf order offset i x) m) k within (eq-eqb m m refl))
 
   has-no-other : (i k j : ℕ) → i < length order → j < length order
       → hasIndex order offset (indexOf order offset i k) j ≡ true → j ≡ i

@@ -1,10 +1,9 @@
 -- The first m jobs of a run as a number of jobs of each rank: all of them come before every other. The next is the rank
 -- whose next release is the earliest; so each index has its job.
 use mathlib.Core.Path.{_≡_, refl, sym, ap, _∙_}
-use mathlib.Core.Bool.{true, false}
 use mathlib.Core.List.{List}
 use mathlib.Core.Logic.{inl, inr}
-use Prim.Native.Nat.{ℕ, zero, suc, _+_, _-_, _*_, _≤_, _<_}
+use Prim.Native.Nat.{ℕ, zero, suc, _+_, _-_, _≤_, _<_}
 use native.Mathlib.Omega.{arith}
 use native.Mathlib.Nat.{le-antisymm, le-of-eq, not-suc-le-zero}
 use native.Mathlib.Numerals.{add-one}

@@ -30,7 +30,7 @@ use Rattle.watch_demands.specs.WatchLines.{offsetOf, unheldLine, unheld,
 use Rattle.watch_demands.specs.WatchLines.{WatchStage, watchText, watch-start}
 use Rattle.watch_demands.specs.Demands.{TellsRun, runLines, RunSays}
 use Rattle.watch_demands.proofs.Fronts.{Front, in-front}
-use Rattle.watch_demands.proofs.Unheld.{unheld-plain, as-reviewed, Kept, kept}
+use Rattle.watch_demands.proofs.Unheld.{unheld-plain, as-reviewed, NoHolds, Kept, kept}
 use Rattle.watch_demands.proofs.RunTexts.{run-plain, Ran, run-told}
 
 pub watch-plain : Plain watchText
@@ -101,13 +101,13 @@ position-is (r ∷ rs) (suc j) t d l e =
     has-at (r ∷ rs) zero t l e = rw (eq-eqb t (r .task) e)
     has-at (r ∷ rs) (suc j) t l e = or-right (eqb t (r .task)) (hasTask t rs) (has-at rs j t (omega arith) e)
 
--- ---- what an accepted text says
-module _ (text : List ℕ) (b : ℕ) (rs : List Row) (os rels : List ℕ) (t : ℕ) (ls : List ℕ)
-    (told : TellsRun text b rs os rels t ls) where
-  parts : Split unheld runOf runBegins at-board text (told .lines) (at-end b rs os) (run-end rels t ls) []
-  parts = split unheld runOf runBegins at-board text (told .whole)
+-- ---- the table at the front of a text whose lines lead behind it
+module _ {text : List ℕ} {k b : ℕ} {rs : List Row} {os : List ℕ} {t : RunStage} {here : List ℕ}
+    (reached : Reaches watchText watch-start text k (second (at-end b rs os) t) here) where
+  pub parts : Split unheld runOf runBegins at-board text k (at-end b rs os) t here
+  parts = split unheld runOf runBegins at-board text reached
 
-  table-front : Front unheld at-board text (parts .lines) (at-end b rs os) (parts .middle)
+  pub table-front : Front unheld at-board text (parts .lines) (at-end b rs os) (parts .middle)
   table-front = in-front (parts .before)
 
   table-lines : Reaches unheld at-board (table-front .front) (parts .lines) (at-end b rs os) []
@@ -115,25 +115,34 @@ module _ (text : List ℕ) (b : ℕ) (rs : List Row) (os rels : List ℕ) (t : �
       subst (λ x. Reaches unheld at-board x (parts .lines) (at-end b rs os) []) (append-nil (table-front .front))
       (table-front .before [])
 
-  ran : Ran rs os rels t ls × (parts .middle ≡ runLines rels t ls)
-  ran = run-told rs os (parts .after)
-
-  tells-table : Tells true (table-front .front) b rs os
+  pub tells-table : Tells true (table-front .front) b rs os
   tells-table = record { lines = parts .lines; whole = as-reviewed table-lines; ends = refl }
 
   pub sound : Accepted true (tableOf b rs os)
   sound = holds (table true) at-board (Soundness.Known true) (Soundness.sound true) (as-reviewed table-lines)
 
+  pub no-holds : NoHolds rs
+  no-holds = holds unheld at-board Kept kept table-lines
+
+-- ---- what an accepted text says
+module _ (text : List ℕ) (b : ℕ) (rs : List Row) (os rels : List ℕ) (t : ℕ) (ls : List ℕ)
+    (told : TellsRun text b rs os rels t ls) where
+  abbrev whole : Reaches watchText watch-start text (told .lines) (second (at-end b rs os) (run-end rels t ls)) []
+  whole = told .whole
+
+  ran : Ran rs os rels t ls × (parts whole .middle ≡ runLines rels t ls)
+  ran = run-told rs os (parts whole .after)
+
   pub run-says : RunSays text b rs os rels t ls
   run-says = record {
-    front = table-front .front;
-    joins = table-front .joins ∙ ap (λ x. table-front .front ++ x) (ran .1);
-    reviewed = tells-table;
-    none-holds = holds unheld at-board Kept kept table-lines;
+    front = table-front whole .front;
+    joins = table-front whole .joins ∙ ap (λ x. table-front whole .front ++ x) (ran .1);
+    reviewed = tells-table whole;
+    none-holds = no-holds whole;
     one-each = ran .0 .released .one-each;
     releases-in = ran .0 .released .in-limits;
     first-release = λ i j l h e.
-        ap (λ p. getD rels p 0) (position-is rs j (getD os i 0) (sound .rows-distinct) h e);
+        ap (λ p. getD rels p 0) (position-is rs j (getD os i 0) (sound whole .rows-distinct) h e);
     some-ticks = ran .0 .ticks .low-le;
     few-ticks = ran .0 .ticks .le-high;
     few-lengths = ran .0 .few;

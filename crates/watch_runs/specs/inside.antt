@@ -1,0 +1,4 @@
+-- What functions promise each other: nothing here is needed to believe what the public calls promise.
+pub mod Owners
+pub mod States
+pub mod Runs

@@ -1,0 +1,4 @@
+-- Laws of the watcher's way through a text.
+pub mod Numbers
+pub mod Reached
+pub mod Fronts
