@@ -59,7 +59,7 @@ module _ {text ns : List ℕ} {r : Reading} (a : ReadAs true text ns r) (ok : Ac
     order-is : order ≡ ranking (answer .order)
     order-is = is ∙ ap ranking ranks-are
 
-    tasks-are : ranked order ≡ answer .order
+    pub tasks-are : ranked order ≡ answer .order
     tasks-are = ap ranked order-is ∙ ranked-are (answer .order)
 
     pub given-tasked : Tasked (behindHead ns) (r .count) order

@@ -21,7 +21,7 @@ module _ {ns : List ℕ} {n : ℕ} {order : Order} (t : Tasked ns n order) (ps q
   table : List Row
   table = rowsOf n ns
 
-  tasks-are : ranked order ≡ take n (order .tasks)
+  pub tasks-are : ranked order ≡ take n (order .tasks)
   tasks-are = ap (λ (k : ℕ). take k (order .tasks)) (t .as-many)
 
   below : Below n (take n qs)
@@ -38,7 +38,7 @@ module _ {ns : List ℕ} {n : ℕ} {order : Order} (t : Tasked ns n order) (ps q
       ∙ rows-for-positions (order .tasks) (rowsOf n ns) n ps qs tasks-held is
       ∙ ap (λ (ts : List ℕ). rowsFor ts (rowsOf n ns)) (sym tasks-are)
 
-  spot : (j : ℕ) → j < n → getD qs j 0 < n
+  pub spot : (j : ℕ) → j < n → getD qs j 0 < n
   spot j h =
       subst (λ (k : ℕ). k < n) (getD-take n qs j 0 h) (below j (omega (arith, length-take-le n qs room)))
 

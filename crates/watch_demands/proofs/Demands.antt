@@ -6,27 +6,20 @@ use mathlib.Core.List.{List, [], _∷_}
 use mathlib.Core.Logic.{_⊎_, inl, inr, _↔_}
 use Prim.Native.Nat.{ℕ, zero, suc, _≤_, _<_}
 use native.Mathlib.Omega.{arith}
-use lib.Dec.{leb}
 use lib.IntN.{ℤ}
 use lib.ListN.{length}
-use borrow.Author.Tests.{leb-true, le-leb}
 use Rattle.basics.specs.Basics.{isIn}
-use Rattle.basics.proofs.Tests.{le-or-lt, and-both}
+use Rattle.basics.proofs.Tests.{le-or-lt}
 use Rattle.grammars.specs.Forms.{size}
 use Rattle.grammars.specs.Grammars.{Verdict, accepted, refused, read}
 use Rattle.grammars.specs.Sequences.{first, second}
 use Rattle.grammars.specs.Claims.{Decides}
 use Rattle.grammars.proofs.Decision.{decides, refused-some, refused-small}
-use Rattle.rows.specs.Rows.{inRange, allRows, rowAt, rowsFor, tasksOf, cost}
+use Rattle.rows.specs.Rows.{rowAt, rowsFor, cost}
 use Rattle.rows.specs.declared.Row.{Row}
-use Rattle.rows.proofs.Limits.{limits, at-passes}
 use Rattle.tables.specs.TableLines.{at-end, tableOf}
 use Rattle.tables.specs.Claims.{Accepted}
 use Rattle.tables.proofs.Refusals.{fault-small}
-use Rattle.responses.specs.Claims.{NoneHolds}
-use Rattle.orders.specs.Orders.{Possible}
-use Rattle.orders.proofs.Possible.{possible-passes}
-use Rattle.orders.proofs.Tasks.{possible-tasks, rows-for}
 use Rattle.boards.specs.Boards.{Done}
 use Rattle.boards.specs.Claims.{LastsInRange, NoneLate}
 use Rattle.boards.specs.Witnesses.{never}
@@ -34,7 +27,7 @@ use Rattle.plans.specs.Entries.{firstLate}
 use Rattle.plans.specs.Outcomes.{Outcome, writes, refuses, fitted}
 use Rattle.plans.proofs.Outcomes.{fits, fits-not, Numbered}
 use Rattle.plans.proofs.Entries.{first-late-none}
-use Rattle.demands.specs.Demands.{Promised, Given, FirstLate}
+use Rattle.demands.specs.Demands.{FirstLate}
 use Rattle.demands.proofs.Outcomes.{same-refusal, not-both, zero-or-more, nine-is, written-is, up-to-six, numbered}
 use Rattle.demands.proofs.Promises.{promised}
 use Rattle.demands.proofs.Reviewer.{none-late-first, first-of, first-is}
@@ -43,18 +36,19 @@ use Rattle.watch_demands.specs.Runs.{finishedText, finishedBy, runText, 
 use Rattle.watch_demands.specs.WatchLines.{run-end, offsetOf, WatchStage, watchText, watch-start}
 use Rattle.watch_demands.specs.Calls.{runInTime, onWatch, watched}
 use Rattle.watch_demands.specs.Demands.{TellsRun, FailsRun, RunSays, RunOf, watcherRefusals, WatchDemands}
+use Rattle.watch_demands.proofs.Given.{is-given, given-only, order-in-range, order-limits, order-unheld}
 use Rattle.watch_demands.proofs.Merges.{indexed}
 use Rattle.watch_demands.proofs.Finished.{finished-within}
 use Rattle.watch_demands.proofs.Texts.{watch-plain, Ended, at-both, ended, sound, run-says}
 use Rattle.watch_demands.proofs.Kept.{lasts, finished-same, run-kept}
 
 -- ---- by the first late rank
-late-run : (room : ℕ) (order : List Row) (offset : ℕ → ℕ) (ls : List ℕ) (t k : ℕ) → firstLate order ≡ suc k
+pub late-run : (room : ℕ) (order : List Row) (offset : ℕ → ℕ) (ls : List ℕ) (t k : ℕ) → firstLate order ≡ suc k
     → runInTime room order offset ls t ≡ refuses 7 (suc k)
 unfolding runInTime
 late-run room order offset ls t k e = rw (e, runInTime)
 
-timely-run : (room : ℕ) (order : List Row) (offset : ℕ → ℕ) (ls : List ℕ) (t : ℕ) → firstLate order ≡ 0
+pub timely-run : (room : ℕ) (order : List Row) (offset : ℕ → ℕ) (ls : List ℕ) (t : ℕ) → firstLate order ≡ 0
     → runInTime room order offset ls t ≡ fitted room (runText order offset ls t)
 unfolding runInTime
 timely-run room order offset ls t e = rw (e, runInTime)
@@ -69,12 +63,6 @@ number-small text n k why = (
   refused-some (why .condition),
   refused-small 6 (omega arith) (fault-up-to-six (why .state)) (why .condition),
 )
-
-every-passes : (f : Row → Bool) (rs : List Row) → ((i : ℕ) → i < length rs → f (rowAt rs i) ≡ true)
-    → allRows f rs ≡ true
-every-passes f [] h = refl
-every-passes f (r ∷ rs) h =
-    and-both (f r) (allRows f rs) (h 0 (omega arith)) (every-passes f rs (λ i l. h (suc i) (omega arith)))
 
 -- ---- the run that a text tells
 module _ (text : List ℕ) (b : ℕ) (rs : List Row) (os rels : List ℕ) (t : ℕ) (ls : List ℕ)
@@ -91,36 +79,16 @@ module _ (text : List ℕ) (b : ℕ) (rs : List Row) (os rels : List ℕ) (t : �
   table-sound : Accepted true (tableOf b rs os)
   table-sound = sound (told .whole)
 
-  is-possible : Possible order rs × (tasksOf order ≡ os)
-  is-possible = possible-tasks os rs (table-sound .ranks-possible refl)
-
-  pub order-in-range : allRows inRange order ≡ true
-  order-in-range = possible-passes inRange (is-possible .0) (table-sound .rows-in-range)
-
-  -- what each row of a table has, each of an order of it has
-  pub order-unheld : NoneHolds order
-  order-unheld i l =
-      let short : Row → Bool = λ r. leb (r .hold) 1 in
-      let all = every-passes short rs (λ j h. le-leb (rowAt rs j .hold) 1 (omega (arith, says .none-holds j h))) in
-      leb-true (rowAt order i .hold) 1 (at-passes short order i (possible-passes short (is-possible .0) all) l)
-
-  pub is-given : Given rs os order
-  is-given = record { possible = is-possible .0; tasks-are = is-possible .1 }
-
-  pub given-only : (os′ : List Row) → Given rs os os′ → order ≡ os′
-  given-only os′ g =
-      ap (λ (ts : List ℕ). rowsFor ts rs) (sym (g .tasks-are)) ∙ rows-for (table-sound .rows-distinct) (g .possible)
-
   run-indexed : Indexed order offset
   run-indexed =
-      indexed order offset (λ j l. limits (rowAt order j) (at-passes inRange order j order-in-range l) .period .low-le)
+      indexed order offset (λ j l. order-limits (tableOf b rs os) table-sound j l .period .low-le)
 
   run-lasts : LastsInRange order (lengthOf order offset ls)
   unfolding cost
   run-lasts = lasts order offset ls run-indexed sane (says .lengths-in)
     where
       sane : (i : ℕ) → i < length order → rowAt order i .best ≤ cost (rowAt order i)
-      sane i l = let x = limits (rowAt order i) (at-passes inRange order i order-in-range l) in omega (arith, x .best-worst)
+      sane i l = omega (arith, order-limits (tableOf b rs os) table-sound i l .best-worst)
 
   -- ---- what it comes to
   module _ (room : ℕ) where
@@ -162,24 +130,24 @@ module _ (text : List ℕ) (b : ℕ) (rs : List Row) (os rels : List ℕ) (t : �
           subst (λ x. (outcome ≡ writes (finishedText order x)) ↔ (length (finishedText order x) ≤ room))
           (sym (is keeps ds w)) (written-is room lines outcome (timely h));
       some-run = λ keeps. (_, finished-within order offset (lengthOf order offset ls) keeps t);
-      promised = λ h. promised order order-in-range h;
+      promised = λ h. promised order (order-in-range (tableOf b rs os) table-sound) h;
       kept = λ h keeps ds w.
-          run-kept order offset ls (promised order order-in-range h) run-lasts keeps t ds w;
+          run-kept order offset ls (promised order (order-in-range (tableOf b rs os) table-sound) h) run-lasts keeps t ds w;
     }
       where
         is : (keeps : ℕ → Bool) (ds : List Done) → FinishedWithin order offset (lengthOf order offset ls) keeps t ds
             → ds ≡ finishedBy order offset ls t
-        is keeps ds w = finished-same order offset ls order-unheld keeps t ds w
+        is keeps ds w = finished-same order offset ls (order-unheld (tableOf b rs os) table-sound (says .none-holds)) keeps t ds w
 
 -- ---- how the outcome comes about
 module _ (text : List ℕ) where
-  abbrev verdict : Verdict WatchStage
+  abbrev pub verdict : Verdict WatchStage
   verdict = read watchText watch-start text
 
   decided : Decides watchText watch-start text
   decided = decides watchText watch-plain watch-start text
 
-  watched-is : (room : ℕ) (v : Verdict WatchStage) → verdict ≡ v → watched text room ≡ onWatch room v
+  pub watched-is : (room : ℕ) (v : Verdict WatchStage) → verdict ≡ v → watched text room ≡ onWatch room v
   unfolding watched
   watched-is room v e = ap (onWatch room) e
 
@@ -253,10 +221,10 @@ module _ (text : List ℕ) where
       listed = listed (as-read room);
       refused = refused-exactly (as-read room);
       says = λ b rs os rels t ls told.
-          (run-says text b rs os rels t ls told, is-given text b rs os rels t ls told);
+          (run-says text b rs os rels t ls told, is-given (tableOf b rs os) (sound (told .whole)));
       accepted = λ b rs os rels t ls told order g.
           subst (λ o. RunOf o (offsetOf rs os rels) ls room t (watched text room))
-          (given-only text b rs os rels t ls told order g)
+          (given-only (tableOf b rs os) (sound (told .whole)) order g)
           (subst (RunOf (rowsFor os rs) (offsetOf rs os rels) ls room t)
           (sym (tells-is room b rs os rels t ls told)) (run-of text b rs os rels t ls told room));
     }
@@ -278,7 +246,7 @@ module _ (text : List ℕ) where
           text-of = runText given from ls t
 
           run : RunOf given from ls room t w
-          run = d .accepted b rs os rels t ls told given (is-given text b rs os rels t ls told)
+          run = d .accepted b rs os rels t ls told given (is-given (tableOf b rs os) (sound (told .whole)))
 
           within : FinishedWithin given from (lengthOf given from ls) never t finished
           within = finished-within given from (lengthOf given from ls) never t

@@ -6,5 +6,6 @@ pub mod Fronts
 pub mod Unheld
 pub mod RunTexts
 pub mod Texts
+pub mod Given
 pub mod Kept
 pub mod Demands

@@ -28,7 +28,7 @@ use Rattle.watch_demands.specs.Runs.{jobText, finishedText}
 use Rattle.watch_runs.specs.declared.steps.Ticked.{Ticked}
 use Rattle.watch_runs.specs.inside.Owners.{Sought}
 use Rattle.watch_runs.specs.inside.States.{SlotIs, Shown, Suits, Begins, Steady, Steps, doneIn}
-use Rattle.watch_runs.specs.inside.Runs.{jobRoom, PutIf, WroteIf, Describes, Runnable, Runs}
+use Rattle.watch_runs.specs.inside.Runs.{jobRoom, runRoom, PutIf, WroteIf, Describes, Runnable, Runs}
 use Rattle.watch_runs.proofs.Slots.{slot-length, first-slot}
 
 -- ---- texts
@@ -174,7 +174,7 @@ module _ (ticks n : ℕ) (tasks periods costs owners lengths : List ℕ) (starts
       × (length o₂ ≡ length o₁))
 
   module _ {starts lefts slots o₁ : List ℕ} {end t : ℕ} (g : Running starts lefts slots o₁ end t) where
-    pub end-small : end ≤ 4000000000
+    pub end-small : end ≤ runRoom
     end-small = omega (arith, g .end-max, g .reached, g .soon)
 
     module _

@@ -4,7 +4,7 @@ ghost use Prim.Native.Nat.{_≤_};
 ghost use lib.ListN.{length};
 ghost use Rattle.text.specs.inside.Puts.{Put};
 ghost use Rattle.watch_demands.specs.Runs.{jobText};
-ghost use Rattle.watch_runs.specs.inside.Runs.{PutIf, Runnable, Startable, Runs, RunsOrder};
+ghost use Rattle.watch_runs.specs.inside.Runs.{runRoom, PutIf, Startable, Runnable, Runs, RunsOrder};
 pub use owners::fill_owners;
 use plans::Answer;
 use rows::MAX_TASKS;
@@ -17,6 +17,9 @@ use text::put_line;
 mod owners;
 mod steps;
 
+// The longest lines of a job: three keys with their line feeds, and three numbers of twenty digits.
+const JOB_ROOM: usize = 83;
+
 // A job's three lines, in a buffer that has room for any.
 fn job_lines(lines: &mut [u8], task: u64, release: u64, finish: u64) -> usize
     requires { ⌜ length (jobText task release finish) ≤ length (now lines) ⌝ }
@@ -27,12 +30,9 @@ fn job_lines(lines: &mut [u8], task: u64, release: u64, finish: u64) -> usize
     put_line(lines, at, b"finish=", finish)
 }
 
-// The longest lines of a job: three keys with their line feeds, and three numbers of twenty digits.
-const JOB_ROOM: usize = 83;
-
 // A job's lines at an offset, if they fit; and where they end, whether or not they do.
 fn put_job(out: &mut [u8], at: usize, task: u64, release: u64, finish: u64) -> usize
-    requires { ⌜ at ≤ 4000000000 ⌝ }
+    requires { ⌜ at ≤ runRoom ⌝ }
     ensures { λ r. ⌜ PutIf (jobText task release finish) at (now (out .entry)) (now (out .exit)) r ⌝ }
 {
     let mut lines = [0u8; JOB_ROOM];

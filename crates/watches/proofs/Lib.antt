@@ -2,3 +2,4 @@
 pub mod Numbers
 pub mod Reached
 pub mod Fronts
+pub mod Laid

@@ -1,5 +1,5 @@
--- Promises between functions: the owner of each of the first indices, which is the rank of the job that has it; and the
--- slots of a rank among the owners.
+-- Promises between functions: the owners of the first indices, found release by release, and the slots of a rank among
+-- them. A slot is a position in the list of lengths, or its end.
 use mathlib.Core.Path.{_≡_}
 use mathlib.Core.List.{List}
 use Prim.Native.Nat.{ℕ, _+_, _≤_, _<_}
@@ -14,6 +14,7 @@ use Rattle.watch_demands.proofs.Merges.{LeastIs}
 abbrev pub EarliestIs : ℕ → List ℕ → ℕ → Type 0
 EarliestIs n nexts r = LeastIs n (λ j. getD nexts j 0) r
 
+-- what is asked of the columns, so that the last release that is looked at is still a small number
 pub record Mergeable (n : ℕ) (owners offsets periods : List ℕ) : Type 0 where
   pub some : 1 ≤ n
   pub few : length owners ≤ maxLengths
@@ -29,6 +30,7 @@ pub record Released (order : List Row) (offset : ℕ → ℕ) (n : ℕ) (offsets
   pub period-is : (j : ℕ) → j < n → getD periods j 0 ≡ rowAt order j .period
   pub period-some : (j : ℕ) → j < n → 1 ≤ rowAt order j .period
 
+-- the owner of each index is the rank of the job that has it
 abbrev pub Owned : List Row → (ℕ → ℕ) → List ℕ → Type 0
 Owned order offset owners = (m : ℕ) → m < length owners → getD owners m 0 ≡ rankWith order offset m
 

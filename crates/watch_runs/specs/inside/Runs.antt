@@ -14,9 +14,12 @@ use Rattle.watch_runs.specs.inside.Owners.{Released, Owned}
 use Rattle.watch_runs.specs.inside.States.{Begins, Steady}
 
 -- ---- texts
--- the longest text of a job
+-- the longest text of a job, and of a run
 abbrev pub jobRoom : ℕ
 jobRoom = 83
+
+abbrev pub runRoom : ℕ
+runRoom = jobRoom * maxTicks
 
 -- a job's text at an offset, if it fits; and where it ends
 pub record PutIf (text : List ℕ) (at : ℕ) (buffer buffer′ : List ℕ) (end : ℕ) : Type 0 where
@@ -41,6 +44,7 @@ pub record Describes
   pub owned : Owned order offset owners
   pub as-many : length owners ≡ length lengths
 
+-- what a run asks of its columns, one number for each of n ranks
 pub record Startable (ticks n : ℕ) (tasks periods costs : List ℕ) : Type 0 where
   pub few : n ≤ maxTasks
   pub soon : ticks ≤ maxTicks
@@ -49,13 +53,14 @@ pub record Startable (ticks n : ℕ) (tasks periods costs : List ℕ) : Type 0 w
   pub costs-long : n ≤ length costs
   pub period-max : (j : ℕ) → j < n → getD periods j 0 ≤ maxTicks
 
+-- and once each rank's first job is found
 pub record Runnable (ticks n : ℕ) (starts lefts slots tasks periods costs owners lengths : List ℕ) : Type 0 where
   pub soon : ticks ≤ maxTicks
   pub steady : Steady 0 n starts lefts slots periods costs owners
   pub tasks-long : n ≤ length tasks
   pub begun : Begins n costs owners lengths lefts slots
 
--- whatever order the columns are of
+-- whatever order the columns are of, its text is written if it fits
 pub record Runs
     (ticks n : ℕ) (offsets tasks periods costs owners lengths : List ℕ) (buffer buffer′ : List ℕ) (long : ℕ)
     : Type 0 where
@@ -64,6 +69,7 @@ pub record Runs
       (order : List Row) (offset : ℕ → ℕ) → Describes order offset n offsets tasks periods costs owners lengths
       → WroteIf (runText order offset lengths ticks) buffer buffer′ long
 
+-- or refused
 abbrev pub RunsOrder : (ticks n : ℕ) (offsets tasks periods costs owners lengths buffer buffer′ : List ℕ)
     → Answer → Type 0
 RunsOrder ticks n offsets tasks periods costs owners lengths buffer buffer′ r =

@@ -63,6 +63,7 @@ pub record OrderedBy (ns : List ℕ) (n : ℕ) (t : TableIn ns n) (positions col
   pub ordered : Ordered (lentRows ns) positions n
   pub order-is : rowsIn (lentRows ns) (take n positions) ≡ orderOf t
   pub positions-are : take n positions ≡ positionsFor (tasksOf t) (rowsOf t)
+  pub within : (i : ℕ) → i < n → getD positions i 0 < n
   pub filled : Filled (orderOf t) n n columns
 
 -- whatever table the numbers are of
@@ -113,5 +114,7 @@ pub record Located (n : ℕ) (positions : List ℕ) : Type 0 where
   pub positions-held : n ≤ length positions
   pub located : (i : ℕ) → i < n → getD positions i 0 < maxTasks
 
-abbrev pub OffsetsAre : ℕ → List ℕ → List ℕ → List ℕ → Type 0
-OffsetsAre n releases positions offsets = (i : ℕ) → i < n → getD offsets i 0 ≡ getD releases (getD positions i 0) 0
+-- the first release at each of these positions
+pub record OffsetsAre (n : ℕ) (releases positions offsets : List ℕ) : Type 0 where
+  pub long : n ≤ length offsets
+  pub offset-is : (i : ℕ) → i < n → getD offsets i 0 ≡ getD releases (getD positions i 0) 0
