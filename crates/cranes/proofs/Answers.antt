@@ -101,10 +101,3 @@ unfolding craneText
 print-ends {text} {out₀ = out₀} {out = out} {at = at} {i = i} p n h =
     let none : drop i (pieces text) ≡ [] = drop-of-length-le (pieces text) {i = i} (omega arith) in
     from-start (ends (subst (λ ps. Going (answers (pieces text)) (answers ps) 0 out₀ at out) none (p .going)))
-
--- ---- a call whose answer has no number has written what its program prints
-pub written-prints : (w : Outcome) {o o′ : List ℕ} {r : Answer} → Numbered w → Written w o o′ r → r .number ≡ 0
-    → Wrote (printed w) o o′ (r .long)
-written-prints (writes t) n p e = record { long-is = ap (λ a. a .long) (p .returns); holds = p .holds }
-written-prints (refuses zero k) n p e = absurd (n k refl)
-written-prints (refuses (suc m) k) n p e = absurd (omega (arith, ap (λ a. a .number) (p .returns)))

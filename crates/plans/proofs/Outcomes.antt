@@ -87,3 +87,10 @@ pub prints : (w : Outcome) {o o′ o″ : List ℕ} {r : Answer} {long : ℕ} �
 prints w {o′ = o′} {o″ = o″} {long = long} n p q =
     let s = subst (λ t. Wrote t o′ o″ long) (to-print w n p) q in
     record { long-is = s .long-is; holds = s .holds ∙ over-again w p }
+
+-- a call whose answer has no number has written what its program prints
+pub written-prints : (w : Outcome) {o o′ : List ℕ} {r : Answer} → Numbered w → Written w o o′ r → r .number ≡ 0
+    → Wrote (printed w) o o′ (r .long)
+written-prints (writes t) n p e = record { long-is = ap (λ a. a .long) (p .returns); holds = p .holds }
+written-prints (refuses zero k) n p e = absurd (n k refl)
+written-prints (refuses (suc m) k) n p e = absurd (omega (arith, ap (λ a. a .number) (p .returns)))

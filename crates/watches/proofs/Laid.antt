@@ -185,7 +185,7 @@ module _ {ns : List ℕ} {n : ℕ} (t : TableIn ns n) (positions columns : List 
           ∙ (ap (λ (xs : List ℕ). getD xs (getD positions i 0) 0) front
           ∙ ap (λ (p : ℕ). getD vs p 0) (position-at i l)))
 
-      pub lay : ((i : ℕ) → i < length vs → getD vs i 0 ≤ maxRelease) → Laid ns n positions columns offsets
+      abbrev pub lay : ((i : ℕ) → i < length vs → getD vs i 0 ≤ maxRelease) → Laid ns n positions columns offsets
       lay few = record {
         table = t;
         releases = vs;
@@ -221,7 +221,7 @@ module _ {ns : List ℕ} {n : ℕ} {positions columns offsets : List ℕ} (l : L
   abbrev pub from : ℕ → List ℕ
   from at = take (length columns - at) (drop at columns)
 
-  period-limits : (j : ℕ) → j < n → (1 ≤ getD columns j 0) × (getD columns j 0 ≤ maxTicks)
+  pub period-limits : (j : ℕ) → j < n → (1 ≤ getD columns j 0) × (getD columns j 0 ≤ maxTicks)
   period-limits j h =
       let x = order-limits (readTable true (t .front)) (table-sound t) j (omega (arith, ranks-long t)) .period in
       (omega (arith, x .low-le, filled .periods j h), omega (arith, x .le-high, filled .periods j h))

@@ -3,3 +3,4 @@ pub mod Numbers
 pub mod Reached
 pub mod Fronts
 pub mod Laid
+pub mod Stages

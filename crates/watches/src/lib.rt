@@ -129,7 +129,8 @@ fn watch_run(
     )
 }
 
-// The lengths, each in the range of its own job's row, and the end of the text; and then the run.
+// The lengths, each in the range of its own job's row, and the end of the text; and then the run. There is room for as
+// many lengths as the text says, and for the rank of each.
 fn watch_lengths(
     text: &[u8],
     out: &mut [u8],
@@ -141,32 +142,23 @@ fn watch_lengths(
     columns: &[u64],
     offsets: [u64; MAX_TASKS],
     ticks: u64,
-    count: usize,
+    owners: &mut [usize],
+    lengths: &mut [u64],
 ) -> Answer
-    requires { ⌜ AtLengths (now text) at line (now numbers) n (now positions) (now columns) offsets ticks count ⌝ }
+    requires { ⌜ AtLengths (now text) at line (now numbers) n (now positions) (now columns) offsets ticks
+        (now owners) (now lengths) ⌝ }
     ensures { λ r. ⌜ Written (watched (now (text .entry)) (length (now (out .entry)))) (now (out .entry))
         (now (out .exit)) r ⌝ }
 {
-    let mut owners = [0usize; MAX_LENGTHS];
-    fill_owners(&mut owners[..count], offsets, columns, n);
-    let mut lengths = [0u64; MAX_LENGTHS];
+    fill_owners(owners, offsets, columns, n);
     let costs = &columns[n..];
     let bests = &columns[n + n..];
-    let owned = &owners[..count];
-    let answer = read_numbers(
-        text,
-        at,
-        line,
-        b"length=",
-        bests,
-        costs,
-        owned,
-        &mut lengths[..count],
-    );
+    let answer = read_numbers(text, at, line, b"length=", bests, costs, owners, lengths);
     let Line::Number(_, next) = answer else {
         return refused_by(answer);
     };
-    let end = end_at(text, next, line + count as u32);
+    let many = lengths.len() as u32;
+    let end = end_at(text, next, line + many);
     if let Line::Refused(number, place) = end {
         return Answer::refused(number, place);
     }
@@ -178,8 +170,8 @@ fn watch_lengths(
         columns,
         offsets,
         ticks,
-        owned,
-        &lengths[..count],
+        owners,
+        lengths,
     )
 }
 
@@ -207,7 +199,9 @@ fn watch_order(
     let Line::Number(count, next) = answer else {
         return refused_by(answer);
     };
-    let count = count as usize;
+    let many = count as usize;
+    let mut owners = [0usize; MAX_LENGTHS];
+    let mut lengths = [0u64; MAX_LENGTHS];
     watch_lengths(
         text,
         out,
@@ -219,7 +213,8 @@ fn watch_order(
         columns,
         offsets,
         ticks,
-        count,
+        &mut owners[..many],
+        &mut lengths[..many],
     )
 }
 

@@ -9,11 +9,10 @@ use Rattle.text.specs.Buffers.{Wrote}
 use Rattle.text.proofs.Puts.{wrote-counts}
 use Rattle.plans.specs.Outcomes.{Written}
 use Rattle.plans.proofs.Lengths.{refusal-length}
-use Rattle.plans.proofs.Outcomes.{Numbered, print-refused, prints}
+use Rattle.plans.proofs.Outcomes.{Numbered, print-refused, prints, written-prints}
 use Rattle.demands.proofs.Outcomes.{numbered}
 use Rattle.crane_demands.specs.Calls.{craned, craneRoom}
 use Rattle.crane_demands.specs.Demands.{craneRefusals}
-use Rattle.cranes.proofs.Answers.{written-prints}
 use Rattle.cranes.proofs.print_crane.Statement.{statement}
 use Rattle.cranes.proofs.print_crane.Tie as tie
 

@@ -1,43 +1,54 @@
+-- A text that is refused in its table is the call's refusal; what follows the table comes to the outcome.
+use mathlib.Core.Path.{_≡_}
+use mathlib.Core.List.{List}
+use mathlib.Core.Logic.{inl}
+use Prim.Native.Nat.{ℕ}
+use native.Mathlib.Omega.{arith}
 use borrow.Author.Needs.{needs}
+use lib.ListN.{length}
+use Rattle.plans.specs.declared.Answer.{Answer}
+use Rattle.plans.specs.Outcomes.{Written}
+use Rattle.watch_demands.specs.Calls.{watched}
+use Rattle.watch_demands.specs.Demands.{WatchSays}
+use Rattle.watch_demands.proofs.Demands.{watch-demands, decided-by}
+use Rattle.watches.proofs.Stages.{refused-text}
 use Rattle.watches.proofs.watch_board.Statement.{statement}
 use Rattle.watches.proofs.watch_board.Tie as tie
-use Rattle.watches.proofs.watch_board.Reads as reads
-use Rattle.watches.proofs.watch_board.Lts as lts
-use Rattle.plans.proofs.Answer.refused.Reads as refused-reads
-use Rattle.watches.proofs.front.read_front.Reads as read-front-reads
-use Rattle.watches.proofs.watch_table.Reads as watch-table-reads
 
--- src/lib.rt:279:34
+-- with the demands, which hold of every text
+says : (text o o′ : List ℕ) (r : Answer) → Written (watched text (length o)) o o′ r → WatchSays text o o′ r
+says text o o′ r w =
+    record { answer = w; demands = watch-demands text (length o); no-other = decided-by text (length o) }
+
 slice-aggregate-read-front : tie.Need-slice-aggregate-read-front
 slice-aggregate-read-front c = search needs
 
--- src/lib.rt:279:9
 read-front-requires : tie.Need-read-front-requires
-read-front-requires c κs = ?
+read-front-requires c κs = inl (omega arith)
 
--- src/lib.rt:281:9
 refused-requires : tie.Need-refused-requires
 refused-requires c κs = search needs
 
--- src/lib.rt:281:9
 returns : tie.Need-returns
-returns c = ?
+returns c =
+    let s = c .before .before .before .before .before .before .before in
+    says (s .args .text .now) (s .args .out .now) _ _
+    (refused-text (s .args .text .now) (s .args .out .now) (c .before .before .before .read-front .ensures .refused-is (c .before .if1 .taken))
+    (c .refused .ensures))
 
--- src/lib.rt:284:54
 slice-aggregate-watch-table : tie.Need-slice-aggregate-watch-table
 slice-aggregate-watch-table c = search needs
 
--- src/lib.rt:284:5
 watch-table-requires : tie.Need-watch-table-requires
-watch-table-requires c κs = ?
+watch-table-requires c κs = c .before .before .before .before .before .read-front .ensures .table-read (c .before .before .before .if1 .left)
 
--- src/lib.rt:275:1
 same-length : tie.Need-same-length
 same-length c = search needs
 
--- src/lib.rt:275:1
 returns-2 : tie.Need-returns-2
-returns-2 c = ?
+returns-2 c =
+    let s = c .before .before .before .before .before .before .before .before .before .before .before .before in
+    says (s .args .text .now) (s .args .out .now) _ _ (c .before .before .watch-table .ensures)
 
 pub watch-board-spec : {M : Type 1} → statement M
 watch-board-spec =

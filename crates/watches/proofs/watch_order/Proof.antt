@@ -1,69 +1,97 @@
+-- The ticks and the number of lengths are read, and room for so many is lent.
+use mathlib.Core.Path.{_≡_, refl, sym, _∙_}
+use Prim.Native.Nat.{ℕ, _≤_}
+use native.Mathlib.Omega.{arith}
 use borrow.Author.Needs.{needs}
+use lib.ListN.{length, take}
+use lib.Seq.{length-take-le}
+use Rattle.watch_demands.specs.WatchLines.{maxLengths}
+use Rattle.watches.proofs.Stages.{refused-text, ticks-refused, count-refused, count-small, at-lengths-then}
 use Rattle.watches.proofs.watch_order.Statement.{statement}
 use Rattle.watches.proofs.watch_order.Tie as tie
-use Rattle.watches.proofs.watch_order.Reads as reads
-use Rattle.watches.proofs.watch_order.Lts as lts
-use Rattle.text.proofs.line_at.Reads as line-at-reads
-use Rattle.watches.proofs.refused_by.Reads as refused-by-reads
-use Rattle.watches.proofs.watch_lengths.Reads as watch-lengths-reads
 
--- src/lib.rt:202:42
 slice-aggregate-line-at : tie.Need-slice-aggregate-line-at
 slice-aggregate-line-at c = search needs
 
--- src/lib.rt:202:9
 line-at-requires : tie.Need-line-at-requires
 line-at-requires c κs = search needs
 
--- src/lib.rt:203:22
 enum-known-answer : tie.Need-enum-known-answer
 enum-known-answer c = search needs
 
--- src/lib.rt:204:9
 refused-by-requires : tie.Need-refused-by-requires
 refused-by-requires c κs = search needs
 
--- src/lib.rt:204:9
 returns : tie.Need-returns
-returns c = ?
+returns c =
+    let s = c .before .before .before .before .before .before .before .before .before in
+    let a = c .before .before .line-at in
+    refused-text (s .args .text .now) (s .args .out .now)
+    (ticks-refused _ _ _ _ _ _ _ _ (s .pre) (a .result) (c .before .match .keys2) (a .ensures))
+    (c .refused-by .ensures)
 
--- src/lib.rt:206:38
 add-line-at : tie.Need-add-line-at
 add-line-at c = search needs
 
--- src/lib.rt:206:48
 slice-aggregate-line-at-2 : tie.Need-slice-aggregate-line-at-2
 slice-aggregate-line-at-2 c = search needs
 
--- src/lib.rt:206:9
 line-at-requires-2 : tie.Need-line-at-requires-2
 line-at-requires-2 c κs = search needs
 
--- src/lib.rt:207:22
 enum-known-answer-2 : tie.Need-enum-known-answer-2
 enum-known-answer-2 c = search needs
 
--- src/lib.rt:208:9
 refused-by-requires-2 : tie.Need-refused-by-requires-2
 refused-by-requires-2 c κs = search needs
 
--- src/lib.rt:208:9
 returns-2 : tie.Need-returns-2
-returns-2 c = ?
+returns-2 c =
+    let s = c .before .before .before .before .before .before .before .before .before .before .before .before .before .before in
+    let d = c .before .before .before .before .before .answer .given in
+    let a = c .before .before .line-at2 in
+    refused-text (s .args .text .now) (s .args .out .now)
+    (count-refused _ _ _ _ _ _ _ _ (s .pre) (d .0 .0) (d .0 .1 .0) (sym (c .before .before .before .before .before .before .before .line-at .ensures) ∙ d .1) (a .result)
+    (c .before .match2 .keys2) (a .ensures))
+    (c .refused-by2 .ensures)
 
--- src/lib.rt:215:9
 add-watch-lengths : tie.Need-add-watch-lengths
 add-watch-lengths c = search needs
 
--- src/lib.rt:211:5
-watch-lengths-requires : tie.Need-watch-lengths-requires
-watch-lengths-requires c κs = ?
+-- no more than there is room for
+few : (c : tie.After-watch-lengths-arg) → c .before .before .answer2 .given .0 .0 ≤ maxLengths
+few c =
+    let s = c .before .before .before .before .before .before .before .before .before .before .before .before .before .before .before .before in
+    let d = c .before .before .before .before .before .before .before .answer .given in
+    let e = c .before .before .answer2 .given in
+    count-small _ _ _ _ _ _ _ _ (s .pre) (d .0 .0) (d .0 .1 .0) (sym (c .before .before .before .before .before .before .before .before .before .line-at .ensures) ∙ d .1) (e .0 .0) (e .0 .1 .0)
+    (sym (c .before .before .before .before .line-at2 .ensures) ∙ e .1)
 
--- src/lib.rt:187:1
+array-borrow-prefix-owners : tie.Need-array-borrow-prefix-owners
+array-borrow-prefix-owners c = few c
+
+slice-aggregate-watch-lengths : tie.Need-slice-aggregate-watch-lengths
+slice-aggregate-watch-lengths c = sym (length-take-le _ _ (few (c .before)))
+
+array-borrow-prefix-lengths : tie.Need-array-borrow-prefix-lengths
+array-borrow-prefix-lengths c = few (c .before)
+
+slice-aggregate-watch-lengths-2 : tie.Need-slice-aggregate-watch-lengths-2
+slice-aggregate-watch-lengths-2 c = sym (length-take-le _ _ (few (c .before .before)))
+
+watch-lengths-requires : tie.Need-watch-lengths-requires
+watch-lengths-requires c κs =
+    let s = c .before .before .before .before .before .before .before .before .before .before .before .before .before .before .before .before .before .before in
+    let d = c .before .before .before .before .before .before .before .before .before .answer .given in
+    let e = c .before .before .before .before .answer2 .given in
+    at-lengths-then _ _ _ _ _ _ _ _ (s .pre) (d .0 .0) (d .0 .1 .0) (sym (c .before .before .before .before .before .before .before .before .before .before .before .line-at .ensures) ∙ d .1)
+    (e .0 .0) (e .0 .1 .0) (sym (c .before .before .before .before .before .before .line-at2 .ensures) ∙ e .1) _ _
+    (length-take-le _ _ (few (c .before .before)))
+    (length-take-le _ _ (few (c .before .before)))
+
 same-length : tie.Need-same-length
 same-length c = search needs
 
--- src/lib.rt:187:1
 returns-3 : tie.Need-returns-3
 returns-3 c = search needs
 
@@ -83,6 +111,10 @@ watch-order-spec =
     refused-by-requires-2
     returns-2
     add-watch-lengths
+    array-borrow-prefix-owners
+    slice-aggregate-watch-lengths
+    array-borrow-prefix-lengths
+    slice-aggregate-watch-lengths-2
     watch-lengths-requires
     same-length
     returns-3)

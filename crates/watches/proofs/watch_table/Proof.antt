@@ -1,103 +1,113 @@
+-- The first releases are read, all in one range, and the order is laid out with them.
+use mathlib.Core.Path.{_≡_, refl, sym, ap, subst, _∙_}
+use Prim.Native.Nat.{ℕ, _≤_}
+use native.Mathlib.Omega.{arith}
 use borrow.Author.Needs.{needs}
+use lib.ListN.{length, getD, take, drop, replicate}
+use lib.Seq.{length-take-le}
+use Rattle.watches.specs.inside.Lines.{ReadsNumbers}
+use Rattle.watches.proofs.Laid.{few-rows, located}
+use Rattle.watches.proofs.Stages.{zeros, array-front, refused-text, releases-refused, at-ticks-then}
 use Rattle.watches.proofs.watch_table.Statement.{statement}
 use Rattle.watches.proofs.watch_table.Tie as tie
-use Rattle.watches.proofs.watch_table.Reads as reads
-use Rattle.watches.proofs.watch_table.Lts as lts
-use Rattle.watches.proofs.lay_out.Reads as lay-out-reads
-use Rattle.watches.proofs.lines.read_numbers.Reads as read-numbers-reads
-use Rattle.watches.proofs.offsets_for.Reads as offsets-for-reads
-use Rattle.watches.proofs.refused_by.Reads as refused-by-reads
-use Rattle.watches.proofs.watch_order.Reads as watch-order-reads
 
--- src/lib.rt:247:9
 slice-aggregate-read-numbers : tie.Need-slice-aggregate-read-numbers
 slice-aggregate-read-numbers c = search needs
 
--- src/lib.rt:248:9
 slice-aggregate-read-numbers-2 : tie.Need-slice-aggregate-read-numbers-2
 slice-aggregate-read-numbers-2 c = search needs
 
--- src/lib.rt:249:9
 slice-aggregate-read-numbers-3 : tie.Need-slice-aggregate-read-numbers-3
 slice-aggregate-read-numbers-3 c = search needs
 
--- src/lib.rt:250:9
 array-share-prefix-ranges : tie.Need-array-share-prefix-ranges
-array-share-prefix-ranges c = ?
+array-share-prefix-ranges c = few-rows (c .before .before .before .before .before .before .pre .table)
 
--- src/lib.rt:250:9
 slice-aggregate-read-numbers-4 : tie.Need-slice-aggregate-read-numbers-4
-slice-aggregate-read-numbers-4 c = ?
+slice-aggregate-read-numbers-4 c = sym (length-take-le _ _ (few-rows (c .before .before .before .before .before .before .before .pre .table)))
 
--- src/lib.rt:251:9
 array-borrow-prefix-releases : tie.Need-array-borrow-prefix-releases
-array-borrow-prefix-releases c = ?
+array-borrow-prefix-releases c = few-rows (c .before .before .before .before .before .before .before .pre .table)
 
--- src/lib.rt:251:9
 slice-aggregate-read-numbers-5 : tie.Need-slice-aggregate-read-numbers-5
-slice-aggregate-read-numbers-5 c = ?
+slice-aggregate-read-numbers-5 c = sym (length-take-le _ _ (few-rows (c .before .before .before .before .before .before .before .before .pre .table)))
 
--- src/lib.rt:243:9
 read-numbers-requires : tie.Need-read-numbers-requires
-read-numbers-requires c κs = ?
+read-numbers-requires c κs =
+    let s = c .before .before .before .before .before .before .before .before in
+    let few = few-rows (s .pre .table) in
+    let long : length {A = ℕ} (take (s .args .n) (replicate 16 0)) ≡ s .args .n = length-take-le _ _ few in (
+      refl,
+      record {
+        soon = omega (arith, long, s .pre .soon, few);
+        as-many = refl;
+        owned = λ m l. (omega (arith, zeros (s .args .n) 16 m), omega (arith, zeros (s .args .n) 16 m));
+      },
+    )
 
--- src/lib.rt:253:25
 enum-known-answer : tie.Need-enum-known-answer
 enum-known-answer c = search needs
 
--- src/lib.rt:254:9
 refused-by-requires : tie.Need-refused-by-requires
 refused-by-requires c κs = search needs
 
--- src/lib.rt:254:9
 returns : tie.Need-returns
-returns c = ?
+returns c =
+    let s = c .before .before .before .before .before .before .before .before .before .before .before .before in
+    let r = c .before .before .before .read-numbers in
+    refused-text (s .args .text .now) (s .args .out .now)
+    (releases-refused _ _ _ _ _ (s .pre) (take (s .args .n) (replicate 16 0)) (zeros (s .args .n) 16) (r .last .1 .1 .1 .1 .1 .1 .1 .0)
+    (r .kept .1 .1 .1 .1 .1 .1 .1 .0 ∙ length-take-le _ _ (few-rows (s .pre .table))) (r .result) (c .before .match .keys2) (r .ensures))
+    (c .refused-by .ensures)
 
--- src/lib.rt:258:25
 slice-aggregate-lay-out : tie.Need-slice-aggregate-lay-out
 slice-aggregate-lay-out c = search needs
 
--- src/lib.rt:258:41
 slice-aggregate-lay-out-2 : tie.Need-slice-aggregate-lay-out-2
 slice-aggregate-lay-out-2 c = search needs
 
--- src/lib.rt:258:5
 lay-out-requires : tie.Need-lay-out-requires
-lay-out-requires c κs = ?
+lay-out-requires c κs =
+    let s = c .before .before .before .before .before .before .before .before .before .before .before .before .before .before .before in
+    let few = few-rows (s .pre .table) in
+    (s .pre .table, few, omega (arith, few))
 
--- src/lib.rt:259:41
 slice-aggregate-offsets-for : tie.Need-slice-aggregate-offsets-for
 slice-aggregate-offsets-for c = search needs
 
--- src/lib.rt:259:9
 offsets-for-requires : tie.Need-offsets-for-requires
-offsets-for-requires c κs = ?
+offsets-for-requires c κs =
+    let s = c .before .before .before .before .before .before .before .before .before .before .before .before .before .before .before .before .before .before .before in
+    let o = c .before .before .before .lay-out in
+    (few-rows (s .pre .table), located (s .pre .table) _ _ (o .ensures (s .pre .table)))
 
--- src/lib.rt:264:16
 cast-watch-order : tie.Need-cast-watch-order
 cast-watch-order c = search needs
 
--- src/lib.rt:264:9
 add-watch-order : tie.Need-add-watch-order
 add-watch-order c = search needs
 
--- src/lib.rt:267:9
 slice-aggregate-watch-order : tie.Need-slice-aggregate-watch-order
 slice-aggregate-watch-order c = search needs
 
--- src/lib.rt:268:9
 slice-aggregate-watch-order-2 : tie.Need-slice-aggregate-watch-order-2
 slice-aggregate-watch-order-2 c = search needs
 
--- src/lib.rt:260:5
 watch-order-requires : tie.Need-watch-order-requires
-watch-order-requires c κs = ?
+watch-order-requires c κs =
+    let s = c .before .before .before .before .before .before .before .before .before .before .before .before .before .before .before .before .before .before .before .before .before .before .before in
+    let r = c .before .before .before .before .before .before .before .before .before .before .before .before .before .before .read-numbers in
+    let d = c .before .before .before .before .before .before .before .before .before .before .before .answer .given in
+    let o = c .before .before .before .before .before .before .before .lay-out in
+    at-ticks-then _ _ _ _ _ (s .pre) (take (s .args .n) (replicate 16 0)) (zeros (s .args .n) 16) (r .last .1 .1 .1 .1 .1 .1 .1 .0)
+    (r .kept .1 .1 .1 .1 .1 .1 .1 .0 ∙ length-take-le _ _ (few-rows (s .pre .table))) (d .0 .1 .0)
+    (subst (ReadsNumbers _ _ _ _ _ _ (r .last .1 .1 .1 .1 .1 .1 .1 .0)) (d .1) (r .ensures)) _ _ _ _ (o .ensures (s .pre .table))
+    (array-front _ _ _ (r .kept .1 .1 .1 .1 .1 .1 .1 .0 ∙ length-take-le _ _ (few-rows (s .pre .table))))
+    (c .before .before .before .offsets-for .ensures)
 
--- src/lib.rt:227:1
 same-length : tie.Need-same-length
 same-length c = search needs
 
--- src/lib.rt:227:1
 returns-2 : tie.Need-returns-2
 returns-2 c = search needs
 

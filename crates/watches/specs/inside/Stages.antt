@@ -92,13 +92,15 @@ pub record AtTicks (text : List ℕ) (at k : ℕ) (ns : List ℕ) (n : ℕ) (pos
   pub resumes : Resumes text (behind (laid .table) (at-ticks (laid .releases))) at k
   pub soon : k ≤ 2000
 
-pub record AtLengths (text : List ℕ) (at k : ℕ) (ns : List ℕ) (n : ℕ) (positions columns offsets : List ℕ)
-    (ticks count : ℕ) : Type 0 where
+-- with room for the lengths and their owners
+pub record AtLengths (text : List ℕ) (at k : ℕ) (ns : List ℕ) (n : ℕ) (positions columns offsets : List ℕ) (ticks : ℕ)
+    (owners lengths : List ℕ) : Type 0 where
   pub laid : Laid ns n positions columns offsets
-  pub resumes : Resumes text (behind (laid .table) (lengthsStage count (laid .releases) ticks [])) at k
+  pub resumes : Resumes text (behind (laid .table) (lengthsStage (length lengths) (laid .releases) ticks [])) at k
   pub soon : k ≤ 3000
   pub few-ticks : ticks ≤ maxTicks
-  pub few : count ≤ maxLengths
+  pub few : length lengths ≤ maxLengths
+  pub as-many : length owners ≡ length lengths
 
 -- ---- the run of whatever order it is
 abbrev pub RunsLaid : (ns : List ℕ) (n : ℕ) (positions columns offsets : List ℕ) (ticks : ℕ) (owners lengths : List ℕ)
