@@ -2,8 +2,9 @@
 //! texts in one run, and looks for a slow table. See `docs/TESTING.md`.
 
 mod dice;
-mod library;
 // Of these files only a part is needed here.
+#[allow(dead_code)]
+mod library;
 #[allow(dead_code)]
 mod model;
 #[allow(dead_code)]

@@ -1,7 +1,7 @@
 //! One call of the library held to the model: the answer and every byte of the buffer.
 
-use crate::library;
 use crate::model::{self, Answer, Outcome, Row, MOST_PIECES};
+use crate::{library, watches};
 use std::fmt::Write;
 
 /// A buffer longer than any plan.
@@ -13,11 +13,15 @@ pub const CRANE_AMPLE: usize = MOST_PIECES * AMPLE;
 /// Bytes before and after the lent buffer that no call may touch.
 const GUARD: usize = 16;
 
+/// What the board to watch may refuse.
+const WATCH_REFUSALS: [usize; 8] = [1, 2, 3, 4, 5, 6, 7, 9];
+
 #[derive(Clone, Copy)]
 pub enum Call {
     Plan,
     Review,
     Crane,
+    Watch,
 }
 
 impl Call {
@@ -26,6 +30,15 @@ impl Call {
             Call::Plan => model::planned,
             Call::Review => model::reviewed,
             Call::Crane => model::craned,
+            Call::Watch => watches::watched,
+        }
+    }
+
+    /// The same in the buffer that the program has, which only the board to watch may fill.
+    pub fn by_program(self) -> fn(&[u8]) -> Outcome {
+        match self {
+            Call::Watch => watches::watched_in_program,
+            _ => self.by_model(),
         }
     }
 
@@ -34,6 +47,7 @@ impl Call {
         match self {
             Call::Plan | Call::Review => model::TABLE_TAKES,
             Call::Crane => model::CRANE_TAKES,
+            Call::Watch => watches::WATCH_TAKES,
         }
     }
 
@@ -42,6 +56,7 @@ impl Call {
             Call::Plan => library::plan,
             Call::Review => library::review,
             Call::Crane => library::crane,
+            Call::Watch => library::watch,
         }
     }
 
@@ -50,6 +65,7 @@ impl Call {
             Call::Plan => "planner",
             Call::Review => "reviewer",
             Call::Crane => "crane",
+            Call::Watch => "board to watch",
         }
     }
 }
@@ -60,6 +76,7 @@ pub struct Tally {
     planner: [u64; 11],
     reviewer: [u64; 11],
     crane: [u64; 11],
+    watch: [u64; 11],
 }
 
 impl Tally {
@@ -68,12 +85,13 @@ impl Tally {
             Call::Plan => &mut self.planner,
             Call::Review => &mut self.reviewer,
             Call::Crane => &mut self.crane,
+            Call::Watch => &mut self.watch,
         };
         counts[number as usize] += 1;
     }
 
     pub fn calls(&self) -> u64 {
-        self.planner.iter().chain(&self.reviewer).chain(&self.crane).sum()
+        [self.planner, self.reviewer, self.crane, self.watch].as_flattened().iter().sum()
     }
 
     pub fn print(&self) {
@@ -88,6 +106,17 @@ impl Tally {
         println!(
             "  crane: written: {written}, refusal 9: {without_room}, refusal 10: {of_too_many}"
         );
+    }
+
+    pub fn print_watch(&self) {
+        let refusals = WATCH_REFUSALS.map(|number| (number, self.watch[number]));
+        let refusals = refusals.map(|(number, count)| format!(", refusal {number}: {count}"));
+        println!("  watch: written: {}{}", self.watch[0], refusals.concat());
+    }
+
+    /// A number that the board to watch can answer and did not.
+    pub fn not_met_by_watch(&self) -> Option<usize> {
+        [0].into_iter().chain(WATCH_REFUSALS).find(|&number| self.watch[number] == 0)
     }
 }
 

@@ -1,5 +1,5 @@
-//! Holds the proved planner, reviewer and crane to the model of documents 01 and 02, and the plans
-//! to the board. See `docs/TESTING.md`.
+//! Holds the proved planner, reviewer, crane and board to watch to the model of documents 01 and 02,
+//! and the plans to the board. See `docs/TESTING.md`.
 //!
 //! Built with `--cfg model_only` it needs no library: `plain.rs` stands in for it.
 
@@ -20,6 +20,9 @@ mod library;
 mod model;
 mod tables;
 mod texts;
+mod watch_runs;
+mod watch_texts;
+mod watches;
 
 use calls::{compare, Call, Tally, AMPLE};
 use dice::Dice;
@@ -36,10 +39,10 @@ const MOST_SQUEEZES: u64 = 3;
 const MOST_CROWDED: usize = 5;
 
 const USAGE: &str = "usage: compare [--texts N] [--tables N] [--boards N] [--cranes N] [--crowded N]
-               [--seed S]
-         20000 texts, 1200 tables, 100 boards, 4000 cranes, 200 crowded tables and seed 1 where
-         nothing else is said
-       compare --says plan|review|crane    print what the model says to standard input";
+               [--watches N] [--seed S]
+         20000 texts, 1200 tables, 100 boards, 4000 cranes, 200 crowded tables, 5000 watches and
+         seed 1 where nothing else is said
+       compare --says plan|review|crane|watch    print what the model says to standard input";
 
 /// A line ten times in a run, so that a long one is seen to go on.
 fn progress(what: &str, done: u64, of: u64, started: Instant) {
@@ -200,6 +203,7 @@ struct Options {
     boards: u64,
     cranes: u64,
     crowded: u64,
+    watches: u64,
     seed: u64,
     says: Option<Call>,
 }
@@ -211,6 +215,7 @@ fn options() -> Option<Options> {
         boards: 100,
         cranes: 4_000,
         crowded: 200,
+        watches: 5_000,
         seed: 1,
         says: None,
     };
@@ -223,10 +228,12 @@ fn options() -> Option<Options> {
             ("--boards", count) => options.boards = count.parse().ok()?,
             ("--cranes", count) => options.cranes = count.parse().ok()?,
             ("--crowded", count) => options.crowded = count.parse().ok()?,
+            ("--watches", count) => options.watches = count.parse().ok()?,
             ("--seed", seed) => options.seed = seed.parse().ok()?,
             ("--says", "plan") => options.says = Some(Call::Plan),
             ("--says", "review") => options.says = Some(Call::Review),
             ("--says", "crane") => options.says = Some(Call::Crane),
+            ("--says", "watch") => options.says = Some(Call::Watch),
             _ => return None,
         }
     }
@@ -236,7 +243,7 @@ fn options() -> Option<Options> {
 fn say(call: Call) -> std::io::Result<()> {
     let mut input = Vec::new();
     std::io::stdin().read_to_end(&mut input)?;
-    std::io::stdout().write_all(&model::printed(call.by_model(), call.takes(), &input))
+    std::io::stdout().write_all(&model::printed(call.by_program(), call.takes(), &input))
 }
 
 /// Each part has dice of its own, so that its texts do not depend on the counts of the others.
@@ -245,7 +252,8 @@ fn run_all(options: &Options) -> Result<(), String> {
     run_tables(&mut Dice::new(options.seed ^ 1 << 32), options.tables)?;
     board_runs::run(&mut Dice::new(options.seed ^ 2 << 32), options.boards)?;
     crane_runs::run(&mut Dice::new(options.seed ^ 3 << 32), options.cranes)?;
-    run_crowded(&mut Dice::new(options.seed ^ 4 << 32), options.crowded)
+    run_crowded(&mut Dice::new(options.seed ^ 4 << 32), options.crowded)?;
+    watch_runs::run(&mut Dice::new(options.seed ^ 5 << 32), options.watches)
 }
 
 fn main() -> ExitCode {

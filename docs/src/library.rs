@@ -1,4 +1,4 @@
-//! The proved library's planner, reviewer and crane behind safe functions.
+//! The proved library's planner, reviewer, crane and board to watch behind safe functions.
 
 use crate::model::Answer;
 
@@ -20,6 +20,14 @@ extern "C" {
         answer_len: usize,
     );
     fn lumavoneig_crane(
+        text: *const u8,
+        text_len: usize,
+        out: *mut u8,
+        out_len: usize,
+        answer: *mut u64,
+        answer_len: usize,
+    );
+    fn lumavoneig_watch(
         text: *const u8,
         text_len: usize,
         out: *mut u8,
@@ -60,4 +68,8 @@ pub fn review(text: &[u8], buffer: &mut [u8]) -> Answer {
 
 pub fn crane(text: &[u8], buffer: &mut [u8]) -> Answer {
     call(lumavoneig_crane, text, buffer)
+}
+
+pub fn watch(text: &[u8], buffer: &mut [u8]) -> Answer {
+    call(lumavoneig_watch, text, buffer)
 }

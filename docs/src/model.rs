@@ -12,6 +12,9 @@ use std::collections::BTreeMap;
 /// A table has no more tasks than this.
 pub const MOST_TASKS: usize = 16;
 
+/// A planned table has no longer holds.
+const MOST_HOLD: u64 = 1_000_000;
+
 /// Tables with more tasks than this are ordered by `order_by_growing`.
 const PERMUTED_AT_MOST: usize = 7;
 
@@ -71,7 +74,7 @@ pub struct Table {
 // ---- Reading ----------------------------------------------------------------------------
 
 /// The text as a list of lines; each still has its line feed, save perhaps the last.
-fn lines_of(text: &[u8]) -> Vec<&[u8]> {
+pub fn lines_of(text: &[u8]) -> Vec<&[u8]> {
     text.split_inclusive(|&byte| byte == b'\n').collect()
 }
 
@@ -92,7 +95,7 @@ fn after_key<'a>(line: &'a [u8], key: &str) -> Option<&'a [u8]> {
 }
 
 /// The number on a line, or the refusal (1, 2 or 3) of that line.
-fn number_at(
+pub fn number_at(
     lines: &[&[u8]],
     place: usize,
     key: &str,
@@ -109,7 +112,7 @@ fn number_at(
     Ok(number)
 }
 
-fn refuse_if(condition: bool, number: u64, place: usize) -> Result<(), Refusal> {
+pub fn refuse_if(condition: bool, number: u64, place: usize) -> Result<(), Refusal> {
     if condition {
         return Err(Refusal { number, place: place as u64 });
     }
@@ -117,7 +120,13 @@ fn refuse_if(condition: bool, number: u64, place: usize) -> Result<(), Refusal> 
 }
 
 /// The row whose first line is at `place`, after the rows `before`.
-fn row_at(lines: &[&[u8]], place: usize, switch: u64, before: &[Row]) -> Result<Row, Refusal> {
+fn row_at(
+    lines: &[&[u8]],
+    place: usize,
+    switch: u64,
+    most_hold: u64,
+    before: &[Row],
+) -> Result<Row, Refusal> {
     let task = number_at(lines, place, "task", 1, 65_535)?;
     refuse_if(before.iter().any(|row| row.task == task), 5, place)?;
     let period = number_at(lines, place + 1, "period", 1, 1_000_000)?;
@@ -127,49 +136,55 @@ fn row_at(lines: &[&[u8]], place: usize, switch: u64, before: &[Row]) -> Result<
     refuse_if(best > worst, 4, place + 3)?;
     let alpha = number_at(lines, place + 4, "alpha", 1_000, 100_000)?;
     let beta = number_at(lines, place + 5, "beta", 0, 200_000_000_000)?;
-    let hold = number_at(lines, place + 6, "hold", 0, 1_000_000)?;
+    let hold = number_at(lines, place + 6, "hold", 0, most_hold)?;
     refuse_if(hold > worst, 4, place + 6)?;
     Ok(Row { task, period, worst, best, alpha, beta, hold })
 }
 
-/// The table at the start of the text, and how many lines it takes.
-fn table_at_start(lines: &[&[u8]]) -> Result<(Table, usize), Refusal> {
+/// The table at the start of the text, and how many lines it takes; no hold may be above
+/// `most_hold`.
+pub fn table_at_start(lines: &[&[u8]], most_hold: u64) -> Result<(Table, usize), Refusal> {
     let board = number_at(lines, 1, "board", 1, 65_535)?;
     let tasks = number_at(lines, 2, "tasks", 1, MOST_TASKS as u64)? as usize;
     let switch = number_at(lines, 3, "switch", 0, 1_000)?;
     let mut rows = Vec::new();
     for index in 0..tasks {
-        let row = row_at(lines, 4 + 7 * index, switch, &rows)?;
+        let row = row_at(lines, 4 + 7 * index, switch, most_hold, &rows)?;
         rows.push(row);
     }
     Ok((Table { board, switch, rows }, 3 + 7 * tasks))
 }
 
 /// Refusal 1 at the first line too many.
-fn nothing_after(lines: &[&[u8]], taken: usize) -> Result<(), Refusal> {
+pub fn nothing_after(lines: &[&[u8]], taken: usize) -> Result<(), Refusal> {
     refuse_if(lines.len() > taken, 1, taken + 1)
 }
 
 pub fn read_table(text: &[u8]) -> Result<Table, Refusal> {
     let lines = lines_of(text);
-    let (table, taken) = table_at_start(&lines)?;
+    let (table, taken) = table_at_start(&lines, MOST_HOLD)?;
     nothing_after(&lines, taken)?;
     Ok(table)
 }
 
-/// A table and the rows in the order given by the rank lines, highest first.
+/// The rows in the order given by the rank lines after those taken, highest first.
+pub fn ranks_after(lines: &[&[u8]], taken: usize, rows: &[Row]) -> Result<Vec<usize>, Refusal> {
+    let mut order = Vec::new();
+    for place in taken + 1..=taken + rows.len() {
+        let task = number_at(lines, place, "rank", 1, 65_535)?;
+        let found = rows.iter().position(|row| row.task == task);
+        let unnamed = found.filter(|index| !order.contains(index));
+        order.push(unnamed.ok_or(Refusal { number: 6, place: place as u64 })?);
+    }
+    Ok(order)
+}
+
+/// A table and the order of its rank lines.
 fn read_ranked(text: &[u8]) -> Result<(Table, Vec<usize>), Refusal> {
     let lines = lines_of(text);
-    let (table, mut taken) = table_at_start(&lines)?;
-    let mut order = Vec::new();
-    for _ in &table.rows {
-        taken += 1;
-        let task = number_at(&lines, taken, "rank", 1, 65_535)?;
-        let found = table.rows.iter().position(|row| row.task == task);
-        let unnamed = found.filter(|index| !order.contains(index));
-        order.push(unnamed.ok_or(Refusal { number: 6, place: taken as u64 })?);
-    }
-    nothing_after(&lines, taken)?;
+    let (table, taken) = table_at_start(&lines, MOST_HOLD)?;
+    let order = ranks_after(&lines, taken, &table.rows)?;
+    nothing_after(&lines, taken + order.len())?;
     Ok((table, order))
 }
 
@@ -324,7 +339,7 @@ pub fn chosen_order(table: &Table) -> Option<Vec<usize>> {
 // ---- Writing ----------------------------------------------------------------------------
 
 /// The figures of an order, highest rank first, or refusal 7 at its first late rank.
-fn figures_of_order(table: &Table, order: &[usize]) -> Result<Vec<Figures>, Refusal> {
+pub fn figures_of_order(table: &Table, order: &[usize]) -> Result<Vec<Figures>, Refusal> {
     let ranked: Vec<&Row> = order.iter().map(|&index| &table.rows[index]).collect();
     let mut all = Vec::new();
     for (rank, &row) in ranked.iter().enumerate() {

@@ -21,9 +21,14 @@ const NONE: u8 = 254;
 struct Reader<'a> {
     rest: &'a [u8],
     line: u64,
+    most_hold: u64,
 }
 
 impl Reader<'_> {
+    fn new(text: &[u8]) -> Reader<'_> {
+        Reader { rest: text, line: 0, most_hold: 1_000_000 }
+    }
+
     fn refusal(&self, number: u64) -> Refusal {
         Refusal { number, place: self.line }
     }
@@ -53,7 +58,7 @@ impl Reader<'_> {
         self.refuse_if(best > worst, 4)?;
         let alpha = self.number(b"alpha=", 1_000, 100_000)?;
         let beta = self.number(b"beta=", 0, 200_000_000_000)?;
-        let hold = self.number(b"hold=", 0, 1_000_000)?;
+        let hold = self.number(b"hold=", 0, self.most_hold)?;
         self.refuse_if(hold > worst, 4)?;
         Ok(Row { task, period, worst: worst + switch, best, alpha, beta, hold })
     }
@@ -303,7 +308,7 @@ fn plan_text(board: u64, rows: &[Row], order: &[usize]) -> Result<Vec<u8>, Refus
 }
 
 fn planned(text: &[u8]) -> Result<Vec<u8>, Refusal> {
-    let mut reader = Reader { rest: text, line: 0 };
+    let mut reader = Reader::new(text);
     let (board, rows) = reader.table()?;
     reader.end()?;
     let order = chosen::<false>(&rows).0.ok_or(Refusal { number: 8, place: 0 })?;
@@ -311,7 +316,7 @@ fn planned(text: &[u8]) -> Result<Vec<u8>, Refusal> {
 }
 
 fn reviewed(text: &[u8]) -> Result<Vec<u8>, Refusal> {
-    let mut reader = Reader { rest: text, line: 0 };
+    let mut reader = Reader::new(text);
     let (board, rows) = reader.table()?;
     let order = reader.ranks(&rows)?;
     reader.end()?;
@@ -392,4 +397,90 @@ fn craned(text: &[u8]) -> Result<Vec<u8>, Refusal> {
 
 pub fn crane(text: &[u8], buffer: &mut [u8]) -> Answer {
     deliver(craned(text), buffer)
+}
+
+// ---- The board to watch -----------------------------------------------------------------
+
+/// A rank of a board on which no task is late, so that it has one unfinished job at the most.
+struct Rank {
+    task: u64,
+    period: u64,
+    least: u64,
+    most: u64,
+    next: u64,
+    release: u64,
+    left: u64,
+}
+
+impl Reader<'_> {
+    /// The ranks with the first releases, which have the sequence of the rows.
+    fn releases(&mut self, rows: &[Row], order: &[usize]) -> Result<Vec<Rank>, Refusal> {
+        let mut first = [0; MOST_TASKS];
+        for slot in &mut first[..rows.len()] {
+            *slot = self.number(b"release=", 0, 1_000_000)?;
+        }
+        let rank = |&index: &usize| {
+            let Row { task, period, worst: most, best: least, .. } = rows[index];
+            Rank { task, period, least, most, next: first[index], release: 0, left: 0 }
+        };
+        Ok(order.iter().map(rank).collect())
+    }
+
+    /// The lengths, each of the job that is released next.
+    fn lengths(&mut self, ranks: &[Rank]) -> Result<Vec<u64>, Refusal> {
+        let count = self.number(b"lengths=", 0, 2_048)?;
+        let mut next: Vec<u64> = ranks.iter().map(|rank| rank.next).collect();
+        let mut lengths = Vec::with_capacity(count as usize);
+        for _ in 0..count {
+            // Of several that are least it is the first, which is the highest rank.
+            let at = (0..ranks.len()).min_by_key(|&at| next[at]).unwrap_or(0);
+            lengths.push(self.number(b"length=", ranks[at].least, ranks[at].most)?);
+            next[at] += ranks[at].period;
+        }
+        Ok(lengths)
+    }
+}
+
+/// The lines of the jobs that finish within the ticks; from one release to the next the processor is
+/// given out in one go.
+fn run(ranks: &mut [Rank], lengths: &[u64], ticks: u64) -> Vec<u8> {
+    let (mut text, mut lengths, mut now) = (Vec::new(), lengths.iter(), 0);
+    while now < ticks {
+        for rank in ranks.iter_mut().filter(|rank| rank.next == now) {
+            rank.left = *lengths.next().unwrap_or(&rank.most);
+            rank.release = now;
+            rank.next += rank.period;
+        }
+        let end = ranks.iter().fold(ticks, |end, rank| end.min(rank.next));
+        let Some(rank) = ranks.iter_mut().find(|rank| rank.left > 0) else {
+            now = end;
+            continue;
+        };
+        let had = rank.left.min(end - now);
+        now += had;
+        rank.left -= had;
+        if rank.left == 0 {
+            push_line(&mut text, b"task=", rank.task);
+            push_line(&mut text, b"release=", rank.release);
+            push_line(&mut text, b"finish=", now);
+        }
+    }
+    text
+}
+
+fn watched(text: &[u8]) -> Result<Vec<u8>, Refusal> {
+    let mut reader = Reader { most_hold: 0, ..Reader::new(text) };
+    let (board, rows) = reader.table()?;
+    let order = reader.ranks(&rows)?;
+    let mut ranks = reader.releases(&rows, &order)?;
+    let ticks = reader.number(b"ticks=", 1, 1_000_000)?;
+    let lengths = reader.lengths(&ranks)?;
+    reader.end()?;
+    // For its refusal of a late task.
+    plan_text(board, &rows, &order)?;
+    Ok(run(&mut ranks, &lengths, ticks))
+}
+
+pub fn watch(text: &[u8], buffer: &mut [u8]) -> Answer {
+    deliver(watched(text), buffer)
 }

@@ -49,7 +49,7 @@ fn split(text: &[u8]) -> Vec<Vec<u8>> {
 }
 
 /// Does something to the text's lines; a text without any is left alone.
-fn with_lines(text: &mut Vec<u8>, change: impl FnOnce(&mut Vec<Vec<u8>>)) {
+pub fn with_lines(text: &mut Vec<u8>, change: impl FnOnce(&mut Vec<Vec<u8>>)) {
     let mut lines = split(text);
     if !lines.is_empty() {
         change(&mut lines);
@@ -79,7 +79,7 @@ fn parts(line: &[u8]) -> Option<(&[u8], &[u8])> {
     Some((&line[..equals], &line[equals + 1..]))
 }
 
-fn joined(key: &[u8], number: &[u8]) -> Vec<u8> {
+pub fn joined(key: &[u8], number: &[u8]) -> Vec<u8> {
     [key, b"=", number, b"\n"].concat()
 }
 

@@ -2,6 +2,7 @@
 ghost use mathlib.Core.Path.{_≡_};
 ghost use Rattle.demands.specs.Demands.{PlanSays, ReviewSays};
 ghost use Rattle.crane_demands.specs.Demands.{CraneSays};
+ghost use Rattle.watch_demands.specs.Demands.{WatchSays};
 ghost use Rattle.lumavoneig.specs.Answers.{answered, Answers};
 use plans::Answer;
 
@@ -40,5 +41,14 @@ pub extern "C" fn lumavoneig_crane(text: &[u8], out: &mut [u8], answer: &mut [u6
         (now (answer .entry)) (now (answer .exit)) ⌝ }
 {
     let returned = cranes::write_crane(text, out);
+    put_answer(returned, answer);
+}
+
+#[no_mangle]
+pub extern "C" fn lumavoneig_watch(text: &[u8], out: &mut [u8], answer: &mut [u64])
+    ensures { λ _. ⌜ Answers (λ r. WatchSays (now (text .entry)) (now (out .entry)) (now (out .exit)) r)
+        (now (answer .entry)) (now (answer .exit)) ⌝ }
+{
+    let returned = watches::watch_board(text, out);
     put_answer(returned, answer);
 }
