@@ -9,3 +9,4 @@ pub mod Texts
 pub mod Given
 pub mod Kept
 pub mod Demands
+pub mod Cases

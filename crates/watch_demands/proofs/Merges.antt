@@ -16,6 +16,7 @@ use Rattle.rows.specs.Rows.{rowAt}
 use Rattle.rows.specs.declared.Row.{Row}
 use Rattle.boards.proofs.Sums.{Above, sum-zero, sum-le}
 use Rattle.boards.proofs.Releases.{released-before, unreleased}
+use Rattle.watch_demands.specs.inside.Least.{LeastIs}
 use Rattle.watch_demands.specs.Jobs.{releaseOf, ahead, indexOf, Earlier, Indexed}
 use Rattle.watch_demands.proofs.Jobs.{until, until-above, until-below, until-own}
 use Rattle.watch_demands.proofs.Jobs.{counts-up, one-each, rank-is}
@@ -39,11 +40,6 @@ sum-bump (suc n) (suc i) f g l e h =
     )
 
 -- ---- the first of the least of n numbers
-pub record LeastIs (n : ℕ) (f : ℕ → ℕ) (r : ℕ) : Type 0 where
-  pub within : r < n
-  pub least : (j : ℕ) → j < n → f r ≤ f j
-  pub first : (j : ℕ) → j < r → f r < f j
-
 pub least-one : (f : ℕ → ℕ) → LeastIs 1 f 0
 least-one f = record {
   within = omega arith;

@@ -15,7 +15,8 @@ use Rattle.rows.specs.Rows.{maxTicks, rowAt}
 use Rattle.rows.specs.declared.Row.{Row}
 use Rattle.watch_demands.specs.Jobs.{releaseOf, rankWith}
 use Rattle.watch_demands.proofs.Jobs.{rank-is}
-use Rattle.watch_demands.proofs.Merges.{LeastIs, bump, Merged, merged-none, merged-index, merged-next}
+use Rattle.watch_demands.specs.inside.Least.{LeastIs}
+use Rattle.watch_demands.proofs.Merges.{bump, Merged, merged-none, merged-index, merged-next}
 use Rattle.watch_runs.specs.inside.Owners.{EarliestIs, Mergeable, Released, Owns}
 use Rattle.watch_runs.proofs.Lists.{set-each}
 

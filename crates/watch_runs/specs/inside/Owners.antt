@@ -8,7 +8,7 @@ use Rattle.rows.specs.Rows.{maxTicks, rowAt}
 use Rattle.rows.specs.declared.Row.{Row}
 use Rattle.watch_demands.specs.Jobs.{rankWith}
 use Rattle.watch_demands.specs.WatchLines.{maxRelease, maxLengths}
-use Rattle.watch_demands.proofs.Merges.{LeastIs}
+use Rattle.watch_demands.specs.inside.Least.{LeastIs}
 
 -- the first of the earliest of n releases
 abbrev pub EarliestIs : ℕ → List ℕ → ℕ → Type 0
