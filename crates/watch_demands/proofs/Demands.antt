@@ -39,7 +39,7 @@ use Rattle.watch_demands.specs.Demands.{TellsRun, FailsRun, RunSays, Run
 use Rattle.watch_demands.proofs.Given.{is-given, given-only, order-in-range, order-limits, order-unheld}
 use Rattle.watch_demands.proofs.Merges.{indexed}
 use Rattle.watch_demands.proofs.Finished.{finished-within}
-use Rattle.watch_demands.proofs.Texts.{watch-plain, Ended, at-both, ended, sound, run-says}
+use Rattle.watch_demands.proofs.Texts.{watch-plain, Ended, at-both, ended, sound, run-says, run-reads-back}
 use Rattle.watch_demands.proofs.Kept.{lasts, finished-same, run-kept}
 
 -- ---- by the first late rank
@@ -85,7 +85,7 @@ module _ (text : List ℕ) (b : ℕ) (rs : List Row) (os rels : List ℕ) (t : �
 
   run-lasts : LastsInRange order (lengthOf order offset ls)
   unfolding cost
-  run-lasts = lasts order offset ls run-indexed sane (says .lengths-in)
+  run-lasts = lasts order offset ls run-indexed sane (says .limits .lengths-in)
     where
       sane : (i : ℕ) → i < length order → rowAt order i .best ≤ cost (rowAt order i)
       sane i l = omega (arith, order-limits (tableOf b rs os) table-sound i l .best-worst)
@@ -222,6 +222,7 @@ module _ (text : List ℕ) where
       refused = refused-exactly (as-read room);
       says = λ b rs os rels t ls told.
           (run-says text b rs os rels t ls told, is-given (tableOf b rs os) (sound (told .whole)));
+      reads-back = run-reads-back;
       accepted = λ b rs os rels t ls told order g.
           subst (λ o. RunOf o (offsetOf rs os rels) ls room t (watched text room))
           (given-only (tableOf b rs os) (sound (told .whole)) order g)

@@ -2,11 +2,10 @@
 pub mod Jobs
 pub mod Merges
 pub mod Finished
-pub mod Fronts
 pub mod Unheld
 pub mod RunTexts
-pub mod Texts
 pub mod Given
+pub mod Texts
 pub mod Kept
 pub mod Demands
 pub mod Cases

@@ -4,19 +4,21 @@ use mathlib.Core.Path.{_≡_, refl, sym, ap, ap₂, subst, _∙_}
 use mathlib.Core.Bool.{true, false}
 use mathlib.Core.List.{List, [], _∷_, _++_, append-assoc, append-nil}
 use mathlib.Core.Logic.{inl, inr}
-use Prim.Native.Nat.{ℕ, zero, suc, _+_, _≤_, _<_}
+use Prim.Native.Nat.{ℕ, zero, suc, _+_, _^_, _≤_, _<_}
 use native.Mathlib.Omega.{arith}
 use lib.Dec.{eqb}
-use lib.IntN.{ℤ}
+use lib.IntN.{ℤ, pos}
 use lib.ListN.{length, getD, length-append, List·getD-append}
 use lib.Seq.{getD-at}
-use borrow.Author.Tests.{eqb-true, eqb-false}
+use borrow.Author.Tests.{eqb-true, eqb-false, eq-eqb, ne-eqb, lt-ltb}
 use Rattle.basics.proofs.Tests.{test-of, le-or-lt, Within}
 use Rattle.text.specs.Text.{bytes, decimal, signed, keyLine}
-use Rattle.grammars.specs.Forms.{size}
-use Rattle.grammars.specs.Grammars.{Plain}
+use Rattle.text.specs.Lines.{maxDigits}
+use Rattle.grammars.specs.Forms.{natural, size}
+use Rattle.grammars.specs.Grammars.{a-line, Plain}
+use Rattle.grammars.specs.Claims.{Writes, done, then}
 use Rattle.grammars.specs.Reasons.{Passes, Reaches, begin, line}
-use Rattle.grammars.proofs.Naturals.{natural-passes, natural-written}
+use Rattle.grammars.proofs.Naturals.{natural-passes, natural-written, in-range-passes}
 use Rattle.grammars.proofs.Steps.{no-line}
 use Rattle.rows.specs.Rows.{minTicks, maxTicks, rowAt, rowsFor, cost}
 use Rattle.rows.specs.declared.Row.{Row}
@@ -24,8 +26,9 @@ use Rattle.tables.specs.Claims.{lineOf}
 use Rattle.watch_demands.specs.Jobs.{rankWith}
 use Rattle.watch_demands.specs.WatchLines.{minRelease, maxRelease, minLengths, maxLengths, RunStage}
 use Rattle.watch_demands.specs.WatchLines.{at-release, at-ticks, at-lengths, at-length, run-end}
-use Rattle.watch_demands.specs.WatchLines.{releasesStage, lengthsStage, offsetOf, nextRow, runAfter, run}
-use Rattle.watch_demands.specs.Demands.{lengthsText, releasesText, runLines, AllUpTo}
+use Rattle.watch_demands.specs.WatchLines.{releasesStage, lengthsStage, offsetOf, nextRow, runLine, runAfter}
+use Rattle.watch_demands.specs.WatchLines.{run}
+use Rattle.watch_demands.specs.Demands.{lengthsText, releasesText, runLines, AllUpTo, RunLimits}
 
 -- ---- numbers in their limits, one more
 up-to-more : (most : ℕ) (vs : List ℕ) (v : ℕ) → AllUpTo most vs → v ≤ most → AllUpTo most (vs ++ (v ∷ []))
@@ -205,10 +208,78 @@ module _ (rows : List Row) (tasks : List ℕ) where
 
   pub run-told : {text : List ℕ} {k : ℕ} {rels : List ℕ} {t : ℕ} {ls : List ℕ}
       → Reaches (run rows tasks) (releasesStage (length rows) []) text k (run-end rels t ls) []
-      → Ran rels t ls × (text ≡ runLines rels t ls)
+      → RunLimits rows tasks rels t ls × (text ≡ runLines rels t ls)
   run-told {rels = rels} {t = t} {ls = ls} r =
       let x = along r in
-      (x .0, x .1 ∙ (append-nil (soFar (run-end rels t ls)) ∙ whole-text rels t ls))
+      let ran = x .0 in (
+        record {
+          one-each = ran .released .one-each;
+          releases-in = ran .released .in-limits;
+          some-ticks = ran .ticks .low-le;
+          few-ticks = ran .ticks .le-high;
+          few-lengths = ran .few;
+          lengths-in = ran .lengths-in;
+        },
+        x .1 ∙ (append-nil (soFar (run-end rels t ls)) ∙ whole-text rels t ls),
+      )
+
+  -- ---- and each run in its limits is written so: a number passes where it stands
+  put : {st : RunStage} {key : List ℕ} {low high v : ℕ} {rest : List ℕ} {u : RunStage}
+      → runLine rows tasks st ≡ a-line key (natural low high) → high < 10 ^ maxDigits → low ≤ v → v ≤ high
+      → Writes (run rows tasks) (runAfter rows tasks st v) rest u
+      → Writes (run rows tasks) st (keyLine key (decimal v) ++ rest) u
+  unfolding signed
+  put {key = key} {low = low} {high = high} {v = v} x short l h w =
+      then key (pos v) (in-range-passes low high v x (lt-ltb high (10 ^ maxDigits) short) l h refl) w
+
+  module _ (rels : List ℕ) (t : ℕ) (ls : List ℕ) (ok : RunLimits rows tasks rels t ls)
+      (small : (i : ℕ) → cost (rowAt (rowsFor tasks rows) i) ≤ maxTicks) where
+    abbrev end : RunStage
+    end = run-end rels t ls
+
+    lengths-written : (before after : List ℕ) → before ++ after ≡ ls
+        → Writes (run rows tasks) (lengthsStage (length ls) rels t before) (lengthsText after) end
+    lengths-written before [] e =
+        let all : before ≡ ls = sym (append-nil before) ∙ e in
+        subst (λ x. Writes (run rows tasks) (lengthsStage (length ls) rels t x) [] end) (sym all)
+        (rw (eq-eqb (length ls) (length ls) refl) (done refl))
+    lengths-written before (v ∷ after) e =
+        let long = length-append before (v ∷ after) in
+        let few : length before < length ls = omega (arith, ap length e) in
+        let here : lengthsStage (length ls) rels t before ≡ at-length (length ls) rels t before =
+        rw (ne-eqb (length before) (length ls) (λ x. omega arith)) in
+        let is : getD ls (length before) 0 ≡ v =
+        ap (λ (vs : List ℕ). getD vs (length before) 0) (sym e) ∙ getD-at before v after 0 (length before) refl in
+        let limit = ok .lengths-in (length before) few in
+        let next = lengths-written (before ++ (v ∷ [])) after (append-assoc before (v ∷ []) after ∙ e) in
+        subst (λ x. Writes (run rows tasks) x (lengthsText (v ∷ after)) end) (sym here)
+        (put refl (omega (arith, small (rankWith (rowsFor tasks rows) (offsetOf rows tasks rels) (length before))))
+        (omega (arith, limit .0, is)) (omega (arith, limit .1, is)) next)
+
+    releases-written : (before after : List ℕ) → before ++ after ≡ rels
+        → Writes (run rows tasks) (releasesStage (length rows) before)
+        (releasesText after (lineOf "ticks=" t (lineOf "lengths=" (length ls) (lengthsText ls)))) end
+    releases-written before [] e =
+        let all : before ≡ rels = sym (append-nil before) ∙ e in
+        let rest = lineOf "ticks=" t (lineOf "lengths=" (length ls) (lengthsText ls)) in
+        subst (λ x. Writes (run rows tasks) (releasesStage (length rows) x) rest end) (sym all)
+        (rw (eq-eqb (length rels) (length rows) (ok .one-each))
+        (put refl (omega arith) (ok .some-ticks) (ok .few-ticks)
+        (put refl (omega arith) (omega arith) (ok .few-lengths) (lengths-written [] ls refl))))
+    releases-written before (v ∷ after) e =
+        let rest = lineOf "ticks=" t (lineOf "lengths=" (length ls) (lengthsText ls)) in
+        let long = length-append before (v ∷ after) in
+        let few : length before < length rels = omega (arith, ap length e) in
+        let here : releasesStage (length rows) before ≡ at-release before =
+        rw (ne-eqb (length before) (length rows) (λ x. omega (arith, ok .one-each))) in
+        let is : getD rels (length before) 0 ≡ v =
+        ap (λ (vs : List ℕ). getD vs (length before) 0) (sym e) ∙ getD-at before v after 0 (length before) refl in
+        let next = releases-written (before ++ (v ∷ [])) after (append-assoc before (v ∷ []) after ∙ e) in
+        subst (λ x. Writes (run rows tasks) x (releasesText (v ∷ after) rest) end) (sym here)
+        (put refl (omega arith) (omega arith) (omega (arith, ok .releases-in (length before) few, is)) next)
+
+    pub run-written : Writes (run rows tasks) (releasesStage (length rows) []) (runLines rels t ls) end
+    run-written = releases-written [] rels refl
 
   pub run-plain : Plain (run rows tasks)
   run-plain (at-release rels) = refl

@@ -8,30 +8,32 @@ use Prim.Native.Nat.{ℕ, zero, suc, _+_, _≤_, _<_}
 use native.Mathlib.Omega.{arith}
 use lib.Dec.{eqb}
 use lib.IntN.{ℤ}
-use lib.ListN.{length, getD}
+use lib.ListN.{length, getD, List·getD-eq-default}
 use borrow.Author.Tests.{eq-eqb, ne-eqb, eqb-true, not-true}
 use Rattle.basics.specs.Basics.{pick, isIn}
-use Rattle.basics.proofs.Tests.{test-of, true-not-false, and-left, and-right, or-right}
+use Rattle.basics.proofs.Tests.{test-of, le-or-lt, true-not-false, and-left, and-right, or-right}
 use Rattle.grammars.specs.Grammars.{Expected, the-end, a-line, Plain}
 use Rattle.grammars.specs.Sequences.{Sequel, first, second, whereEnded, onward, Split}
 use Rattle.grammars.specs.Reasons.{Passes, Reaches}
 use Rattle.grammars.specs.Claims.{AsWritten}
 use Rattle.grammars.proofs.Invariants.{Invariant, holds}
-use Rattle.grammars.proofs.Sequences.{plain-sequence, split}
+use Rattle.grammars.proofs.Sequences.{plain-sequence, split, joined}
 use Rattle.grammars.proofs.Steps.{no-line}
-use Rattle.rows.specs.Rows.{holdAt, tasksOf, hasTask, distinctRows, rowAt, positionOf}
+use Rattle.rows.specs.Rows.{maxTicks, holdAt, tasksOf, hasTask, distinctRows, noRow, rowAt, rowsFor, cost, positionOf}
 use Rattle.rows.specs.declared.Row.{Row}
-use Rattle.tables.specs.TableLines.{Stage, at-board, at-tasks, at-switch, at-field, at-rank, at-end, tableOf, tableAt, table}
+use Rattle.tables.specs.TableLines.{Stage, at-board, at-tasks, at-switch, at-field, at-rank, at-end, TableRead, tableOf, tableAt}
+use Rattle.tables.specs.TableLines.{table}
 use Rattle.tables.specs.Claims.{Accepted, Tells}
 use Rattle.tables.proofs.Readings.{Ending, at-last, ending}
 use Rattle.tables.proofs.Soundness as Soundness
 use Rattle.watch_demands.specs.WatchLines.{RunStage, at-release, at-ticks, at-lengths, at-length, run-end}
 use Rattle.watch_demands.specs.WatchLines.{offsetOf, unheldLine, unheld, run, runOf, runBegins}
 use Rattle.watch_demands.specs.WatchLines.{WatchStage, watchText, watch-start}
-use Rattle.watch_demands.specs.Demands.{TellsRun, runLines, RunSays}
-use Rattle.watch_demands.proofs.Fronts.{Front, in-front}
+use Rattle.watch_demands.specs.Demands.{TellsRun, runLines, RunLimits, RunSays, RunReadsBack}
+use Rattle.grammars.proofs.Fronts.{Front, in-front}
 use Rattle.watch_demands.proofs.Unheld.{unheld-plain, as-reviewed, NoHolds, Kept, kept}
-use Rattle.watch_demands.proofs.RunTexts.{run-plain, Ran, run-told}
+use Rattle.watch_demands.proofs.RunTexts.{run-plain, run-told, run-written}
+use Rattle.watch_demands.proofs.Given.{order-limits}
 
 pub watch-plain : Plain watchText
 watch-plain = plain-sequence unheld runOf runBegins unheld-plain (λ s. run-plain (tableAt s .rows) (tableAt s .order))
@@ -130,21 +132,36 @@ module _ (text : List ℕ) (b : ℕ) (rs : List Row) (os rels : List ℕ) (t : �
   abbrev whole : Reaches watchText watch-start text (told .lines) (second (at-end b rs os) (run-end rels t ls)) []
   whole = told .whole
 
-  ran : Ran rs os rels t ls × (parts whole .middle ≡ runLines rels t ls)
+  ran : RunLimits rs os rels t ls × (parts whole .middle ≡ runLines rels t ls)
   ran = run-told rs os (parts whole .after)
 
   pub run-says : RunSays text b rs os rels t ls
   run-says = record {
     front = table-front whole .front;
     joins = table-front whole .joins ∙ ap (λ x. table-front whole .front ++ x) (ran .1);
+    unheld-table = record { lines = parts whole .lines; whole = table-lines whole; ends = refl };
+    limits = ran .0;
     reviewed = tells-table whole;
     none-holds = no-holds whole;
-    one-each = ran .0 .released .one-each;
-    releases-in = ran .0 .released .in-limits;
     first-release = λ i j l h e.
         ap (λ p. getD rels p 0) (position-is rs j (getD os i 0) (sound whole .rows-distinct) h e);
-    some-ticks = ran .0 .ticks .low-le;
-    few-ticks = ran .0 .ticks .le-high;
-    few-lengths = ran .0 .few;
-    lengths-in = ran .0 .lengths-in;
   }
+
+-- ---- and such a text is read so
+cost-small : (a : TableRead) → Accepted true a → (i : ℕ) → cost (rowAt (rowsFor (a .order) (a .rows)) i) ≤ maxTicks
+unfolding cost
+cost-small a ok i = elim (le-or-lt (length (rowsFor (a .order) (a .rows))) i) [
+  | inl h ↦ rw (List·getD-eq-default (rowsFor (a .order) (a .rows)) noRow h) (omega arith)
+  | inr h ↦ let l = order-limits a ok i h in omega (arith, l .cost-period, l .period .le-high)
+]
+
+pub run-reads-back : RunReadsBack
+run-reads-back front b rs os rels t ls w ok =
+    let lines = runLines rels t ls in
+    let known = holds (table true) at-board (Soundness.Known true) (Soundness.sound true) (as-reviewed (w .whole)) in
+    let f = in-front (w .whole) in
+    let whole : front ≡ f .front = f .joins ∙ append-nil (f .front) in
+    let reached = subst (λ x. Reaches unheld at-board (x ++ lines) (w .lines) (at-end b rs os) lines) (sym whole)
+    (f .before lines) in
+    joined unheld runOf runBegins at-board (front ++ lines) reached refl
+    (run-written rs os rels t ls ok (cost-small (tableOf b rs os) known))

@@ -25,7 +25,7 @@ use Rattle.tables.specs.TableLines.{Stage, at-board, at-tasks, at-switch, at-fi
 use Rattle.tables.specs.TableLines.{ranksStage, rowsStage, expected, after, table}
 use Rattle.tables.proofs.Keys.{table-plain}
 use Rattle.watch_demands.specs.WatchLines.{noHold, unheldLine, unheld}
-use Rattle.watch_demands.proofs.Fronts.{widens}
+use Rattle.grammars.proofs.Fronts.{passes-as, widens}
 
 pub unheld-plain : Plain unheld
 unheld-plain at-board = refl
@@ -43,17 +43,6 @@ unheld-plain (at-end b rs os) = refl
 same-fits : (low high low′ high′ : ℕ) (z : ℤ) → fits (natural low high) z ≡ fits (natural low′ high′) z
 same-fits low high low′ high′ (pos v) = refl
 same-fits low high low′ high′ (negsuc n) = refl
-
--- where the line is the table's own
-as-table : (s : Stage) → unheldLine s ≡ expected s → {key : List ℕ} {z : ℤ} → Passes unheld s key z
-    → Passes (table true) s key z
-as-table s same p = record {
-  form = p .form;
-  is-expected = sym same ∙ p .is-expected;
-  is-number = p .is-number;
-  in-range = p .in-range;
-  no-fault = p .no-fault;
-}
 
 -- where it is a hold
 module _ (n b s : ℕ) (rs : List Row) (vs : List ℕ) (at-hold : eqb (length vs) holdAt ≡ true) where
@@ -85,15 +74,15 @@ module _ (n b s : ℕ) (rs : List Row) (vs : List ℕ) (at-hold : eqb (length vs
       }
 
 pub unheld-passes : (s : Stage) (key : List ℕ) (z : ℤ) → Passes unheld s key z → Passes (table true) s key z
-unheld-passes at-board key z p = as-table at-board refl p
-unheld-passes (at-tasks b) key z p = as-table (at-tasks b) refl p
-unheld-passes (at-switch n b) key z p = as-table (at-switch n b) refl p
+unheld-passes at-board key z p = passes-as refl (λ z. refl) p
+unheld-passes (at-tasks b) key z p = passes-as refl (λ z. refl) p
+unheld-passes (at-switch n b) key z p = passes-as refl (λ z. refl) p
 unheld-passes (at-field n b s rs vs) key z p = elim (test-of (eqb (length vs) holdAt)) [
   | inl e ↦ held-passes n b s rs vs e p
-  | inr e ↦ as-table (at-field n b s rs vs) (rw e) p
+  | inr e ↦ passes-as (sym (rw e)) (λ z. refl) p
 ]
-unheld-passes (at-rank n b rs os) key z p = as-table (at-rank n b rs os) refl p
-unheld-passes (at-end b rs os) key z p = as-table (at-end b rs os) refl p
+unheld-passes (at-rank n b rs os) key z p = passes-as refl (λ z. refl) p
+unheld-passes (at-end b rs os) key z p = passes-as refl (λ z. refl) p
 
 pub as-reviewed : {start : Stage} {text : List ℕ} {k : ℕ} {s : Stage} {here : List ℕ}
     → Reaches unheld start text k s here → Reaches (table true) start text k s here

@@ -11,7 +11,7 @@ use Rattle.grammars.specs.Sequences.{second}
 use Rattle.grammars.specs.Claims.{AsWritten, Reason, Decides}
 use Rattle.rows.specs.Rows.{minTicks, maxTicks, rowAt, rowsFor, cost}
 use Rattle.rows.specs.declared.Row.{Row}
-use Rattle.tables.specs.TableLines.{at-end}
+use Rattle.tables.specs.TableLines.{at-board, at-end}
 use Rattle.tables.specs.Claims.{Tells, lineOf}
 use Rattle.boards.specs.Boards.{Done, isDone}
 use Rattle.boards.specs.Claims.{LastsInRange, Finishes, AfterFirstReleases, NoneLate}
@@ -19,7 +19,8 @@ use Rattle.plans.specs.declared.Answer.{Answer}
 use Rattle.plans.specs.Outcomes.{Outcome, writes, refuses, Written}
 use Rattle.demands.specs.Demands.{entryAt, Promised, Given, FirstLate}
 use Rattle.watch_demands.specs.Jobs.{lengthOf, rankWith, Indexed}
-use Rattle.watch_demands.specs.WatchLines.{maxRelease, maxLengths, run-end, offsetOf, watchText, watch-start}
+use Rattle.watch_demands.specs.WatchLines.{maxRelease, maxLengths, unheld, run-end, offsetOf, watchText}
+use Rattle.watch_demands.specs.WatchLines.{watch-start}
 use Rattle.watch_demands.specs.Runs.{finishedText, FinishedWithin}
 use Rattle.watch_demands.specs.Calls.{watched}
 
@@ -50,20 +51,11 @@ runLines releases ticks lengths =
 abbrev pub AllUpTo : ℕ → List ℕ → Type 0
 AllUpTo most vs = (i : ℕ) → i < length vs → getD vs i 0 ≤ most
 
--- such a text is one that the reviewer takes, none of whose tasks holds, and those lines behind it, in their limits:
--- the length of the job with index m from the best of its own row to its worst and the switch
-pub record RunSays (text : List ℕ) (board : ℕ) (rows : List Row) (tasks releases : List ℕ) (ticks : ℕ)
-    (lengths : List ℕ) : Type 0 where
-  pub front : List ℕ
-  pub joins : text ≡ front ++ runLines releases ticks lengths
-  pub reviewed : Tells true front board rows tasks
-  pub none-holds : (i : ℕ) → i < length rows → rowAt rows i .hold ≡ 0
+-- the limits of a run: a first release for each row, the ticks, and no more lengths than may be; the length of the job
+-- with index m from the best of its own row to its worst and the switch
+pub record RunLimits (rows : List Row) (tasks releases : List ℕ) (ticks : ℕ) (lengths : List ℕ) : Type 0 where
   pub one-each : length releases ≡ length rows
   pub releases-in : AllUpTo maxRelease releases
-  -- the rank of a row's task has the row's first release
-  pub first-release :
-      (i j : ℕ) → i < length tasks → j < length rows → getD tasks i 0 ≡ rowAt rows j .task
-      → offsetOf rows tasks releases i ≡ getD releases j 0
   pub some-ticks : minTicks ≤ ticks
   pub few-ticks : ticks ≤ maxTicks
   pub few-lengths : length lengths ≤ maxLengths
@@ -72,6 +64,27 @@ pub record RunSays (text : List ℕ) (board : ℕ) (rows : List Row) (tasks rele
       → let order = rowsFor tasks rows in
       let r = rowAt order (rankWith order (offsetOf rows tasks releases) m) in
       (r .best ≤ getD lengths m 0) × (getD lengths m 0 ≤ cost r)
+
+-- such a text is one that the reviewer takes, none of whose tasks holds, and those lines behind it, in their limits
+pub record RunSays (text : List ℕ) (board : ℕ) (rows : List Row) (tasks releases : List ℕ) (ticks : ℕ)
+    (lengths : List ℕ) : Type 0 where
+  pub front : List ℕ
+  pub joins : text ≡ front ++ runLines releases ticks lengths
+  pub unheld-table : AsWritten unheld at-board front (at-end board rows tasks)
+  pub limits : RunLimits rows tasks releases ticks lengths
+  pub reviewed : Tells true front board rows tasks
+  pub none-holds : (i : ℕ) → i < length rows → rowAt rows i .hold ≡ 0
+  -- the rank of a row's task has the row's first release
+  pub first-release :
+      (i j : ℕ) → i < length tasks → j < length rows → getD tasks i 0 ≡ rowAt rows j .task
+      → offsetOf rows tasks releases i ≡ getD releases j 0
+
+-- and each such table with such lines behind it is read as that run
+abbrev pub RunReadsBack : Type 0
+RunReadsBack =
+    (front : List ℕ) (board : ℕ) (rows : List Row) (tasks releases : List ℕ) (ticks : ℕ) (lengths : List ℕ)
+    → AsWritten unheld at-board front (at-end board rows tasks) → RunLimits rows tasks releases ticks lengths
+    → TellsRun (front ++ runLines releases ticks lengths) board rows tasks releases ticks lengths
 
 -- ---- a run that is watched
 -- of an order, its first releases and the lengths of its jobs
@@ -116,6 +129,7 @@ pub record WatchDemands (text : List ℕ) (room : ℕ) (w : Outcome) : Type 0 wh
       (board : ℕ) (rows : List Row) (tasks releases : List ℕ) (ticks : ℕ) (lengths : List ℕ)
       → TellsRun text board rows tasks releases ticks lengths
       → RunSays text board rows tasks releases ticks lengths × Given rows tasks (rowsFor tasks rows)
+  pub reads-back : RunReadsBack
   -- the order given by the rank lines is run from the first releases of its rows
   pub accepted :
       (board : ℕ) (rows : List Row) (tasks releases : List ℕ) (ticks : ℕ) (lengths : List ℕ)

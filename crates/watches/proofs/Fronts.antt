@@ -49,7 +49,7 @@ use Rattle.watch_demands.specs.WatchLines.{WatchStage, watchText, watch-start}
 use Rattle.watch_demands.proofs.Texts.{watch-plain, table-front, tells-table, no-holds}
 use Rattle.watches.specs.inside.Stages.{TableIn, AtReleases}
 use Rattle.watches.specs.inside.Fronts.{isEnd, atHold, isOver, front, OnFront, TakesUnheld, ReadsFront}
-use Rattle.watches.proofs.Reached.{step-reaches}
+use Rattle.grammars.proofs.Reached.{step-reaches}
 
 -- ---- a line of the table, and the text's
 -- where both answer the same, what the table's reader makes of it is what the text's reader does

@@ -1,6 +1,5 @@
 -- Laws of the watcher's way through a text.
 pub mod Numbers
-pub mod Reached
 pub mod Fronts
 pub mod Laid
 pub mod Stages

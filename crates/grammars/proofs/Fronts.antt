@@ -5,8 +5,19 @@ use mathlib.Core.List.{List, [], _++_, append-assoc}
 use Prim.Native.Nat.{ℕ, suc}
 use lib.IntN.{ℤ}
 use Rattle.text.specs.Text.{signed, keyLine}
 use Rattle.grammars.specs.Grammars.{Grammar}
 use Rattle.grammars.specs.Reasons.{Passes, Reaches, begin, line}
+
+-- a number that passes in a state passes in any that expects the same and refuses the same
+pub passes-as : {S T : Type 0} {g : Grammar S} {h : Grammar T} {s : S} {t : T} → h .expected t ≡ g .expected s
+    → ((z : ℤ) → h .fault t z ≡ g .fault s z) → {key : List ℕ} {z : ℤ} → Passes g s key z → Passes h t key z
+passes-as same faults {z = z} p = record {
+  form = p .form;
+  is-expected = same ∙ p .is-expected;
+  is-number = p .is-number;
+  in-range = p .in-range;
+  no-fault = faults z ∙ p .no-fault;
+}
 
 -- the lines before line k, apart from what follows them
 pub record Front {S : Type 0} (g : Grammar S) (start : S) (text : List ℕ) (k : ℕ) (s : S) (here : List ℕ) : Type 0 where
