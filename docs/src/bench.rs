@@ -45,6 +45,7 @@ struct Pair {
 const PLAN: Pair = Pair { plain: plain::plan, library: library::plan };
 const REVIEW: Pair = Pair { plain: plain::review, library: library::review };
 const CRANE: Pair = Pair { plain: plain::crane, library: library::crane };
+const WATCH: Pair = Pair { plain: plain::watch, library: library::watch };
 
 /// A text on which the two do not print the same.
 struct Different(Vec<u8>);
@@ -283,6 +284,46 @@ fn print_cranes(dice: &mut Dice, count: usize, rounds: u32) -> Result<(), Differ
     Ok(())
 }
 
+// ---- Full runs --------------------------------------------------------------------------
+
+/// A run of the most ticks with the most tasks and lengths, all tasks nearly alike.
+fn full_run(period: u64, worst: u64, best: u64) -> Vec<u8> {
+    let row = |task: u64| Row {
+        task,
+        period: period + task,
+        worst,
+        best,
+        alpha: 1_000,
+        beta: 0,
+        hold: 0,
+    };
+    let rows: Vec<Row> = (1..=MOST_TASKS as u64).map(row).collect();
+    let mut text = ranked_text(&Table { board: 1, switch: 0, rows });
+    (0..MOST_TASKS).for_each(|task| text.extend(format!("release={}\n", 3 * task).bytes()));
+    text.extend(b"ticks=1000000\nlengths=2048\n");
+    let length = |job| best + job % (worst - best + 1);
+    (0..2048).for_each(|job| text.extend(format!("length={}\n", length(job)).bytes()));
+    text
+}
+
+const FULL_RUNS: [(&str, u64, u64, u64); 3] = [
+    ("hardly a tick idle, more lines than fit", 200, 12, 6),
+    ("every second tick idle, lines that fit", 10_000, 300, 200),
+    ("hardly a tick busy", 100_000, 20, 10),
+];
+
+/// Times full runs. The library goes tick by tick, plain Rust from release to release, so the two
+/// are no ratio.
+fn print_full_runs(rounds: u32) -> Result<(), Different> {
+    println!("watcher, 1000000 ticks, {MOST_TASKS} tasks, 2048 lengths, milliseconds a call");
+    for (name, period, worst, best) in FULL_RUNS {
+        let times = measure(&WATCH, &full_run(period, worst, best), rounds)?;
+        let (plain, library) = (1e3 * times.plain, 1e3 * times.library);
+        println!("  {name}: plain, from release to release, {plain:.2}, library {library:.2}");
+    }
+    Ok(())
+}
+
 // ---- The stack --------------------------------------------------------------------------
 
 /// The bytes of stack that a call is lent to measure it, more than any needs, and what they hold
@@ -356,11 +397,14 @@ fn print_stack(dice: &mut Dice, count: usize) {
         let touched = texts.iter().map(|text| stack_touched(function, text)).max().unwrap_or(0);
         touched - stack_touched(nothing, b"")
     };
+    let runs = FULL_RUNS.map(|(_, period, worst, best)| full_run(period, worst, best));
+    println!("stack of a call with {MOST_TASKS} tasks, bytes:");
     println!(
-        "stack of a call with {MOST_TASKS} tasks, bytes: planner {}, reviewer {}, crane {}",
+        "  planner {}, reviewer {}, crane {}, watcher {}",
         most(PLAN.library, &plans),
         most(REVIEW.library, &reviews),
-        most(CRANE.library, &[crane])
+        most(CRANE.library, &[crane]),
+        most(WATCH.library, &runs)
     );
 }
 
@@ -519,6 +563,7 @@ fn run(options: &Options) -> Result<(), Different> {
     print_cranes(&mut own(1), options.tables / 4 + 1, options.rounds)?;
     print_more(&mut own(2), "with holds", [holding, slow_holding], options)?;
     print_more(&mut own(4), "with a switch", [switching, slow_switching], options)?;
+    print_full_runs(options.rounds)?;
     print_stack(&mut own(3), options.tables.min(MOST_PIECES));
     if options.climb > 0 {
         print_slowest(&mut dice, options.climb, options.rounds)?;
