@@ -132,12 +132,14 @@ module _ (text : List ℕ) (b : ℕ) (rs : List Row) (os rels : List ℕ) (t : �
       some-run = λ keeps. (_, finished-within order offset (lengthOf order offset ls) keeps t);
       promised = λ h. promised order (order-in-range (tableOf b rs os) table-sound) h;
       kept = λ h keeps ds w.
-          run-kept order offset ls (promised order (order-in-range (tableOf b rs os) table-sound) h) run-lasts keeps t ds w;
+          run-kept order offset ls (promised order (order-in-range (tableOf b rs os) table-sound) h) run-lasts keeps t
+          ds w;
     }
       where
         is : (keeps : ℕ → Bool) (ds : List Done) → FinishedWithin order offset (lengthOf order offset ls) keeps t ds
             → ds ≡ finishedBy order offset ls t
-        is keeps ds w = finished-same order offset ls (order-unheld (tableOf b rs os) table-sound (says .none-holds)) keeps t ds w
+        is keeps ds w =
+            finished-same order offset ls (order-unheld (tableOf b rs os) table-sound (says .none-holds)) keeps t ds w
 
 -- ---- how the outcome comes about
 module _ (text : List ℕ) where

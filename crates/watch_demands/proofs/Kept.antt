@@ -1,4 +1,5 @@
--- A run that is watched is one of which demand 3 speaks: each of its jobs takes from its row's best to its worst and the
+-- A run that is watched is one of which demand 3 speaks: each of its jobs takes from its row's best to its worst and
+-- the
 -- switch. So each that is printed keeps the lines of the order's plan.
 use mathlib.Core.Path.{_≡_, refl, sym, ap, subst, _∙_}
 use mathlib.Core.Bool.{Bool, true}

@@ -1,4 +1,5 @@
--- The lines behind a table, as they are read: what they make known of the first releases, the ticks and the lengths, and
+-- The lines behind a table, as they are read: what they make known of the first releases, the ticks and the lengths,
+-- and
 -- that they are the text of these numbers.
 use mathlib.Core.Path.{_≡_, refl, sym, ap, ap₂, subst, _∙_}
 use mathlib.Core.Bool.{true, false}

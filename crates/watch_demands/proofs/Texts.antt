@@ -1,4 +1,5 @@
--- A text to watch that is accepted is a table that the reviewer takes, none of whose tasks holds, and behind it the lines
+-- A text to watch that is accepted is a table that the reviewer takes, none of whose tasks holds, and behind it the
+-- lines
 -- of its run, in their limits.
 use mathlib.Core.Path.{_≡_, refl, sym, ap, subst, _∙_}
 use mathlib.Core.Bool.{Bool, true, false, not}
@@ -21,7 +22,8 @@ use Rattle.grammars.proofs.Sequences.{plain-sequence, split, joined}
 use Rattle.grammars.proofs.Steps.{no-line}
 use Rattle.rows.specs.Rows.{maxTicks, holdAt, tasksOf, hasTask, distinctRows, noRow, rowAt, rowsFor, cost, positionOf}
 use Rattle.rows.specs.declared.Row.{Row}
-use Rattle.tables.specs.TableLines.{Stage, at-board, at-tasks, at-switch, at-field, at-rank, at-end, TableRead, tableOf, tableAt}
+use Rattle.tables.specs.TableLines.{Stage, at-board, at-tasks, at-switch, at-field, at-rank}
+use Rattle.tables.specs.TableLines.{at-end, TableRead, tableOf, tableAt}
 use Rattle.tables.specs.TableLines.{table}
 use Rattle.tables.specs.Claims.{Accepted, Tells}
 use Rattle.tables.proofs.Readings.{Ending, at-last, ending}

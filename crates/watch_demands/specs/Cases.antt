@@ -106,8 +106,10 @@ refusals =
     ∷ call (other (tableOf "worst=10" "hold=0" "hold=0") ("rank=2" ∷ "rank=1" ∷ [])) 0 (refuses 4 6)
     ∷ call (other (tableOf "worst=2" "hold=0" "hold=0") ("rank=2" ∷ "rank=2" ∷ [])) 0 (refuses 6 19)
     -- the run's own lines: out of range, in another place, one too few, one too many
-    ∷ call (tableOf "worst=2" "hold=0" "hold=0" ++ lined ("rank=2" ∷ "rank=1" ∷ "release=1000001" ∷ [])) 0 (refuses 3 20)
-    ∷ call (tableOf "worst=2" "hold=0" "hold=0" ++ lined ("rank=2" ∷ "rank=1" ∷ "release=1000000" ∷ [])) 0 (refuses 1 21)
+    ∷ call (tableOf "worst=2" "hold=0" "hold=0" ++ lined ("rank=2" ∷ "rank=1" ∷ "release=1000001" ∷ [])) 0
+    (refuses 3 20)
+    ∷ call (tableOf "worst=2" "hold=0" "hold=0" ++ lined ("rank=2" ∷ "rank=1" ∷ "release=1000000" ∷ [])) 0
+    (refuses 1 21)
     ∷ call (runOn "ticks=0" []) 0 (refuses 3 22)
     ∷ call (runOn "ticks=1000001" []) 0 (refuses 3 22)
     ∷ call (runOn "ticks=1000000" ("lengths=2049" ∷ [])) 0 (refuses 3 23)
@@ -143,7 +145,8 @@ pub record WatchMet : Type 0 where
   -- a job that is printed, and is held to its best line
   pub printed : isDone 1 11 17 (finishedBy sampleOrder sampleOffset (3 ∷ 1 ∷ 2 ∷ []) 17) ≡ true
   pub held-early : AfterFirstReleases sampleOrder sampleOffset 1 11
-  -- the jobs in order of release: both of tick 1, the higher rank first, that of tick 7, those of ticks 11, 13, 19 and 21
+  -- the jobs in order of release: both of tick 1, the higher rank first, that of tick 7, those of ticks 11, 13, 19 and
+  -- 21
   pub first-job : indexOf sampleOrder sampleOffset 0 0 ≡ 0
   pub with-it : indexOf sampleOrder sampleOffset 1 0 ≡ 1
   pub third-job : indexOf sampleOrder sampleOffset 0 1 ≡ 2

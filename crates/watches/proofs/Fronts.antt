@@ -22,7 +22,8 @@ use types.Run.{OneOf, miss}
 use Rattle.text.specs.declared.Line.{Line}
 use Rattle.text.specs.declared.Line.the-variants as L
 use Rattle.grammars.specs.Forms.{Form, natural, Told, number, no-number, plainly, formAt}
-use Rattle.grammars.specs.Grammars.{the-end, a-line, Verdict, accepted, refused, goes-on, stops, onFault, onTold, onExpected, step}
+use Rattle.grammars.specs.Grammars.{the-end, a-line, Verdict, accepted, refused, goes-on}
+use Rattle.grammars.specs.Grammars.{stops, onFault, onTold, onExpected, step}
 use Rattle.grammars.specs.Grammars.{read, readFrom}
 use Rattle.grammars.specs.Reasons.{Reaches, begin}
 use Rattle.grammars.specs.Sequences.{first, second, onward}
@@ -140,7 +141,8 @@ line-in P.Row s ns long unended =
     ]
 
 -- ---- a line that is taken
-module _ (text : List ℕ) (p : Progress) (ns : List ℕ) (on : OnFront text (p, ns)) (unended : isEnd (p .stand .part) ≡ false)
+module _ (text : List ℕ) (p : Progress) (ns : List ℕ) (on : OnFront text (p, ns))
+    (unended : isEnd (p .stand .part) ≡ false)
   where
     abbrev stage : Stage
     stage = stageOf (p .stand) ns
@@ -155,7 +157,8 @@ module _ (text : List ℕ) (p : Progress) (ns : List ℕ) (on : OnFront text (p,
 
     at-first : {b : Bool} → Line-here stage b
         → Reaches watchText watch-start text (p .line) (first stage) (drop (p .offset) text)
-    at-first l = subst (λ w. Reaches watchText watch-start text (p .line) w (drop (p .offset) text)) (first-still l) (on .1)
+    at-first l =
+        subst (λ w. Reaches watchText watch-start text (p .line) w (drop (p .offset) text)) (first-still l) (on .1)
 
     to-mine : {b : Bool} → Line-here stage b → (x : Progress × List ℕ) → Mine text stage (p .offset) (p .line) x
         → TakesUnheld p text ns (x .0) (x .1)
@@ -182,7 +185,8 @@ module _ (text : List ℕ) (p : Progress) (ns : List ℕ) (on : OnFront text (p,
 
       -- where it is a hold, and that is 0
       pub takes-no-hold : atHold (p .stand .part) (p .stand .position) ≡ true → (v next : ℕ)
-          → lineAt (bytes "hold=") noHold noHold text (p .offset) (p .line) ≡ L.Number v next → TakesUnheld p text ns q ms
+          → lineAt (bytes "hold=") noHold noHold text (p .offset) (p .line) ≡ L.Number v next → TakesUnheld p text ns q
+          ms
       unfolding formAt
       takes-no-hold here v next e = go (subst (Line-here stage) here line-here)
         where

@@ -6,7 +6,8 @@ use mathlib.Core.List.{List, [], _∷_, _++_, map}
 use mathlib.Core.Logic.{inl, inr}
 use Prim.Native.Nat.{ℕ, zero, suc, _+_, _-_, _*_, _≤_, _<_}
 use native.Mathlib.Omega.{arith}
-use lib.ListN.{length, getD, take, drop, set, length-take, length-drop, length-map, length-set, length-append, replicate}
+use lib.ListN.{length, getD, take, drop, set, length-take}
+use lib.ListN.{length-drop, length-map, length-set, length-append, replicate}
 use lib.Dec.{eqb}
 use lib.Seq.{getD-take, getD-drop, length-take-le, getD-set-same, getD-set-other}
 use borrow.Author.Tests.{eqb-true, eqb-false}
@@ -202,7 +203,8 @@ module _ {ns : List ℕ} {n : ℕ} (t : TableIn ns n) (positions columns : List 
 
 -- ---- what the run asks
 -- numbers from an index on, as they are lent
-from-at : (ns : List ℕ) (at j : ℕ) → at + j < length ns → getD (take (length ns - at) (drop at ns)) j 0 ≡ getD ns (at + j) 0
+from-at : (ns : List ℕ) (at j : ℕ) → at + j < length ns → getD (take (length ns - at) (drop at ns)) j 0 ≡ getD ns
+    (at + j) 0
 from-at ns at j l = getD-take (length ns - at) (drop at ns) j 0 (omega arith) ∙ getD-drop at ns j 0
 
 from-long : (ns : List ℕ) (at : ℕ) → length (take (length ns - at) (drop at ns)) ≡ length ns - at

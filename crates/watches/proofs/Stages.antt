@@ -41,7 +41,8 @@ use Rattle.watches.specs.inside.Lines.{rangeOf, Told, Stopped, ReadsNumb
 use Rattle.watches.specs.inside.Stages.{TableIn, rowsOf, tasksOf, orderOf, behind, Resumes, AtReleases, OrderedBy}
 use Rattle.watches.specs.inside.Stages.{Laid, laidOrder, laidOffset, AtTicks, AtLengths, OffsetsAre}
 use Rattle.watches.proofs.Numbers.{line-number, line-refused, told-within, told-resumes, stopped-refused}
-use Rattle.watches.proofs.Laid.{count-is, some-rows, few-rows, lay, from, period-limits, released, cost-at, best-at}
+use Rattle.watches.proofs.Laid.{count-is, some-rows, few-rows, lay, from}
+use Rattle.watches.proofs.Laid.{period-limits, released, cost-at, best-at}
 use Rattle.watches.proofs.Laid.{costs-long, bests-long}
 
 -- ---- a refused text is the call's refusal
@@ -82,7 +83,8 @@ module _ (text : List ℕ) (at k : ℕ) (ns : List ℕ) (n : ℕ) (a : AtRelease
   still vs l = rw (ne-eqb (length vs) total (λ e. omega arith))
 
   expects : (vs : List ℕ) → length vs < total
-      → watchText .expected (behind t (releasesStage total vs)) ≡ a-line key (natural (low (length vs)) (high (length vs)))
+      → watchText .expected (behind t (releasesStage total vs)) ≡ a-line key
+      (natural (low (length vs)) (high (length vs)))
   expects vs l = rw (still vs l, one-range (length vs))
 
   lets : (vs : List ℕ) → length vs < total → (z : ℤ) → watchText .fault (behind t (releasesStage total vs)) z ≡ 0
@@ -134,26 +136,37 @@ module _ (text : List ℕ) (at k : ℕ) (ns : List ℕ) (n : ℕ) (positions col
       → read watchText watch-start text ≡ refused (refusal x) (place x)
   ticks-refused x left e =
       a .resumes
-      ∙ line-refused watchText text (behind (l .table) (at-ticks (l .releases))) at k (bytes "ticks=") minTicks maxTicks refl
+      ∙ line-refused watchText text (behind (l .table) (at-ticks (l .releases))) at k (bytes "ticks=") minTicks
+      maxTicks refl
       (λ z. refl) x left (sym e)
 
   module _ (ticks next : ℕ) (e : lineAt (bytes "ticks=") minTicks maxTicks text at k ≡ L.Number ticks next) where
     at-count : Resumes text (behind (l .table) (at-lengths (l .releases) ticks)) next (k + 1)
     at-count =
         a .resumes
-        ∙ (line-number watchText text (behind (l .table) (at-ticks (l .releases))) at k (bytes "ticks=") minTicks maxTicks
+        ∙ (line-number watchText text (behind (l .table) (at-ticks (l .releases))) at k (bytes "ticks=") minTicks
+        maxTicks
         refl (λ z. refl) ticks next e
         ∙ ap (readFrom watchText text (behind (l .table) (at-lengths (l .releases) ticks)) next) (sym (add-one k)))
 
     few-ticks : ticks ≤ maxTicks
-    few-ticks = number-within (λ x. 0) (bytes "ticks=") minTicks maxTicks text at k ticks next (sym (no-test _ _) ∙ e) .le-high
+    few-ticks =
+        let told = sym (no-test _ _) ∙ e in
+        number-within (λ x. 0) (bytes "ticks=") minTicks maxTicks text at k ticks next told .le-high
 
     pub count-refused : (x : Line) → NoNumber x → x ≡ lineAt (bytes "lengths=") minLengths maxLengths text next (k + 1)
         → read watchText watch-start text ≡ refused (refusal x) (place x)
     count-refused x left h =
         at-count
-        ∙ line-refused watchText text (behind (l .table) (at-lengths (l .releases) ticks)) next (k + 1) (bytes "lengths=")
+        ∙ line-refused watchText text (behind (l .table) (at-lengths (l .releases) ticks)) next (k + 1)
+        (bytes "lengths=")
         minLengths maxLengths refl (λ z. refl) x left (sym h)
+
+    pub count-small : (count past : ℕ)
+        → lineAt (bytes "lengths=") minLengths maxLengths text next (k + 1) ≡ L.Number count past → count ≤ maxLengths
+    count-small count past h =
+        let told = sym (no-test _ _) ∙ h in
+        number-within (λ x. 0) (bytes "lengths=") minLengths maxLengths text next (k + 1) count past told .le-high
 
     pub at-lengths-then : (count past : ℕ)
         → lineAt (bytes "lengths=") minLengths maxLengths text next (k + 1) ≡ L.Number count past
@@ -169,18 +182,9 @@ module _ (text : List ℕ) (at k : ℕ) (ns : List ℕ) (n : ℕ) (positions col
           (sym many) (omega arith));
       soon = omega (arith, a .soon);
       few-ticks = few-ticks;
-      few =
-          let w = number-within (λ x. 0) (bytes "lengths=") minLengths maxLengths text next (k + 1) count past
-          (sym (no-test _ _) ∙ h) in
-          omega (arith, w .le-high, many);
+      few = omega (arith, count-small count past h, many);
       as-many = many-owners ∙ sym many;
     }
-
-    pub count-small : (count past : ℕ)
-        → lineAt (bytes "lengths=") minLengths maxLengths text next (k + 1) ≡ L.Number count past → count ≤ maxLengths
-    count-small count past h =
-        number-within (λ x. 0) (bytes "lengths=") minLengths maxLengths text next (k + 1) count past (sym (no-test _ _) ∙ h)
-        .le-high
 
 -- ---- the lengths
 module _ (text : List ℕ) (at k : ℕ) (ns : List ℕ) (n : ℕ) (positions columns offsets : List ℕ) (ticks : ℕ)
@@ -198,104 +202,105 @@ module _ (text : List ℕ) (at k : ℕ) (ns : List ℕ) (n : ℕ) (positions col
     period-max = λ j h. period-limits laid j h .1;
   }
 
-  module _ (owners : List ℕ) (owns : Owns n owners offsets columns) (many-owners : length owners ≡ length lengths₀) where
-    pub owned : Owned (laidOrder laid) (laidOffset laid) owners
-    owned = owns .owned (laidOrder laid) (laidOffset laid) (released laid)
+  module _ (owners : List ℕ) (owns : Owns n owners offsets columns) (many-owners : length owners ≡ length lengths₀)
+    where
+      pub owned : Owned (laidOrder laid) (laidOffset laid) owners
+      owned = owns .owned (laidOrder laid) (laidOffset laid) (released laid)
 
-    abbrev lows : List ℕ
-    lows = from laid (n + n)
+      abbrev lows : List ℕ
+      lows = from laid (n + n)
 
-    abbrev highs : List ℕ
-    highs = from laid n
+      abbrev highs : List ℕ
+      highs = from laid n
 
-    pub readable : Readable k lows highs owners lengths₀
-    readable = record {
-      soon = omega (arith, a .soon, a .few);
-      as-many = many-owners;
-      owned = λ m l. (
-        omega (arith, owns .within m l, bests-long laid),
-        omega (arith, owns .within m l, costs-long laid),
-      );
-    }
+      pub readable : Readable k lows highs owners lengths₀
+      readable = record {
+        soon = omega (arith, a .soon, a .few);
+        as-many = many-owners;
+        owned = λ m l. (
+          omega (arith, owns .within m l, bests-long laid),
+          omega (arith, owns .within m l, costs-long laid),
+        );
+      }
 
-    abbrev stage : List ℕ → WatchStage
-    stage vs = behind (laid .table) (lengthsStage (length lengths₀) (laid .releases) ticks vs)
+      abbrev stage : List ℕ → WatchStage
+      stage vs = behind (laid .table) (lengthsStage (length lengths₀) (laid .releases) ticks vs)
 
-    open-still : (vs : List ℕ) → length vs < length lengths₀
-        → lengthsStage (length lengths₀) (laid .releases) ticks vs
-        ≡ at-length (length lengths₀) (laid .releases) ticks vs
-    open-still vs l = rw (ne-eqb (length vs) (length lengths₀) (λ e. omega arith))
+      open-still : (vs : List ℕ) → length vs < length lengths₀
+          → lengthsStage (length lengths₀) (laid .releases) ticks vs
+          ≡ at-length (length lengths₀) (laid .releases) ticks vs
+      open-still vs l = rw (ne-eqb (length vs) (length lengths₀) (λ e. omega arith))
 
-    -- the range of a length is that of its own job's row
-    in-range : (m : ℕ) → m < length lengths₀
-        → let r = rowAt (laidOrder laid) (rankWith (laidOrder laid) (laidOffset laid) m) in
-        (rangeOf lows owners m ≡ r .best) × (rangeOf highs owners m ≡ cost r)
-    in-range m l =
-        let here : m < length owners = omega (arith, many-owners) in
-        let o = getD owners m 0 in
-        let w = owns .within m here in
-        let row = ap (rowAt (laidOrder laid)) (owned m here) in
-        (best-at laid o w ∙ ap (λ (r : Row). r .best) row, cost-at laid o w ∙ ap cost row)
+      -- the range of a length is that of its own job's row
+      in-range : (m : ℕ) → m < length lengths₀
+          → let r = rowAt (laidOrder laid) (rankWith (laidOrder laid) (laidOffset laid) m) in
+          (rangeOf lows owners m ≡ r .best) × (rangeOf highs owners m ≡ cost r)
+      in-range m l =
+          let here : m < length owners = omega (arith, many-owners) in
+          let o = getD owners m 0 in
+          let w = owns .within m here in
+          let row = ap (rowAt (laidOrder laid)) (owned m here) in
+          (best-at laid o w ∙ ap (λ (r : Row). r .best) row, cost-at laid o w ∙ ap cost row)
 
-    expects-length : (vs : List ℕ) → length vs < length lengths₀
-        → watchText .expected (stage vs)
-        ≡ a-line (bytes "length=") (natural (rangeOf lows owners (length vs)) (rangeOf highs owners (length vs)))
-    expects-length vs l =
-        let w = in-range (length vs) l in
-        ap (λ s. watchText .expected (behind (laid .table) s)) (open-still vs l)
-        ∙ ap₂ (λ x y. a-line (bytes "length=") (natural x y)) (sym (w .0)) (sym (w .1))
+      expects-length : (vs : List ℕ) → length vs < length lengths₀
+          → watchText .expected (stage vs)
+          ≡ a-line (bytes "length=") (natural (rangeOf lows owners (length vs)) (rangeOf highs owners (length vs)))
+      expects-length vs l =
+          let w = in-range (length vs) l in
+          ap (λ s. watchText .expected (behind (laid .table) s)) (open-still vs l)
+          ∙ ap₂ (λ x y. a-line (bytes "length=") (natural x y)) (sym (w .0)) (sym (w .1))
 
-    goes-length : (vs : List ℕ) → length vs < length lengths₀ → (v : ℕ)
-        → watchText .after (stage vs) (pos v) ≡ stage (vs ++ (v ∷ []))
-    goes-length vs l v = ap (λ s. watchText .after (behind (laid .table) s) (pos v)) (open-still vs l)
+      goes-length : (vs : List ℕ) → length vs < length lengths₀ → (v : ℕ)
+          → watchText .after (stage vs) (pos v) ≡ stage (vs ++ (v ∷ []))
+      goes-length vs l v = ap (λ s. watchText .after (behind (laid .table) s) (pos v)) (open-still vs l)
 
-    module _ (vs : List ℕ) (many : length vs ≡ length lengths₀) where
-      pub lengths-refused : (x : Line) → NoNumber x
-          → ReadsNumbers text (bytes "length=") (rangeOf lows owners) (rangeOf highs owners) at k vs x
-          → read watchText watch-start text ≡ refused (refusal x) (place x)
-      lengths-refused (L.Number v next) left r = absurd (miss (1 ∷ 2 ∷ []) 0 tt left)
-      lengths-refused L.End left r = absurd r
-      lengths-refused (L.Refused m j) left r =
-          a .resumes
-          ∙ stopped-refused text (bytes "length=") (rangeOf lows owners) (rangeOf highs owners) watchText stage
-          (length lengths₀) expects-length (λ xs l z. refl) goes-length (L.Refused m j) left (omega (arith, many)) r
+      module _ (vs : List ℕ) (many : length vs ≡ length lengths₀) where
+        pub lengths-refused : (x : Line) → NoNumber x
+            → ReadsNumbers text (bytes "length=") (rangeOf lows owners) (rangeOf highs owners) at k vs x
+            → read watchText watch-start text ≡ refused (refusal x) (place x)
+        lengths-refused (L.Number v next) left r = absurd (miss (1 ∷ 2 ∷ []) 0 tt left)
+        lengths-refused L.End left r = absurd r
+        lengths-refused (L.Refused m j) left r =
+            a .resumes
+            ∙ stopped-refused text (bytes "length=") (rangeOf lows owners) (rangeOf highs owners) watchText stage
+            (length lengths₀) expects-length (λ xs l z. refl) goes-length (L.Refused m j) left (omega (arith, many)) r
 
-      module _ (next : ℕ) (told : Told text (bytes "length=") (rangeOf lows owners) (rangeOf highs owners) at k vs next)
-        where
-          abbrev last : WatchStage
-          last = behind (laid .table) (run-end (laid .releases) ticks vs)
+        module _ (next : ℕ) (told : Told text (bytes "length=") (rangeOf lows owners) (rangeOf highs owners) at k vs next)
+          where
+            abbrev last : WatchStage
+            last = behind (laid .table) (run-end (laid .releases) ticks vs)
 
-          at-last : Resumes text last next (k + length vs)
-          at-last =
-              let all : lengthsStage (length lengths₀) (laid .releases) ticks vs ≡ run-end (laid .releases) ticks vs =
-              rw (eq-eqb (length vs) (length lengths₀) many) in
-              a .resumes
-              ∙ (told-resumes text (bytes "length=") (rangeOf lows owners) (rangeOf highs owners) watchText stage
-              (length lengths₀) expects-length (λ xs l z. refl) goes-length told (omega (arith, many))
-              ∙ ap (λ s. readFrom watchText text (behind (laid .table) s) next (k + length vs)) all)
+            at-last : Resumes text last next (k + length vs)
+            at-last =
+                let all : lengthsStage (length lengths₀) (laid .releases) ticks vs ≡ run-end (laid .releases) ticks vs =
+                rw (eq-eqb (length vs) (length lengths₀) many) in
+                a .resumes
+                ∙ (told-resumes text (bytes "length=") (rangeOf lows owners) (rangeOf highs owners) watchText stage
+                (length lengths₀) expects-length (λ xs l z. refl) goes-length told (omega (arith, many))
+                ∙ ap (λ s. readFrom watchText text (behind (laid .table) s) next (k + length vs)) all)
 
-          by-end : (x : Line) → x ≡ endAt text next (k + length vs)
-              → read watchText watch-start text
-              ≡ onStep (onAnswer watchText last (k + length vs) x) (readFrom watchText text)
-          by-end x e =
-              at-last
-              ∙ (read-steps watchText text last next (k + length vs)
-              ∙ ap (λ y. onStep y (readFrom watchText text))
-              (step-end watchText text last next (k + length vs) refl
-              ∙ ap (onAnswer watchText last (k + length vs)) (sym (no-test _ _) ∙ sym e)))
+            by-end : (x : Line) → x ≡ endAt text next (k + length vs)
+                → read watchText watch-start text
+                ≡ onStep (onAnswer watchText last (k + length vs) x) (readFrom watchText text)
+            by-end x e =
+                at-last
+                ∙ (read-steps watchText text last next (k + length vs)
+                ∙ ap (λ y. onStep y (readFrom watchText text))
+                (step-end watchText text last next (k + length vs) refl
+                ∙ ap (onAnswer watchText last (k + length vs)) (sym (no-test _ _) ∙ sym e)))
 
-          pub end-refused : (m j : ℕ) → L.Refused m j ≡ endAt text next (k + length vs)
-              → read watchText watch-start text ≡ refused m j
-          end-refused m j e = by-end (L.Refused m j) e
+            pub end-refused : (m j : ℕ) → L.Refused m j ≡ endAt text next (k + length vs)
+                → read watchText watch-start text ≡ refused m j
+            end-refused m j e = by-end (L.Refused m j) e
 
-          pub whole : (x : Line) → OneOf (0 ∷ 1 ∷ []) (tagOf Line-type x) → x ≡ endAt text next (k + length vs)
-              → (room : ℕ)
-              → watched text room ≡ runInTime room (laidOrder laid) (laidOffset laid) vs ticks
-          whole x some e room = watched-is text room (accepted last) (go x some e)
-            where
-              go : (x : Line) → OneOf (0 ∷ 1 ∷ []) (tagOf Line-type x) → x ≡ endAt text next (k + length vs)
-                  → read watchText watch-start text ≡ accepted last
-              go (L.Number v past) some e =
-                  absurd (no-number-at-end (λ x. 0) text next (k + length vs) v past (sym (no-test _ _) ∙ sym e))
-              go L.End some e = by-end L.End e
-              go (L.Refused m j) some e = absurd (miss (0 ∷ 1 ∷ []) 2 tt some)
+            pub whole : (x : Line) → OneOf (0 ∷ 1 ∷ []) (tagOf Line-type x) → x ≡ endAt text next (k + length vs)
+                → (room : ℕ)
+                → watched text room ≡ runInTime room (laidOrder laid) (laidOffset laid) vs ticks
+            whole x some e room = watched-is text room (accepted last) (go x some e)
+              where
+                go : (x : Line) → OneOf (0 ∷ 1 ∷ []) (tagOf Line-type x) → x ≡ endAt text next (k + length vs)
+                    → read watchText watch-start text ≡ accepted last
+                go (L.Number v past) some e =
+                    absurd (no-number-at-end (λ x. 0) text next (k + length vs) v past (sym (no-test _ _) ∙ sym e))
+                go L.End some e = by-end L.End e
+                go (L.Refused m j) some e = absurd (miss (0 ∷ 1 ∷ []) 2 tt some)

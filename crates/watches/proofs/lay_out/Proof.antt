@@ -26,7 +26,8 @@ sub-rows : tie.Need-sub-rows
 sub-rows c = let t = c .before .before .before .before .pre .0 in omega (arith, head-there (t .read-as) (t .ok))
 
 part-rows-start : tie.Need-part-rows-start
-part-rows-start c = let t = c .before .before .before .before .pre .0 in omega (arith, head-there (t .read-as) (t .ok))
+part-rows-start c =
+    let t = c .before .before .before .before .pre .0 in omega (arith, head-there (t .read-as) (t .ok))
 
 positions-for-requires : tie.Need-positions-for-requires
 positions-for-requires c κs =
@@ -37,7 +38,8 @@ positions-for-requires c κs =
 
 fill-columns-requires : tie.Need-fill-columns-requires
 fill-columns-requires c κs =
-    let s = c .before .before .before .before .before .before .before .before .before .before .before .before .before in
+    let far = c .before .before .before .before .before .before .before .before .before .before in
+    let s = far .before .before .before in
     let o = c .before .before .before .before .before .before .before .before .before .order-at in
     let p = c .before .before .before .before .positions-for in
     rows-fillable (s .pre .0) (o .result) (o .ensures) (s .args .positions .now) (p .last .1 .1 .1 .0)
@@ -45,8 +47,9 @@ fill-columns-requires c κs =
 
 returns : tie.Need-returns
 returns c t =
-    let s = c .before .before .before .before .before .before .before .before .before .before .before .before .before .before .before .before in
-    let o = c .before .before .before .before .before .before .before .before .before .before .before .before .order-at in
+    let far = c .before .before .before .before .before .before .before .before .before .before in
+    let s = far .before .before .before .before .before .before in
+    let o = far .before .before .order-at in
     let p = c .before .before .before .before .before .before .before .positions-for in
     let f = c .before .before .fill-columns in
     ordered-by t (o .result) (o .ensures) (s .args .positions .now) (p .last .1 .1 .1 .0)

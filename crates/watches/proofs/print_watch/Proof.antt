@@ -20,7 +20,8 @@ room w = search needs
 
 -- the call with this room
 answer : (w : tie.After-watch-board)
-    → Written (watched (now (w .before .before .before .args .text)) watchRoom) (now (w .before .before .before .args .out))
+    → Written (watched (now (w .before .before .before .args .text)) watchRoom)
+    (now (w .before .before .before .args .out))
     (w .watch-board .last .1 .0) (w .watch-board .result)
 answer w = rw (room w) at (w .watch-board .ensures .answer)
 

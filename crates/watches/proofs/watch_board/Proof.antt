@@ -33,14 +33,16 @@ returns : tie.Need-returns
 returns c =
     let s = c .before .before .before .before .before .before .before in
     says (s .args .text .now) (s .args .out .now) _ _
-    (refused-text (s .args .text .now) (s .args .out .now) (c .before .before .before .read-front .ensures .refused-is (c .before .if1 .taken))
+    (refused-text (s .args .text .now) (s .args .out .now)
+    (c .before .before .before .read-front .ensures .refused-is (c .before .if1 .taken))
     (c .refused .ensures))
 
 slice-aggregate-watch-table : tie.Need-slice-aggregate-watch-table
 slice-aggregate-watch-table c = search needs
 
 watch-table-requires : tie.Need-watch-table-requires
-watch-table-requires c κs = c .before .before .before .before .before .read-front .ensures .table-read (c .before .before .before .if1 .left)
+watch-table-requires c κs =
+    c .before .before .before .before .before .read-front .ensures .table-read (c .before .before .before .if1 .left)
 
 same-length : tie.Need-same-length
 same-length c = search needs

@@ -12,7 +12,9 @@ use Rattle.watches.proofs.watch_lengths.Statement.{statement}
 use Rattle.watches.proofs.watch_lengths.Tie as tie
 
 fill-owners-requires : tie.Need-fill-owners-requires
-fill-owners-requires c κs = let s = c .before .before .before .before .before .before .before .before in mergeable _ _ _ _ _ _ _ _ _ _ _ (s .pre)
+fill-owners-requires c κs =
+    let s = c .before .before .before .before .before .before .before .before in
+    mergeable _ _ _ _ _ _ _ _ _ _ _ (s .pre)
 
 mul-costs : tie.Need-mul-costs
 mul-costs c = search needs
@@ -46,7 +48,8 @@ slice-aggregate-read-numbers c = search needs
 
 read-numbers-requires : tie.Need-read-numbers-requires
 read-numbers-requires c κs =
-    let s = c .before .before .before .before .before .before .before .before .before .before .before .before .before .before .before .before in
+    let far = c .before .before .before .before .before .before .before .before .before .before in
+    let s = far .before .before .before .before .before .before in
     let f = c .before .before .before .before .before .before .before .fill-owners in
     (refl, readable _ _ _ _ _ _ _ _ _ _ _ (s .pre) (f .last .0) (f .ensures) (f .kept .0 ∙ s .pre .as-many))
 
@@ -64,12 +67,15 @@ same-length-2 c = search needs
 
 returns : tie.Need-returns
 returns c =
-    let s = c .before .before .before .before .before .before .before .before .before .before .before .before .before .before .before .before .before .before .before .before .before in
-    let f = c .before .before .before .before .before .before .before .before .before .before .before .before .fill-owners in
+    let far = c .before .before .before .before .before .before .before .before .before .before in
+    let farther = far .before .before .before .before .before .before .before .before .before .before in
+    let s = farther .before in
+    let f = far .before .before .fill-owners in
     let r = c .before .before .before .before .read-numbers in
     refused-text (s .args .text .now) (s .args .out .now)
     (lengths-refused _ _ _ _ _ _ _ _ _ _ _ (s .pre) (f .last .0) (f .ensures) (f .kept .0 ∙ s .pre .as-many)
-    (r .last .1 .1 .1 .1 .1 .1 .1 .0) (r .kept .1 .1 .1 .1 .1 .1 .1 .0) (r .result) (c .before .match .keys2) (r .ensures))
+    (r .last .1 .1 .1 .1 .1 .1 .1 .0) (r .kept .1 .1 .1 .1 .1 .1 .1 .0) (r .result) (c .before .match .keys2)
+    (r .ensures))
     (c .refused-by .ensures)
 
 cast-many : tie.Need-cast-many
@@ -95,9 +101,11 @@ same-length-4 c = search needs
 
 returns-2 : tie.Need-returns-2
 returns-2 c =
-    let s = c .before .before .before .before .before .before .before .before .before .before .before .before .before .before .before .before .before .before .before .before .before .before .before .before .before .before .before in
-    let f = c .before .before .before .before .before .before .before .before .before .before .before .before .before .before .before .before .before .before .fill-owners in
-    let r = c .before .before .before .before .before .before .before .before .before .before .read-numbers in
+    let far = c .before .before .before .before .before .before .before .before .before .before in
+    let farther = far .before .before .before .before .before .before .before .before .before .before in
+    let s = farther .before .before .before .before .before .before .before in
+    let f = far .before .before .before .before .before .before .before .before .fill-owners in
+    let r = far .read-numbers in
     let d = c .before .before .before .before .before .before .answer .given in
     let e = c .before .before .end .given in
     refused-text (s .args .text .now) (s .args .out .now)
@@ -121,16 +129,19 @@ same-length-7 c = search needs
 
 returns-3 : tie.Need-returns-3
 returns-3 c =
-    let s = c .before .before .before .before .before .before .before .before .before .before .before .before .before .before .before .before .before .before .before .before .before .before .before .before .before .before .before .before .before .before in
-    let f = c .before .before .before .before .before .before .before .before .before .before .before .before .before .before .before .before .before .before .before .before .before .fill-owners in
-    let r = c .before .before .before .before .before .before .before .before .before .before .before .before .before .read-numbers in
+    let far = c .before .before .before .before .before .before .before .before .before .before in
+    let farther = far .before .before .before .before .before .before .before .before .before .before in
+    let s = farther .before .before .before .before .before .before .before .before .before .before in
+    let f = farther .before .fill-owners in
+    let r = far .before .before .before .read-numbers in
     let d = c .before .before .before .before .before .before .before .before .before .answer .given in
     let e = c .before .before .before .before .before .before .before .end-at in
     let w = c .before .before .watch-run in
     let many = f .kept .0 ∙ s .pre .as-many in
     let is = whole _ _ _ _ _ _ _ _ _ _ _ (s .pre) (f .last .0) (f .ensures) many
     (r .last .1 .1 .1 .1 .1 .1 .1 .0) (r .kept .1 .1 .1 .1 .1 .1 .1 .0) (d .0 .1 .0)
-    (subst (ReadsNumbers _ _ _ _ _ _ (r .last .1 .1 .1 .1 .1 .1 .1 .0)) (d .1) (r .ensures)) (e .result) (c .before .before .before .before .before .before .match2 .keys2) (e .ensures)
+    (subst (ReadsNumbers _ _ _ _ _ _ (r .last .1 .1 .1 .1 .1 .1 .1 .0)) (d .1) (r .ensures)) (e .result)
+    (c .before .before .before .before .before .before .match2 .keys2) (e .ensures)
     (length (s .args .out .now)) in
     subst (λ (x : Outcome). Written x (s .args .out .now) (w .last .0) (w .result)) (sym is)
     (w .ensures (s .pre .laid) (owned _ _ _ _ _ _ _ _ _ _ _ (s .pre) (f .last .0) (f .ensures) many)

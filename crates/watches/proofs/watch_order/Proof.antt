@@ -47,11 +47,13 @@ refused-by-requires-2 c κs = search needs
 
 returns-2 : tie.Need-returns-2
 returns-2 c =
-    let s = c .before .before .before .before .before .before .before .before .before .before .before .before .before .before in
+    let far = c .before .before .before .before .before .before .before .before .before .before in
+    let s = far .before .before .before .before in
     let d = c .before .before .before .before .before .answer .given in
     let a = c .before .before .line-at2 in
     refused-text (s .args .text .now) (s .args .out .now)
-    (count-refused _ _ _ _ _ _ _ _ (s .pre) (d .0 .0) (d .0 .1 .0) (sym (c .before .before .before .before .before .before .before .line-at .ensures) ∙ d .1) (a .result)
+    (count-refused _ _ _ _ _ _ _ _ (s .pre) (d .0 .0) (d .0 .1 .0)
+    (sym (c .before .before .before .before .before .before .before .line-at .ensures) ∙ d .1) (a .result)
     (c .before .match2 .keys2) (a .ensures))
     (c .refused-by2 .ensures)
 
@@ -61,10 +63,13 @@ add-watch-lengths c = search needs
 -- no more than there is room for
 few : (c : tie.After-watch-lengths-arg) → c .before .before .answer2 .given .0 .0 ≤ maxLengths
 few c =
-    let s = c .before .before .before .before .before .before .before .before .before .before .before .before .before .before .before .before in
+    let far = c .before .before .before .before .before .before .before .before .before .before in
+    let s = far .before .before .before .before .before .before in
     let d = c .before .before .before .before .before .before .before .answer .given in
     let e = c .before .before .answer2 .given in
-    count-small _ _ _ _ _ _ _ _ (s .pre) (d .0 .0) (d .0 .1 .0) (sym (c .before .before .before .before .before .before .before .before .before .line-at .ensures) ∙ d .1) (e .0 .0) (e .0 .1 .0)
+    count-small _ _ _ _ _ _ _ _ (s .pre) (d .0 .0) (d .0 .1 .0)
+    (sym (c .before .before .before .before .before .before .before .before .before .line-at .ensures) ∙ d .1)
+    (e .0 .0) (e .0 .1 .0)
     (sym (c .before .before .before .before .line-at2 .ensures) ∙ e .1)
 
 array-borrow-prefix-owners : tie.Need-array-borrow-prefix-owners
@@ -81,10 +86,11 @@ slice-aggregate-watch-lengths-2 c = sym (length-take-le _ _ (few (c .before .bef
 
 watch-lengths-requires : tie.Need-watch-lengths-requires
 watch-lengths-requires c κs =
-    let s = c .before .before .before .before .before .before .before .before .before .before .before .before .before .before .before .before .before .before in
+    let far = c .before .before .before .before .before .before .before .before .before .before in
+    let s = far .before .before .before .before .before .before .before .before in
     let d = c .before .before .before .before .before .before .before .before .before .answer .given in
     let e = c .before .before .before .before .answer2 .given in
-    at-lengths-then _ _ _ _ _ _ _ _ (s .pre) (d .0 .0) (d .0 .1 .0) (sym (c .before .before .before .before .before .before .before .before .before .before .before .line-at .ensures) ∙ d .1)
+    at-lengths-then _ _ _ _ _ _ _ _ (s .pre) (d .0 .0) (d .0 .1 .0) (sym (far .before .line-at .ensures) ∙ d .1)
     (e .0 .0) (e .0 .1 .0) (sym (c .before .before .before .before .before .before .line-at2 .ensures) ∙ e .1) _ _
     (length-take-le _ _ (few (c .before .before)))
     (length-take-le _ _ (few (c .before .before)))

@@ -12,11 +12,13 @@ use Rattle.watches.proofs.watch_run.Tie as tie
 
 sub-rows : tie.Need-sub-rows
 sub-rows c =
-    let t = c .before .before .before .before .before .before .pre .0 .table in omega (arith, head-there (t .read-as) (t .ok))
+    let t = c .before .before .before .before .before .before .pre .0 .table in
+    omega (arith, head-there (t .read-as) (t .ok))
 
 part-rows-start : tie.Need-part-rows-start
 part-rows-start c =
-    let t = c .before .before .before .before .before .before .pre .0 .table in omega (arith, head-there (t .read-as) (t .ok))
+    let t = c .before .before .before .before .before .before .pre .0 .table in
+    omega (arith, head-there (t .read-as) (t .ok))
 
 part-rows-end : tie.Need-part-rows-end
 part-rows-end c = search needs
@@ -46,10 +48,12 @@ mul-tasks-2 : tie.Need-mul-tasks-2
 mul-tasks-2 c = search needs
 
 sub-tasks : tie.Need-sub-tasks
-sub-tasks c = omega (arith, ranks-held (c .before .before .before .before .before .before .before .before .before .pre .0 .table))
+sub-tasks c =
+    omega (arith, ranks-held (c .before .before .before .before .before .before .before .before .before .pre .0 .table))
 
 part-tasks-start : tie.Need-part-tasks-start
-part-tasks-start c = omega (arith, ranks-held (c .before .before .before .before .before .before .before .before .before .pre .0 .table))
+part-tasks-start c =
+    omega (arith, ranks-held (c .before .before .before .before .before .before .before .before .before .pre .0 .table))
 
 part-tasks-end : tie.Need-part-tasks-end
 part-tasks-end c = search needs
@@ -67,14 +71,17 @@ part-costs-end : tie.Need-part-costs-end
 part-costs-end c = search needs
 
 run-order-requires : tie.Need-run-order-requires
-run-order-requires c κs = let s = c .before .before .before .before .before .before .before .before .before .before .before .before in startable (s .pre .0) (s .args .ticks) (s .pre .1)
+run-order-requires c κs =
+    let far = c .before .before .before .before .before .before .before .before .before .before in
+    let s = far .before .before in startable (s .pre .0) (s .args .ticks) (s .pre .1)
 
 same-length : tie.Need-same-length
 same-length c = search needs
 
 returns-2 : tie.Need-returns-2
 returns-2 c l owned many =
-    let s = c .before .before .before .before .before .before .before .before .before .before .before .before .before .before .before in
+    let far = c .before .before .before .before .before .before .before .before .before .before in
+    let s = far .before .before .before .before .before in
     let late = c .before .before .before .before .before .before .before .late-rank in
     let r = c .before .before .run-order in
     let is = timely-outcome l (late .result) (length (s .args .out .now)) (s .args .lengths .now) (s .args .ticks)

@@ -24,13 +24,15 @@ array-share-prefix-ranges : tie.Need-array-share-prefix-ranges
 array-share-prefix-ranges c = few-rows (c .before .before .before .before .before .before .pre .table)
 
 slice-aggregate-read-numbers-4 : tie.Need-slice-aggregate-read-numbers-4
-slice-aggregate-read-numbers-4 c = sym (length-take-le _ _ (few-rows (c .before .before .before .before .before .before .before .pre .table)))
+slice-aggregate-read-numbers-4 c =
+    sym (length-take-le _ _ (few-rows (c .before .before .before .before .before .before .before .pre .table)))
 
 array-borrow-prefix-releases : tie.Need-array-borrow-prefix-releases
 array-borrow-prefix-releases c = few-rows (c .before .before .before .before .before .before .before .pre .table)
 
 slice-aggregate-read-numbers-5 : tie.Need-slice-aggregate-read-numbers-5
-slice-aggregate-read-numbers-5 c = sym (length-take-le _ _ (few-rows (c .before .before .before .before .before .before .before .before .pre .table)))
+slice-aggregate-read-numbers-5 c =
+    sym (length-take-le _ _ (few-rows (c .before .before .before .before .before .before .before .before .pre .table)))
 
 read-numbers-requires : tie.Need-read-numbers-requires
 read-numbers-requires c κs =
@@ -53,11 +55,14 @@ refused-by-requires c κs = search needs
 
 returns : tie.Need-returns
 returns c =
-    let s = c .before .before .before .before .before .before .before .before .before .before .before .before in
+    let far = c .before .before .before .before .before .before .before .before .before .before in
+    let s = far .before .before in
     let r = c .before .before .before .read-numbers in
     refused-text (s .args .text .now) (s .args .out .now)
-    (releases-refused _ _ _ _ _ (s .pre) (take (s .args .n) (replicate 16 0)) (zeros (s .args .n) 16) (r .last .1 .1 .1 .1 .1 .1 .1 .0)
-    (r .kept .1 .1 .1 .1 .1 .1 .1 .0 ∙ length-take-le _ _ (few-rows (s .pre .table))) (r .result) (c .before .match .keys2) (r .ensures))
+    (releases-refused _ _ _ _ _ (s .pre) (take (s .args .n) (replicate 16 0)) (zeros (s .args .n) 16)
+    (r .last .1 .1 .1 .1 .1 .1 .1 .0)
+    (r .kept .1 .1 .1 .1 .1 .1 .1 .0 ∙ length-take-le _ _ (few-rows (s .pre .table))) (r .result)
+    (c .before .match .keys2) (r .ensures))
     (c .refused-by .ensures)
 
 slice-aggregate-lay-out : tie.Need-slice-aggregate-lay-out
@@ -68,7 +73,8 @@ slice-aggregate-lay-out-2 c = search needs
 
 lay-out-requires : tie.Need-lay-out-requires
 lay-out-requires c κs =
-    let s = c .before .before .before .before .before .before .before .before .before .before .before .before .before .before .before in
+    let far = c .before .before .before .before .before .before .before .before .before .before in
+    let s = far .before .before .before .before .before in
     let few = few-rows (s .pre .table) in
     (s .pre .table, few, omega (arith, few))
 
@@ -77,7 +83,8 @@ slice-aggregate-offsets-for c = search needs
 
 offsets-for-requires : tie.Need-offsets-for-requires
 offsets-for-requires c κs =
-    let s = c .before .before .before .before .before .before .before .before .before .before .before .before .before .before .before .before .before .before .before in
+    let far = c .before .before .before .before .before .before .before .before .before .before in
+    let s = far .before .before .before .before .before .before .before .before .before in
     let o = c .before .before .before .lay-out in
     (few-rows (s .pre .table), located (s .pre .table) _ _ (o .ensures (s .pre .table)))
 
@@ -95,13 +102,17 @@ slice-aggregate-watch-order-2 c = search needs
 
 watch-order-requires : tie.Need-watch-order-requires
 watch-order-requires c κs =
-    let s = c .before .before .before .before .before .before .before .before .before .before .before .before .before .before .before .before .before .before .before .before .before .before .before in
-    let r = c .before .before .before .before .before .before .before .before .before .before .before .before .before .before .read-numbers in
-    let d = c .before .before .before .before .before .before .before .before .before .before .before .answer .given in
+    let far = c .before .before .before .before .before .before .before .before .before .before in
+    let farther = far .before .before .before .before .before .before .before .before .before .before in
+    let s = farther .before .before .before in
+    let r = far .before .before .before .before .read-numbers in
+    let d = far .before .answer .given in
     let o = c .before .before .before .before .before .before .before .lay-out in
-    at-ticks-then _ _ _ _ _ (s .pre) (take (s .args .n) (replicate 16 0)) (zeros (s .args .n) 16) (r .last .1 .1 .1 .1 .1 .1 .1 .0)
+    at-ticks-then _ _ _ _ _ (s .pre) (take (s .args .n) (replicate 16 0)) (zeros (s .args .n) 16)
+    (r .last .1 .1 .1 .1 .1 .1 .1 .0)
     (r .kept .1 .1 .1 .1 .1 .1 .1 .0 ∙ length-take-le _ _ (few-rows (s .pre .table))) (d .0 .1 .0)
-    (subst (ReadsNumbers _ _ _ _ _ _ (r .last .1 .1 .1 .1 .1 .1 .1 .0)) (d .1) (r .ensures)) _ _ _ _ (o .ensures (s .pre .table))
+    (subst (ReadsNumbers _ _ _ _ _ _ (r .last .1 .1 .1 .1 .1 .1 .1 .0)) (d .1) (r .ensures)) _ _ _ _
+    (o .ensures (s .pre .table))
     (array-front _ _ _ (r .kept .1 .1 .1 .1 .1 .1 .1 .0 ∙ length-take-le _ _ (few-rows (s .pre .table))))
     (c .before .before .before .offsets-for .ensures)
 

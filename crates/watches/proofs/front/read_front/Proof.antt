@@ -5,7 +5,8 @@ use borrow.Author.Needs.{needs}
 use borrow.Author.Tests.{not-true, not-false}
 use lib.ListN.{length}
 use Rattle.grammars.proofs.Loops.{going}
-use Rattle.watches.proofs.Fronts.{Standing, Next, front-begins, front-turn, front-read, leftOf, left-is, not-over}
+use Rattle.watches.proofs.Fronts.{Standing, Next, front-begins, front-turn, front-read}
+use Rattle.watches.proofs.Fronts.{leftOf, left-is, not-over}
 use Rattle.watches.proofs.front.read_front.Statement.{statement}
 use Rattle.watches.proofs.front.read_front.Tie as tie
 
@@ -34,11 +35,13 @@ next : (c : tie.After-take-unheld Inv-loop μ-loop)
     → let l = c .before .before .before .before .loop in
     let t = c .take-unheld in
     Next (c .before .before .before .before .before .before .before .before .args .text .now)
-    (leftOf (c .before .before .before .before .before .before .before .before .args .text .now) (l .p)) (t .result) (t .last .1 .1 .0)
+    (leftOf (c .before .before .before .before .before .before .before .before .args .text .now) (l .p)) (t .result)
+    (t .last .1 .1 .0)
 next c =
     let l = c .before .before .before .before .loop in
     let t = c .take-unheld in
-    let still = not-over (l .p) (sym (c .before .before .before .is-over .ensures) ∙ not-true _ (c .before .before .if1 .taken)) in
+    let still = not-over (l .p) (sym (c .before .before .before .is-over .ensures) ∙ not-true _
+    (c .before .before .if1 .taken)) in
     front-turn _ (l .inv .1) (still .0) (t .result) (t .last .1 .1 .0) (t .ensures)
 
 loop-less : tie.Need-loop-less Inv-loop μ-loop
@@ -50,7 +53,8 @@ loop-again c =
     let n = next (c .before .before) in
     let t = c .before .before .take-unheld in (
       t .kept .1 .1 .0 ∙ c .before .before .before .before .before .before .loop .inv .0,
-      subst (λ x. Standing (c .before .before .before .before .before .before .before .before .before .before .args .text .now) (t .result) (t .last .1 .1 .0) x) (left-is _ (n .there)) (n .there),
+      subst (λ x. Standing (c .before .before .before .before .before .before .before .before .before .before .args
+          .text .now) (t .result) (t .last .1 .1 .0) x) (left-is _ (n .there)) (n .there),
     )
 
 same-length : tie.Need-same-length Inv-loop μ-loop

@@ -11,7 +11,8 @@ returns c =
     let s = c .before .before .before .before .before .before .before .before .before .before in
     let d = c .before .answer .given in
     refuses-hold (s .args .text .now) (s .args .before) (s .args .numbers .now) (s .pre .0) (s .pre .1)
-    (sym (c .before .before .before .before .before .before .at-hold .ensures) ∙ c .before .before .before .before .before .if1 .taken) (d .0 .0) (d .0 .1 .0) (sym (c .before .before .before .line-at .ensures) ∙ d .1)
+    (sym (c .before .before .before .before .before .before .at-hold .ensures) ∙ c .before .before .before .before
+    .before .if1 .taken) (d .0 .0) (d .0 .1 .0) (sym (c .before .before .before .line-at .ensures) ∙ d .1)
     _ refl refl refl
 
 take-line-requires : tie.Need-take-line-requires
@@ -24,7 +25,8 @@ returns-2 c =
     let held = c .before .before .before .before .before .at-hold .ensures in
     ⊎-elim
     (λ w. takes-unrefused (s .args .text .now) (s .args .before) (s .args .numbers .now) (s .pre .0) (s .pre .1)
-    (t .result) (t .last .1 .1 .1 .1 .0) (t .ensures) (sym held ∙ w .0 .taken) (w .2 .result) (w .3 .keys2) (w .2 .ensures))
+    (t .result) (t .last .1 .1 .1 .1 .0) (t .ensures) (sym held ∙ w .0 .taken) (w .2 .result) (w .3 .keys2)
+    (w .2 .ensures))
     (λ w. takes-own (s .args .text .now) (s .args .before) (s .args .numbers .now) (s .pre .0) (s .pre .1)
     (t .result) (t .last .1 .1 .1 .1 .0) (t .ensures) (sym held ∙ w .left))
     (c .before .before .before .before .if1 .came)

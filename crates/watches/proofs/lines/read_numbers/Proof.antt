@@ -12,7 +12,8 @@ use Rattle.watches.proofs.lines.read_numbers.Tie as tie
 
 abbrev Inv-loop : tie.InvT-loop
 Inv-loop text offset first key lows highs owners numbers₀ at₀ line₀ m₀ numbers at line m =
-    Readable first lows highs owners numbers₀ × Reading text key lows highs owners offset first numbers₀ numbers at line m
+    Readable first lows highs owners numbers₀ × Reading text key lows highs owners offset first numbers₀ numbers at
+    line m
 
 abbrev μ-loop : tie.MeasureT-loop
 μ-loop text offset first key lows highs owners numbers₀ at₀ line₀ m₀ numbers at line m = length numbers - m
@@ -27,7 +28,8 @@ owned : (c : tie.In-loop Inv-loop μ-loop)
     (c .before .loop .m < length (now (a .owners))) × (o < length (now (a .lows))) × (o < length (now (a .highs)))
 owned c =
     let i = c .before .loop .inv in
-    let here : c .before .loop .m < length (now (c .before .before .before .before .before .before .before .before .args .owners)) =
+    let here : c .before .loop .m < length
+    (now (c .before .before .before .before .before .before .before .before .args .owners)) =
     omega (arith, i .0 .as-many, i .1 .same, c .loop-test .taken) in
     let l = i .0 .owned (c .before .loop .m) here in
     (here, l .0, l .1)
@@ -39,13 +41,29 @@ shared-slice-read-owner : tie.Need-shared-slice-read-owner Inv-loop μ-loop
 shared-slice-read-owner c = owned (c .before) .0
 
 mul-line-at : tie.Need-mul-line-at Inv-loop μ-loop
-mul-line-at c = record { fits = omega (arith, owned (c .before) .1, c .before .before .before .before .before .before .before .before .before .good) }
+mul-line-at c =
+    record {
+      fits = omega (
+        arith,
+        owned (c .before) .1,
+        c .before .before .before .before .before .before .before
+            .before .before .good,
+      );
+    }
 
 shared-slice-read-line-at : tie.Need-shared-slice-read-line-at Inv-loop μ-loop
 shared-slice-read-line-at c = owned (c .before .before) .1
 
 mul-line-at-2 : tie.Need-mul-line-at-2 Inv-loop μ-loop
-mul-line-at-2 c = record { fits = omega (arith, owned (c .before .before) .1, c .before .before .before .before .before .before .before .before .before .before .good) }
+mul-line-at-2 c =
+    record {
+      fits = omega (
+        arith,
+        owned (c .before .before) .1,
+        c .before .before .before .before .before .before
+            .before .before .before .before .good,
+      );
+    }
 
 shared-slice-read-line-at-2 : tie.Need-shared-slice-read-line-at-2 Inv-loop μ-loop
 shared-slice-read-line-at-2 c = owned (c .before .before .before) .2
@@ -62,7 +80,8 @@ same-length c = c .before .before .before .before .before .before .loop .inv .1 
 returns : tie.Need-returns Inv-loop μ-loop
 returns c =
     let x = c .before .before .before .before .before .before .loop in
-    reading-stops _ _ _ _ _ _ _ _ (x .inv .1) (c .before .before .before .before .before .loop-test .taken) (c .before .line-at .result) (c .match .keys2)
+    reading-stops _ _ _ _ _ _ _ _ (x .inv .1) (c .before .before .before .before .before .loop-test .taken)
+    (c .before .line-at .result) (c .match .keys2)
     (c .before .line-at .ensures)
 
 mul-numbers : tie.Need-mul-numbers Inv-loop μ-loop
@@ -72,7 +91,19 @@ slice-write-numbers : tie.Need-slice-write-numbers Inv-loop μ-loop
 slice-write-numbers c = search needs
 
 add-line : tie.Need-add-line Inv-loop μ-loop
-add-line c = record { fits = omega (arith, c .before .before .before .before .before .before .before .before .loop .inv .0 .soon, c .before .before .before .before .before .before .before .before .loop .inv .1 .line-is, c .before .before .before .before .before .before .before .before .loop .inv .1 .same, c .before .before .before .before .before .before .before .loop-test .taken) }
+add-line c =
+    record {
+      fits = omega (
+        arith,
+        c .before .before .before .before .before .before .before .before .loop .inv .0
+            .soon,
+        c .before .before .before .before .before .before .before .before .loop .inv .1 .line-is,
+        c .before .before
+            .before .before .before .before .before .before .loop .inv .1 .same,
+        c .before .before .before .before .before
+            .before .before .loop-test .taken,
+      );
+    }
 
 add-m : tie.Need-add-m Inv-loop μ-loop
 add-m c = search needs
@@ -80,14 +111,16 @@ add-m c = search needs
 loop-less : tie.Need-loop-less Inv-loop μ-loop
 loop-less c =
     let x = c .before .before .before .before .before .before .before .before .loop in
-    rw (length-set (x .numbers) (x .m) (c .before .answer .given .0 .0)) (omega (arith, c .before .before .before .before .before .before .before .loop-test .taken))
+    rw (length-set (x .numbers) (x .m) (c .before .answer .given .0 .0))
+    (omega (arith, c .before .before .before .before .before .before .before .loop-test .taken))
 
 loop-again : tie.Need-loop-again Inv-loop μ-loop
 loop-again c =
     let x = c .before .before .before .before .before .before .before .before .loop in
     let d = c .before .answer .given in (
       x .inv .0,
-      reading-on _ _ _ _ _ _ _ _ (x .inv .1) (d .0 .0) (d .0 .1 .0) (c .before .before .before .before .before .before .before .loop-test .taken)
+      reading-on _ _ _ _ _ _ _ _ (x .inv .1) (d .0 .0) (d .0 .1 .0)
+          (c .before .before .before .before .before .before .before .loop-test .taken)
           (sym (d .1) ∙ c .before .before .before .line-at .ensures),
     )
 
