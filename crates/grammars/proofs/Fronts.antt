@@ -7,6 +7,7 @@ use lib.IntN.{ℤ}
 use Rattle.text.specs.Text.{signed, keyLine}
 use Rattle.grammars.specs.Grammars.{Grammar}
 use Rattle.grammars.specs.Reasons.{Passes, Reaches, begin, line}
+use Rattle.grammars.specs.Reasons.{Refused, trailing, missing, malformed, out-of-range, faulty}
 
 -- a number that passes in a state passes in any that expects the same and refuses the same
 pub passes-as : {S T : Type 0} {g : Grammar S} {h : Grammar T} {s : S} {t : T} → h .expected t ≡ g .expected s
@@ -18,6 +19,15 @@ passes-as same faults {z = z} p = record {
   in-range = p .in-range;
   no-fault = faults z ∙ p .no-fault;
 }
+
+-- and what is refused in it is refused there
+pub refused-as : {S T : Type 0} {g : Grammar S} {h : Grammar T} {s : S} {t : T} → h .expected t ≡ g .expected s
+    → ((z : ℤ) → h .fault t z ≡ g .fault s z) → {here : List ℕ} {n : ℕ} → Refused g s here n → Refused h t here n
+refused-as same faults (trailing x some) = trailing (same ∙ x) some
+refused-as same faults (missing key form x none) = missing key form (same ∙ x) none
+refused-as same faults (malformed key form x value rest is h none) = malformed key form (same ∙ x) value rest is h none
+refused-as same faults (out-of-range key form x z rest is f out) = out-of-range key form (same ∙ x) z rest is f out
+refused-as same faults (faulty key form x z rest is f w m e) = faulty key form (same ∙ x) z rest is f w m (faults z ∙ e)
 
 -- the lines before line k, apart from what follows them
 pub record Front {S : Type 0} (g : Grammar S) (start : S) (text : List ℕ) (k : ℕ) (s : S) (here : List ℕ) : Type 0 where

@@ -76,6 +76,7 @@ watch-met = record {
   late = record { there = omega arith; late = refl; above-in-time = above };
   printed = refl;
   held-early = held;
+  room = refl;
   first-job = refl;
   with-it = refl;
   third-job = refl;

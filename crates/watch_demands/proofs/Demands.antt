@@ -32,15 +32,16 @@ use Rattle.demands.proofs.Outcomes.{same-refusal, not-both, zero-or-more, nine-
 use Rattle.demands.proofs.Promises.{promised}
 use Rattle.demands.proofs.Reviewer.{none-late-first, first-of, first-is}
 use Rattle.watch_demands.specs.Jobs.{lengthOf, Indexed}
-use Rattle.watch_demands.specs.Runs.{finishedText, finishedBy, runText, FinishedWithin}
+use Rattle.watch_demands.specs.Runs.{finishedText, finishedBy, jobsText, FinishedWithin}
 use Rattle.watch_demands.specs.WatchLines.{run-end, offsetOf, WatchStage, watchText, watch-start}
 use Rattle.watch_demands.specs.Calls.{runInTime, onWatch, watched}
 use Rattle.watch_demands.specs.Demands.{TellsRun, FailsRun, RunSays, RunOf, watcherRefusals, WatchDemands}
 use Rattle.watch_demands.proofs.Given.{is-given, given-only, order-in-range, order-limits, order-unheld}
 use Rattle.watch_demands.proofs.Merges.{indexed}
-use Rattle.watch_demands.proofs.Finished.{finished-within}
+use Rattle.watch_demands.proofs.Finished.{finished-within, job-lines}
 use Rattle.watch_demands.proofs.Texts.{watch-plain, Ended, at-both, ended, sound, run-says, run-reads-back}
-use Rattle.watch_demands.proofs.Kept.{lasts, finished-same, run-kept}
+use Rattle.watch_demands.proofs.Texts.{table-refusals}
+use Rattle.watch_demands.proofs.Kept.{given, past, lasts, finished-same, run-kept}
 
 -- ---- by the first late rank
 pub late-run : (room : ℕ) (order : List Row) (offset : ℕ → ℕ) (ls : List ℕ) (t k : ℕ) → firstLate order ≡ suc k
@@ -49,7 +50,7 @@ unfolding runInTime
 late-run room order offset ls t k e = rw (e, runInTime)
 
 pub timely-run : (room : ℕ) (order : List Row) (offset : ℕ → ℕ) (ls : List ℕ) (t : ℕ) → firstLate order ≡ 0
-    → runInTime room order offset ls t ≡ fitted room (runText order offset ls t)
+    → runInTime room order offset ls t ≡ fitted room (jobsText order offset ls t)
 unfolding runInTime
 timely-run room order offset ls t e = rw (e, runInTime)
 
@@ -93,7 +94,7 @@ module _ (text : List ℕ) (b : ℕ) (rs : List Row) (os rels : List ℕ) (t : �
   -- ---- what it comes to
   module _ (room : ℕ) where
     abbrev lines : List ℕ
-    lines = runText order offset ls t
+    lines = jobsText order offset ls t
 
     abbrev outcome : Outcome
     outcome = runInTime room order offset ls t
@@ -121,7 +122,11 @@ module _ (text : List ℕ) (b : ℕ) (rs : List Row) (os rels : List ℕ) (t : �
     pub run-of : RunOf order offset ls room t outcome
     run-of = record {
       indexed = run-indexed;
+      given = given order offset ls;
+      past = past order offset ls;
       lasts = run-lasts;
+      lines = job-lines order;
+      no-line = refl;
       seven = seven-is;
       nine = λ h keeps ds w.
           subst (λ x. (outcome ≡ refuses 9 0) ↔ (room < length (finishedText order x))) (sym (is keeps ds w))
@@ -184,7 +189,7 @@ module _ (text : List ℕ) where
     late-or-long b rs os rels t ls told n p e =
         let order = rowsFor os rs in
         let offset = offsetOf rs os rels in
-        let lines = runText order offset ls t in
+        let lines = jobsText order offset ls t in
         elim (zero-or-more (firstLate order)) [
           | inl z ↦
               let is = timely-run room order offset ls t z in
@@ -225,6 +230,7 @@ module _ (text : List ℕ) where
       says = λ b rs os rels t ls told.
           (run-says text b rs os rels t ls told, is-given (tableOf b rs os) (sound (told .whole)));
       reads-back = run-reads-back;
+      table-refusals = table-refusals text;
       accepted = λ b rs os rels t ls told order g.
           subst (λ o. RunOf o (offsetOf rs os rels) ls room t (watched text room))
           (given-only (tableOf b rs os) (sound (told .whole)) order g)
@@ -236,36 +242,36 @@ module _ (text : List ℕ) where
     module _ (w : Outcome) (d : WatchDemands text room w) where
       module _ (b : ℕ) (rs : List Row) (os rels : List ℕ) (t : ℕ) (ls : List ℕ) (told : TellsRun text b rs os rels t ls)
         where
-          abbrev given : List Row
-          given = rowsFor os rs
+          abbrev order-of : List Row
+          order-of = rowsFor os rs
 
           abbrev from : ℕ → ℕ
           from = offsetOf rs os rels
 
           abbrev finished : List Done
-          finished = finishedBy given from ls t
+          finished = finishedBy order-of from ls t
 
           abbrev text-of : List ℕ
-          text-of = runText given from ls t
+          text-of = jobsText order-of from ls t
 
-          run : RunOf given from ls room t w
-          run = d .accepted b rs os rels t ls told given (is-given (tableOf b rs os) (sound (told .whole)))
+          run : RunOf order-of from ls room t w
+          run = d .accepted b rs os rels t ls told order-of (is-given (tableOf b rs os) (sound (told .whole)))
 
-          within : FinishedWithin given from (lengthOf given from ls) never t finished
-          within = finished-within given from (lengthOf given from ls) never t
+          within : FinishedWithin order-of from (lengthOf order-of from ls) never t finished
+          within = finished-within order-of from (lengthOf order-of from ls) never t
 
-          run-only : w ≡ runInTime room given from ls t
-          run-only = elim (zero-or-more (firstLate given)) [
+          run-only : w ≡ runInTime room order-of from ls t
+          run-only = elim (zero-or-more (firstLate order-of)) [
             | inl z ↦
-                let is = timely-run room given from ls t z in
-                let in-time = first-late-none given z in
+                let is = timely-run room order-of from ls t z in
+                let in-time = first-late-none order-of z in
                 elim (le-or-lt (length text-of) room) [
                   | inl h ↦ run .written in-time never finished within .1 h ∙ sym (is ∙ fits room text-of h)
                   | inr h ↦ run .nine in-time never finished within .1 h ∙ sym (is ∙ fits-not room text-of h)
                 ]
             | inr l ↦
-                run .seven (l .0) .1 (first-of given (l .0) (l .1))
-                ∙ sym (late-run room given from ls t (l .0) (l .1))
+                run .seven (l .0) .1 (first-of order-of (l .0) (l .1))
+                ∙ sym (late-run room order-of from ls t (l .0) (l .1))
           ]
 
       only : Read room → w ≡ watched text room

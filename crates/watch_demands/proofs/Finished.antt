@@ -2,7 +2,7 @@
 -- job at most, at the tick after it. And two lists of the same jobs in that order are one.
 use mathlib.Core.Path.{_≡_, refl, sym, ap, subst, _∙_}
 use mathlib.Core.Bool.{Bool, true, false, _&&_, _||_}
-use mathlib.Core.List.{List, [], _∷_, _++_, append-nil}
+use mathlib.Core.List.{List, [], _∷_, _++_, append-nil, append-assoc}
 use mathlib.Core.Logic.{_⊎_, inl, inr, _↔_}
 use Prim.Native.Nat.{ℕ, zero, suc, _+_, _-_, _≤_, _<_}
 use native.Mathlib.Omega.{arith}
@@ -11,12 +11,15 @@ use lib.Dec.{eqb}
 use borrow.Author.Tests.{eqb-true, eq-eqb}
 use Rattle.basics.specs.Basics.{pick}
 use Rattle.basics.proofs.Tests.{true-not-false, and-left, and-right, and-both, le-or-lt}
+use Rattle.text.specs.Text.{bytes, decimal, keyLine}
+use Rattle.rows.specs.Rows.{rowAt}
 use Rattle.rows.specs.declared.Row.{Row}
+use Rattle.tables.specs.Claims.{lineOf}
 use Rattle.boards.specs.Boards.{Job, Done, Board, isDone, withReleases, queueAt, ends, finishing, highest, goesOn}
 use Rattle.boards.specs.Boards.{afterTicks}
 use Rattle.boards.specs.Claims.{Finishes}
 use Rattle.boards.proofs.Queues.{done-append, ends-tick}
-use Rattle.watch_demands.specs.Runs.{Rising, FinishedWithin}
+use Rattle.watch_demands.specs.Runs.{jobText, finishedText, Rising, FinishedWithin}
 
 -- ---- lists of finished jobs
 or-cases : (a b : Bool) → (a || b) ≡ true → (a ≡ true) ⊎ (b ≡ true)
@@ -199,3 +202,19 @@ module _ (order : List Row) (offset : ℕ → ℕ) (need : ℕ → ℕ → ℕ) 
       let own = finished-within t in
       same-list 0 ds (by t) (w .in-order) (own .in-order)
       (λ i r f e. own .these i r f .1 (w .these i r f .0 e)) (λ i r f e. w .these i r f .1 (own .these i r f .0 e))
+
+-- ---- a job's lines
+pub job-lines : (order : List Row) (d : Done) (ds : List Done)
+    → finishedText order (d ∷ ds)
+    ≡ lineOf "task=" (rowAt order (d .rank) .task) (lineOf "release=" (d .release)
+    (lineOf "finish=" (d .finish) (finishedText order ds)))
+unfolding jobText
+job-lines order d ds =
+    let task = keyLine (bytes "task=") (decimal (rowAt order (d .rank) .task)) in
+    let release = keyLine (bytes "release=") (decimal (d .release)) in
+    let finish = keyLine (bytes "finish=") (decimal (d .finish)) in
+    let rest = finishedText order ds in
+    append-assoc task (release ++ (finish ++ [])) rest
+    ∙ ap (λ (x : List ℕ). task ++ x)
+    (append-assoc release (finish ++ []) rest
+    ∙ ap (λ (x : List ℕ). release ++ x) (append-assoc finish [] rest))

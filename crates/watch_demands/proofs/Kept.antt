@@ -50,6 +50,15 @@ module _ (order : List Row) (offset : ℕ → ℕ) (lengths : List ℕ) where
             (indexed .rank-is i k l) (suits m h))
       ]
 
+  pub given : (i k : ℕ) → indexOf order offset i k < length lengths
+      → need i k ≡ getD lengths (indexOf order offset i k) 0
+  given i k l = getD-any lengths (indexOf order offset i k) (cost (rowAt order i)) 0 l
+
+  pub past : (i k : ℕ) → length lengths ≤ indexOf order offset i k
+      → need i k ≡ rowAt order i .worst + rowAt order i .switch
+  unfolding cost
+  past i k l = List·getD-eq-default lengths (cost (rowAt order i)) l
+
   -- with no hold a run is the same whatever it says of stretches
   pub finished-same : NoneHolds order → (keeps : ℕ → Bool) (ticks : ℕ) (ds : List Done)
       → FinishedWithin order offset need keeps ticks ds → ds ≡ finishedBy order offset lengths ticks

@@ -214,7 +214,7 @@ module _ (rows : List Row) (tasks : List ℕ) where
       let x = along r in
       let ran = x .0 in (
         record {
-          one-each = ran .released .one-each;
+          as-many = ran .released .one-each;
           releases-in = ran .released .in-limits;
           some-ticks = ran .ticks .low-le;
           few-ticks = ran .ticks .le-high;
@@ -264,7 +264,7 @@ module _ (rows : List Row) (tasks : List ℕ) where
         let all : before ≡ rels = sym (append-nil before) ∙ e in
         let rest = lineOf "ticks=" t (lineOf "lengths=" (length ls) (lengthsText ls)) in
         subst (λ x. Writes (run rows tasks) (releasesStage (length rows) x) rest end) (sym all)
-        (rw (eq-eqb (length rels) (length rows) (ok .one-each))
+        (rw (eq-eqb (length rels) (length rows) (ok .as-many))
         (put refl (omega arith) (ok .some-ticks) (ok .few-ticks)
         (put refl (omega arith) (omega arith) (ok .few-lengths) (lengths-written [] ls refl))))
     releases-written before (v ∷ after) e =
@@ -272,7 +272,7 @@ module _ (rows : List Row) (tasks : List ℕ) where
         let long = length-append before (v ∷ after) in
         let few : length before < length rels = omega (arith, ap length e) in
         let here : releasesStage (length rows) before ≡ at-release before =
-        rw (ne-eqb (length before) (length rows) (λ x. omega (arith, ok .one-each))) in
+        rw (ne-eqb (length before) (length rows) (λ x. omega (arith, ok .as-many))) in
         let is : getD rels (length before) 0 ≡ v =
         ap (λ (vs : List ℕ). getD vs (length before) 0) (sym e) ∙ getD-at before v after 0 (length before) refl in
         let next = releases-written (before ++ (v ∷ [])) after (append-assoc before (v ∷ []) after ∙ e) in

@@ -5,40 +5,44 @@ use mathlib.Core.Path.{_≡_, refl, sym, ap, subst, _∙_}
 use mathlib.Core.Bool.{Bool, true, false, not}
 use mathlib.Core.List.{List, [], _∷_, _++_, append-nil}
 use mathlib.Core.Logic.{inl, inr}
-use Prim.Native.Nat.{ℕ, zero, suc, _+_, _≤_, _<_}
+use Prim.Native.Nat.{ℕ, zero, suc, _+_, _^_, _≤_, _<_}
 use native.Mathlib.Omega.{arith}
 use lib.Dec.{eqb}
-use lib.IntN.{ℤ}
+use lib.IntN.{ℤ, pos}
 use lib.ListN.{length, getD, List·getD-eq-default}
-use borrow.Author.Tests.{eq-eqb, ne-eqb, eqb-true, not-true}
+use borrow.Author.Tests.{eq-eqb, ne-eqb, eqb-true, not-true, lt-ltb, le-leb, lt-leb}
 use Rattle.basics.specs.Basics.{pick, isIn}
 use Rattle.basics.proofs.Tests.{test-of, le-or-lt, true-not-false, and-left, and-right, or-right}
+use Rattle.text.specs.Text.{bytes, signed, keyLine}
+use Rattle.text.specs.Lines.{maxDigits}
+use Rattle.grammars.specs.Forms.{Form, natural}
 use Rattle.grammars.specs.Grammars.{Expected, the-end, a-line, Plain}
 use Rattle.grammars.specs.Sequences.{Sequel, first, second, whereEnded, onward, Split}
-use Rattle.grammars.specs.Reasons.{Passes, Reaches}
+use Rattle.grammars.specs.Reasons.{Passes, Reaches, Refused, out-of-range}
 use Rattle.grammars.specs.Claims.{AsWritten}
 use Rattle.grammars.proofs.Invariants.{Invariant, holds}
-use Rattle.grammars.proofs.Sequences.{plain-sequence, split, joined}
+use Rattle.grammars.proofs.Sequences.{plain-sequence, split, lifted, joined}
 use Rattle.grammars.proofs.Steps.{no-line}
 use Rattle.rows.specs.Rows.{maxTicks, holdAt, tasksOf, hasTask, distinctRows, noRow, rowAt, rowsFor, cost, positionOf}
 use Rattle.rows.specs.declared.Row.{Row}
 use Rattle.tables.specs.TableLines.{Stage, at-board, at-tasks, at-switch, at-field, at-rank}
 use Rattle.tables.specs.TableLines.{at-end, TableRead, tableOf, tableAt}
 use Rattle.tables.specs.TableLines.{table}
-use Rattle.tables.specs.Claims.{Accepted, Tells}
+use Rattle.tables.specs.Claims.{Accepted, Tells, lineOf}
 use Rattle.tables.proofs.Readings.{Ending, at-last, ending}
 use Rattle.tables.proofs.Soundness as Soundness
 use Rattle.watch_demands.specs.WatchLines.{RunStage, at-release, at-ticks, at-lengths, at-length, run-end}
-use Rattle.watch_demands.specs.WatchLines.{offsetOf, unheldLine, unheld, run, runOf, runBegins}
+use Rattle.watch_demands.specs.WatchLines.{noHold, offsetOf, unheldLine, unheld, run, runBehind, runBegins}
 use Rattle.watch_demands.specs.WatchLines.{WatchStage, watchText, watch-start}
 use Rattle.watch_demands.specs.Demands.{TellsRun, runLines, RunLimits, RunSays, RunReadsBack}
-use Rattle.grammars.proofs.Fronts.{Front, in-front}
-use Rattle.watch_demands.proofs.Unheld.{unheld-plain, as-reviewed, NoHolds, Kept, kept}
+use Rattle.watch_demands.specs.Demands.{TableRefusals}
+use Rattle.grammars.proofs.Fronts.{refused-as, Front, in-front}
+use Rattle.watch_demands.proofs.Unheld.{hold-line, unheld-plain, as-reviewed, NoHolds, Kept, kept}
 use Rattle.watch_demands.proofs.RunTexts.{run-plain, run-told, run-written}
 use Rattle.watch_demands.proofs.Given.{order-limits}
 
 pub watch-plain : Plain watchText
-watch-plain = plain-sequence unheld runOf runBegins unheld-plain (λ s. run-plain (tableAt s .rows) (tableAt s .order))
+watch-plain = plain-sequence unheld runBehind runBegins unheld-plain (λ s. run-plain (tableAt s .rows) (tableAt s .order))
 
 -- ---- where a reading ends
 -- a table's end is the beginning of its run
@@ -79,9 +83,9 @@ module _ (text : List ℕ) where
   pub ended : (x : WatchStage) → AsWritten watchText watch-start text x → Ended x
   ended (first s) w = absurd (holds watchText watch-start Open all-open (w .whole) (w .ends))
   ended (second s t) w =
-      by-table s (unheld-ending s (split unheld runOf runBegins at-board text (w .whole) .ended)) t (w .ends)
+      by-table s (unheld-ending s (split unheld runBehind runBegins at-board text (w .whole) .ended)) t (w .ends)
     where
-      by-table : (s : Stage) → Ending s → (t : RunStage) → runOf s .expected t ≡ the-end → Ended (second s t)
+      by-table : (s : Stage) → Ending s → (t : RunStage) → runBehind s .expected t ≡ the-end → Ended (second s t)
       by-table s (at-last b rs os) (at-release rels) e = no-line e
       by-table s (at-last b rs os) (at-ticks rels) e = no-line e
       by-table s (at-last b rs os) (at-lengths rels t) e = no-line e
@@ -108,8 +112,8 @@ position-is (r ∷ rs) (suc j) t d l e =
 -- ---- the table at the front of a text whose lines lead behind it
 module _ {text : List ℕ} {k b : ℕ} {rs : List Row} {os : List ℕ} {t : RunStage} {here : List ℕ}
     (reached : Reaches watchText watch-start text k (second (at-end b rs os) t) here) where
-  pub parts : Split unheld runOf runBegins at-board text k (at-end b rs os) t here
-  parts = split unheld runOf runBegins at-board text reached
+  pub parts : Split unheld runBehind runBegins at-board text k (at-end b rs os) t here
+  parts = split unheld runBehind runBegins at-board text reached
 
   pub table-front : Front unheld at-board text (parts .lines) (at-end b rs os) (parts .middle)
   table-front = in-front (parts .before)
@@ -165,5 +169,43 @@ run-reads-back front b rs os rels t ls w ok =
     let whole : front ≡ f .front = f .joins ∙ append-nil (f .front) in
     let reached = subst (λ x. Reaches unheld at-board (x ++ lines) (w .lines) (at-end b rs os) lines) (sym whole)
     (f .before lines) in
-    joined unheld runOf runBegins at-board (front ++ lines) reached refl
+    joined unheld runBehind runBegins at-board (front ++ lines) reached refl
     (run-written rs os rels t ls ok (cost-small (tableOf b rs os) known))
+
+-- ---- a table is refused as the reviewer refuses it, and a hold above 0 with 3
+module _ (text : List ℕ) where
+  -- where a line of the table is expected
+  at-line : {k : ℕ} {s : Stage} {here : List ℕ} (key : List ℕ) (form : Form) → unheldLine s ≡ a-line key form
+      → Reaches unheld at-board text k s here → Reaches watchText watch-start text k (first s) here
+  at-line {k} {s} {here} key form x r =
+      subst (λ w. Reaches watchText watch-start text k w here)
+      (ap (λ (e : Expected). whereEnded e s (runBegins s)) x) (lifted unheld runBehind runBegins at-board text r)
+
+  pub table-refusals : TableRefusals text
+  unfolding signed
+  table-refusals = record {
+    as-reviewed = λ n k s here key form r mine theirs c. record {
+      state = first s;
+      rest = here;
+      before = at-line key form mine r;
+      condition = refused-as (mine ∙ sym theirs) (λ z. refl) c;
+    };
+    held = λ k left board switch v rows values rest r long short. record {
+      state = first (at-field left board switch rows values);
+      rest = lineOf "hold=" (suc v) rest;
+      before = at-line (bytes "hold=") (natural noHold noHold) (at-hold left board switch rows values long) r;
+      condition = above left board switch v rows values rest long short;
+    };
+  }
+    where
+      at-hold : (left board switch : ℕ) (rows : List Row) (values : List ℕ) → length values ≡ holdAt
+          → unheldLine (at-field left board switch rows values) ≡ a-line (bytes "hold=") (natural noHold noHold)
+      at-hold left board switch rows values long =
+          hold-line left board switch rows values (eq-eqb (length values) holdAt long)
+
+      above : (left board switch v : ℕ) (rows : List Row) (values rest : List ℕ) → length values ≡ holdAt
+          → suc v < 10 ^ maxDigits
+          → Refused watchText (first (at-field left board switch rows values)) (lineOf "hold=" (suc v) rest) 3
+      above left board switch v rows values rest long short =
+          out-of-range (bytes "hold=") (natural noHold noHold) (at-hold left board switch rows values long) (pos (suc v))
+          rest refl (lt-ltb (suc v) (10 ^ maxDigits) short) (rw (le-leb 0 (suc v) (omega arith), lt-leb (suc v) 0 (omega arith)))

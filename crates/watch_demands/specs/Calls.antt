@@ -10,12 +10,12 @@ use Rattle.plans.specs.Entries.{firstLate}
 use Rattle.plans.specs.Outcomes.{Outcome, refuses, fitted, printed}
 use Rattle.watch_demands.specs.WatchLines.{at-release, at-ticks, at-lengths, at-length, run-end, offsetOf}
 use Rattle.watch_demands.specs.WatchLines.{WatchStage, watchText, watch-start}
-use Rattle.watch_demands.specs.Runs.{runText}
+use Rattle.watch_demands.specs.Runs.{jobsText}
 
 -- an order's run: 7 with the first late rank, whatever the buffer; else lines that the buffer can't hold: 9; else them
 unfoldable pub runInTime : ℕ → List Row → (ℕ → ℕ) → List ℕ → ℕ → Outcome
 runInTime room order offset lengths ticks =
-    elim (firstLate order) [ zero ↦ fitted room (runText order offset lengths ticks) | suc k ↦ refuses 7 (suc k) ]
+    elim (firstLate order) [ zero ↦ fitted room (jobsText order offset lengths ticks) | suc k ↦ refuses 7 (suc k) ]
 
 -- a text is accepted only at its end
 abbrev pub watchedAt : ℕ → WatchStage → Outcome

@@ -15,7 +15,7 @@ use Rattle.demands.specs.Demands.{FirstLate}
 use Rattle.watch_demands.specs.Jobs.{indexOf, rankWith}
 use Rattle.watch_demands.specs.WatchLines.{offsetOf}
 use Rattle.watch_demands.specs.Runs.{finishedBy}
-use Rattle.watch_demands.specs.Calls.{watched, watcherPrints}
+use Rattle.watch_demands.specs.Calls.{watched, watchRoom, watcherPrints}
 use Rattle.watch_demands.specs.Demands.{TellsRun, FailsRun}
 
 -- a text, a buffer's room and the outcome; a text and what the program prints
@@ -145,6 +145,8 @@ pub record WatchMet : Type 0 where
   -- a job that is printed, and is held to its best line
   pub printed : isDone 1 11 17 (finishedBy sampleOrder sampleOffset (3 ∷ 1 ∷ 2 ∷ []) 17) ≡ true
   pub held-early : AfterFirstReleases sampleOrder sampleOffset 1 11
+  -- the program's buffer
+  pub room : watchRoom ≡ 65536
   -- the jobs in order of release: both of tick 1, the higher rank first, that of tick 7, those of ticks 11, 13, 19 and
   -- 21
   pub first-job : indexOf sampleOrder sampleOffset 0 0 ≡ 0

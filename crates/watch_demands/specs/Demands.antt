@@ -4,23 +4,27 @@ use mathlib.Core.Path.{_≡_}
 use mathlib.Core.Bool.{Bool, true}
 use mathlib.Core.List.{List, [], _∷_, _++_}
 use mathlib.Core.Logic.{_↔_}
-use Prim.Native.Nat.{ℕ, suc, _+_, _≤_, _<_}
+use Prim.Native.Nat.{ℕ, suc, _+_, _^_, _≤_, _<_}
 use lib.ListN.{length, getD}
 use Rattle.basics.specs.Basics.{isIn}
+use Rattle.text.specs.Lines.{maxDigits}
+use Rattle.grammars.specs.Forms.{Form}
+use Rattle.grammars.specs.Grammars.{a-line}
+use Rattle.grammars.specs.Reasons.{Reaches, Refused}
 use Rattle.grammars.specs.Sequences.{second}
 use Rattle.grammars.specs.Claims.{AsWritten, Reason, Decides}
-use Rattle.rows.specs.Rows.{minTicks, maxTicks, rowAt, rowsFor, cost}
+use Rattle.rows.specs.Rows.{holdAt, rowAt, rowsFor, cost}
 use Rattle.rows.specs.declared.Row.{Row}
-use Rattle.tables.specs.TableLines.{at-board, at-end}
+use Rattle.tables.specs.TableLines.{Stage, at-board, at-field, at-end, expected, table}
 use Rattle.tables.specs.Claims.{Tells, lineOf}
 use Rattle.boards.specs.Boards.{Done, isDone}
 use Rattle.boards.specs.Claims.{LastsInRange, Finishes, AfterFirstReleases, NoneLate}
 use Rattle.plans.specs.declared.Answer.{Answer}
 use Rattle.plans.specs.Outcomes.{Outcome, writes, refuses, Written}
 use Rattle.demands.specs.Demands.{entryAt, Promised, Given, FirstLate}
-use Rattle.watch_demands.specs.Jobs.{lengthOf, rankWith, Indexed}
-use Rattle.watch_demands.specs.WatchLines.{maxRelease, maxLengths, unheld, run-end, offsetOf, watchText}
-use Rattle.watch_demands.specs.WatchLines.{watch-start}
+use Rattle.watch_demands.specs.Jobs.{indexOf, lengthOf, rankWith, Indexed}
+use Rattle.watch_demands.specs.WatchLines.{maxRelease, minRun, maxRun, maxLengths, unheldLine, unheld}
+use Rattle.watch_demands.specs.WatchLines.{run-end, offsetOf, watchText, watch-start}
 use Rattle.watch_demands.specs.Runs.{finishedText, FinishedWithin}
 use Rattle.watch_demands.specs.Calls.{watched}
 
@@ -54,10 +58,10 @@ AllUpTo most vs = (i : ℕ) → i < length vs → getD vs i 0 ≤ most
 -- the limits of a run: a first release for each row, the ticks, and no more lengths than may be; the length of the job
 -- with index m from the best of its own row to its worst and the switch
 pub record RunLimits (rows : List Row) (tasks releases : List ℕ) (ticks : ℕ) (lengths : List ℕ) : Type 0 where
-  pub one-each : length releases ≡ length rows
+  pub as-many : length releases ≡ length rows
   pub releases-in : AllUpTo maxRelease releases
-  pub some-ticks : minTicks ≤ ticks
-  pub few-ticks : ticks ≤ maxTicks
+  pub some-ticks : minRun ≤ ticks
+  pub few-ticks : ticks ≤ maxRun
   pub few-lengths : length lengths ≤ maxLengths
   pub lengths-in :
       (m : ℕ) → m < length lengths
@@ -78,6 +82,17 @@ pub record RunSays (text : List ℕ) (board : ℕ) (rows : List Row) (tasks rele
   pub first-release :
       (i j : ℕ) → i < length tasks → j < length rows → getD tasks i 0 ≡ rowAt rows j .task
       → offsetOf rows tasks releases i ≡ getD releases j 0
+
+-- a table is refused as the reviewer refuses it, where no hold before is above 0; and a hold above 0 with 3, on its line
+pub record TableRefusals (text : List ℕ) : Type 0 where
+  pub as-reviewed :
+      (n k : ℕ) (s : Stage) (here : List ℕ) (key : List ℕ) (form : Form)
+      → Reaches unheld at-board text k s here → unheldLine s ≡ a-line key form → expected s ≡ a-line key form
+      → Refused (table true) s here n → FailsRun text n k
+  pub held :
+      (k left board switch v : ℕ) (rows : List Row) (values rest : List ℕ)
+      → Reaches unheld at-board text k (at-field left board switch rows values) (lineOf "hold=" (suc v) rest)
+      → length values ≡ holdAt → suc v < 10 ^ maxDigits → FailsRun text 3 k
 
 -- and each such table with such lines behind it is read as that run
 abbrev pub RunReadsBack : Type 0
@@ -103,7 +118,21 @@ module _ (order : List Row) (offset : ℕ → ℕ) (lengths : List ℕ) where
   -- the lines of the jobs that finish within the ticks, and else these lines
   pub record RunOf (room ticks : ℕ) (w : Outcome) : Type 0 where
     pub indexed : Indexed order offset
+    -- a job within the list takes the length with its index, one past it its worst and the switch; so each lasts what
+    -- its row allows
+    pub given :
+        (i k : ℕ) → indexOf order offset i k < length lengths → need i k ≡ getD lengths (indexOf order offset i k) 0
+    pub past :
+        (i k : ℕ) → length lengths ≤ indexOf order offset i k
+        → need i k ≡ rowAt order i .worst + rowAt order i .switch
     pub lasts : LastsInRange order need
+    -- each job has its three lines, one job after another
+    pub lines :
+        (d : Done) (ds : List Done)
+        → finishedText order (d ∷ ds)
+        ≡ lineOf "task=" (rowAt order (d .rank) .task) (lineOf "release=" (d .release)
+        (lineOf "finish=" (d .finish) (finishedText order ds)))
+    pub no-line : finishedText order [] ≡ []
     pub seven : (k : ℕ) → (w ≡ refuses 7 (suc k)) ↔ FirstLate order k
     pub nine :
         NoneLate order → (keeps : ℕ → Bool) (ds : List Done) → FinishedWithin order offset need keeps ticks ds
@@ -130,6 +159,7 @@ pub record WatchDemands (text : List ℕ) (room : ℕ) (w : Outcome) : Type 0 wh
       → TellsRun text board rows tasks releases ticks lengths
       → RunSays text board rows tasks releases ticks lengths × Given rows tasks (rowsFor tasks rows)
   pub reads-back : RunReadsBack
+  pub table-refusals : TableRefusals text
   -- the order given by the rank lines is run from the first releases of its rows
   pub accepted :
       (board : ℕ) (rows : List Row) (tasks releases : List ℕ) (ticks : ℕ) (lengths : List ℕ)

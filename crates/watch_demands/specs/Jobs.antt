@@ -1,5 +1,5 @@
 -- The jobs of an endless run in order of release, those released on one tick in rank order; and lengths that are given
--- out to them in that order. Row i of an order has rank i, 0 the highest.
+-- out to them in that order. Row i of an order has rank i, 0 the highest, and a task's jobs are counted from 0 too.
 use mathlib.Core.Path.{_≡_}
 use mathlib.Core.Bool.{Bool}
 use mathlib.Core.List.{List}

@@ -31,8 +31,8 @@ abbrev pub finishedBy : List Row → (ℕ → ℕ) → List ℕ → ℕ → List
 finishedBy order offset lengths ticks =
     afterTicks order offset (lengthOf order offset lengths) never ticks .finished
 
-abbrev pub runText : List Row → (ℕ → ℕ) → List ℕ → ℕ → List ℕ
-runText order offset lengths ticks = finishedText order (finishedBy order offset lengths ticks)
+abbrev pub jobsText : List Row → (ℕ → ℕ) → List ℕ → ℕ → List ℕ
+jobsText order offset lengths ticks = finishedText order (finishedBy order offset lengths ticks)
 
 -- ---- the jobs that a run finishes within some ticks, in the document's words
 -- each finishes after the one before it

@@ -11,18 +11,24 @@ use Rattle.text.specs.Text.{bytes}
 use Rattle.grammars.specs.Forms.{natural, size}
 use Rattle.grammars.specs.Grammars.{Expected, the-end, a-line, Grammar}
 use Rattle.grammars.specs.Sequences.{Sequel, first, sequence}
-use Rattle.rows.specs.Rows.{minTicks, maxTicks, holdAt, rowAt, rowsFor, cost, tasksOf, positionOf}
+use Rattle.rows.specs.Rows.{holdAt, rowAt, rowsFor, cost, tasksOf, positionOf}
 use Rattle.rows.specs.declared.Row.{Row}
 use Rattle.tables.specs.TableLines.{Stage, at-board, at-tasks, at-switch, at-field, at-rank, at-end, expected, table}
 use Rattle.tables.specs.TableLines.{tableAt}
 use Rattle.watch_demands.specs.Jobs.{rankWith}
 
--- a first release; how many lengths there are
+-- a first release; the ticks of a run; how many lengths there are
 abbrev pub minRelease : ℕ
 minRelease = 0
 
 abbrev pub maxRelease : ℕ
 maxRelease = 1000000
+
+abbrev pub minRun : ℕ
+minRun = 1
+
+abbrev pub maxRun : ℕ
+maxRun = 1000000
 
 abbrev pub minLengths : ℕ
 minLengths = 0
@@ -77,7 +83,7 @@ module _ (rows : List Row) (tasks : List ℕ) where
 
   abbrev pub runLine : RunStage → Expected
   runLine (at-release rels) = a-line (bytes "release=") (natural minRelease maxRelease)
-  runLine (at-ticks rels) = a-line (bytes "ticks=") (natural minTicks maxTicks)
+  runLine (at-ticks rels) = a-line (bytes "ticks=") (natural minRun maxRun)
   runLine (at-lengths rels t) = a-line (bytes "lengths=") (natural minLengths maxLengths)
   runLine (at-length n rels t ls) = let r = nextRow rels ls in a-line (bytes "length=") (natural (r .best) (cost r))
   runLine (run-end rels t ls) = the-end
@@ -93,8 +99,8 @@ module _ (rows : List Row) (tasks : List ℕ) where
   run = record { expected = runLine; fault = λ s z. 0; after = λ s z. runAfter s (size z) }
 
 -- ---- the whole text
-abbrev pub runOf : Stage → Grammar RunStage
-runOf s = let a = tableAt s in run (a .rows) (a .order)
+abbrev pub runBehind : Stage → Grammar RunStage
+runBehind s = let a = tableAt s in run (a .rows) (a .order)
 
 abbrev pub runBegins : Stage → RunStage
 runBegins s = releasesStage (length (tableAt s .rows)) []
@@ -103,7 +109,7 @@ abbrev pub WatchStage : Type 0
 WatchStage = Sequel Stage RunStage
 
 abbrev pub watchText : Grammar WatchStage
-watchText = sequence unheld runOf runBegins
+watchText = sequence unheld runBehind runBegins
 
 abbrev pub watch-start : WatchStage
 watch-start = first at-board

@@ -40,7 +40,7 @@ use Rattle.watch_demands.proofs.Given.{is-given, order-long, order-in-range, or
 use Rattle.plans.specs.Entries.{firstLate}
 use Rattle.plans.specs.Outcomes.{refuses, fitted}
 use Rattle.watch_demands.specs.Calls.{runInTime}
-use Rattle.watch_demands.specs.Runs.{runText}
+use Rattle.watch_demands.specs.Runs.{jobsText}
 use Rattle.watch_demands.proofs.Demands.{late-run, timely-run}
 use Rattle.watch_runs.specs.inside.Owners.{Released, Owned}
 use Rattle.watch_runs.specs.inside.Runs.{Describes, Startable}
@@ -285,5 +285,5 @@ module _ {ns : List ℕ} {n : ℕ} {positions columns offsets : List ℕ} (l : L
 
     pub timely-outcome : late ≡ 0
         → runInTime room (laidOrder l) (laidOffset l) lengths ticks
-        ≡ fitted room (runText (laidOrder l) (laidOffset l) lengths ticks)
+        ≡ fitted room (jobsText (laidOrder l) (laidOffset l) lengths ticks)
     timely-outcome none = timely-run room (laidOrder l) (laidOffset l) lengths ticks (first-late ∙ none)

@@ -8,7 +8,7 @@ use denote.Ref.{now}
 use borrow.Author.Needs.{needs}
 use Rattle.rows.specs.declared.Row.{Row}
 use Rattle.plans.proofs.Outcomes.{fits, fits-not, refused}
-use Rattle.watch_demands.specs.Runs.{runText}
+use Rattle.watch_demands.specs.Runs.{jobsText}
 use Rattle.watch_runs.proofs.Runs.{wrote-whole}
 use Rattle.watch_runs.proofs.run_order.Statement.{statement}
 use Rattle.watch_runs.proofs.run_order.Tie as tie
@@ -17,7 +17,7 @@ abbrev start : tie.After-run-from → tie.Start
 start c = c .before .before .before .before .before .before .before .before
 
 abbrev text : tie.Start → List Row → (ℕ → ℕ) → List ℕ
-text s order offset = runText order offset (now (s .args .lengths)) (s .args .ticks)
+text s order offset = jobsText order offset (now (s .args .lengths)) (s .args .ticks)
 
 abbrev room : tie.Start → ℕ
 room s = length (now (s .args .out))

@@ -9,7 +9,7 @@ use Rattle.rows.specs.declared.Row.{Row}
 use Rattle.responses.specs.Claims.{NoneHolds}
 use Rattle.plans.specs.declared.Answer.{Answer}
 use Rattle.plans.specs.Outcomes.{fitted, Written}
-use Rattle.watch_demands.specs.Runs.{runText}
+use Rattle.watch_demands.specs.Runs.{jobsText}
 use Rattle.watch_runs.specs.inside.Owners.{Released, Owned}
 use Rattle.watch_runs.specs.inside.States.{Begins, Steady}
 
@@ -67,11 +67,11 @@ pub record Runs
   pub long-max : long ≤ jobRoom * ticks
   pub wrote :
       (order : List Row) (offset : ℕ → ℕ) → Describes order offset n offsets tasks periods costs owners lengths
-      → WroteIf (runText order offset lengths ticks) buffer buffer′ long
+      → WroteIf (jobsText order offset lengths ticks) buffer buffer′ long
 
 -- or refused
 abbrev pub RunsOrder : (ticks n : ℕ) (offsets tasks periods costs owners lengths buffer buffer′ : List ℕ)
     → Answer → Type 0
 RunsOrder ticks n offsets tasks periods costs owners lengths buffer buffer′ r =
     (order : List Row) (offset : ℕ → ℕ) → Describes order offset n offsets tasks periods costs owners lengths
-    → Written (fitted (length buffer) (runText order offset lengths ticks)) buffer buffer′ r
+    → Written (fitted (length buffer) (jobsText order offset lengths ticks)) buffer buffer′ r
