@@ -83,6 +83,13 @@ pub record RunSays (text : List ℕ) (board : ℕ) (rows : List Row) (tasks rele
       (i j : ℕ) → i < length tasks → j < length rows → getD tasks i 0 ≡ rowAt rows j .task
       → offsetOf rows tasks releases i ≡ getD releases j 0
 
+-- and each such table with such lines behind it is read as that run
+abbrev pub RunReadsBack : Type 0
+RunReadsBack =
+    (front : List ℕ) (board : ℕ) (rows : List Row) (tasks releases : List ℕ) (ticks : ℕ) (lengths : List ℕ)
+    → AsWritten unheld at-board front (at-end board rows tasks) → RunLimits rows tasks releases ticks lengths
+    → TellsRun (front ++ runLines releases ticks lengths) board rows tasks releases ticks lengths
+
 -- a table is refused as the reviewer refuses it, where no hold before is above 0; and a hold above 0 with 3, on its line
 pub record TableRefusals (text : List ℕ) : Type 0 where
   pub as-reviewed :
@@ -93,13 +100,6 @@ pub record TableRefusals (text : List ℕ) : Type 0 where
       (k left board switch v : ℕ) (rows : List Row) (values rest : List ℕ)
       → Reaches unheld at-board text k (at-field left board switch rows values) (lineOf "hold=" (suc v) rest)
       → length values ≡ holdAt → suc v < 10 ^ maxDigits → FailsRun text 3 k
-
--- and each such table with such lines behind it is read as that run
-abbrev pub RunReadsBack : Type 0
-RunReadsBack =
-    (front : List ℕ) (board : ℕ) (rows : List Row) (tasks releases : List ℕ) (ticks : ℕ) (lengths : List ℕ)
-    → AsWritten unheld at-board front (at-end board rows tasks) → RunLimits rows tasks releases ticks lengths
-    → TellsRun (front ++ runLines releases ticks lengths) board rows tasks releases ticks lengths
 
 -- ---- a run that is watched
 -- of an order, its first releases and the lengths of its jobs
