@@ -18,7 +18,8 @@ const MOST_HOLD: u64 = 1_000_000;
 /// Tables with more tasks than this are ordered by `order_by_growing`.
 const PERMUTED_AT_MOST: usize = 7;
 
-/// The bytes of its input that a program takes: the planner and the reviewer, and the crane.
+/// The bytes of its input that a program takes: the planner and the reviewer, and the crane. The
+/// watcher's are in `watches`.
 pub const TABLE_TAKES: usize = 16_384;
 pub const CRANE_TAKES: usize = 65_536;
 
