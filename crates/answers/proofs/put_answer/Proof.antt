@@ -1,12 +1,12 @@
--- `lumavoneig::put_answer` meets its contract: three numbers where there is room for three, and else nothing.
+-- `answers::put_answer` meets its contract: three numbers where there is room for three, and else nothing.
 use mathlib.Core.Path.{refl}
 use native.Mathlib.Omega.{arith}
 use borrow.Author.Needs.{needs}
 use borrow.Author.Tests.{le-leb, lt-leb}
 use denote.Ref.{now}
 use lib.ListN.{length, length-set}
-use Rattle.lumavoneig.proofs.put_answer.Statement.{statement}
-use Rattle.lumavoneig.proofs.put_answer.Tie as tie
+use Rattle.answers.proofs.put_answer.Statement.{statement}
+use Rattle.answers.proofs.put_answer.Tie as tie
 
 cast-answer : tie.Need-cast-answer
 cast-answer c = search needs
