@@ -11,6 +11,7 @@ ghost use Rattle.responses.specs.Figures.{blocking, mayHold, marginAt, lateFigu
 ghost use Rattle.rows.specs.inside.Numbers.{rowIn, rowsIn};
 ghost use Rattle.analysis.specs.inside.Columns.{loads, columnsMax, baseMax, Columns, withTimes, Filled};
 ghost use Rattle.analysis.specs.inside.Columns.{Among, Fillable, UnderColumns, FiguresIn};
+ghost use Rattle.analysis.specs.inside.Values.{firstValue, nextValue};
 use basics::larger;
 use responses::Figures;
 use rows::BEST;
@@ -62,20 +63,38 @@ pub fn interference(window: u64, spared: u64, periods: &[u64], costs: &[u64], n:
     sum
 }
 
+// The first value that the search of W tries: the base and one job of each task, which is what a window of a tick meets.
+pub fn first_value(base: u64, periods: &[u64], costs: &[u64], n: usize) -> u64
+    requires { ⌜ (base ≤ baseMax) × Columns n (now periods) (now costs) ⌝ }
+    ensures { λ r. ⌜ r ≡ firstValue base (loads n (now (periods .entry)) (now (costs .entry))) ⌝ }
+{
+    base + interference(1, 0, periods, costs, n)
+}
+
+// The value that it tries after w, or w itself where it ends: with a solution, or past the limit, where the task is late.
+pub fn next_value(w: u64, base: u64, limit: u64, periods: &[u64], costs: &[u64], n: usize) -> u64
+    requires { ⌜ (1 ≤ w) × (base ≤ baseMax) × (limit ≤ maxTicks) × Columns n (now periods) (now costs) ⌝ }
+    ensures { λ r. ⌜ r ≡ nextValue base limit (loads n (now (periods .entry)) (now (costs .entry))) w ⌝ }
+{
+    if limit < w {
+        return w;
+    }
+    base + interference(w, 0, periods, costs, n)
+}
+
 // The smallest w from 1 to the limit with w = base + interference in w; 0 for none.
 pub fn least_fixed(base: u64, limit: u64, periods: &[u64], costs: &[u64], n: usize) -> u64
     requires { ⌜ (1 ≤ base) × (base ≤ baseMax) × (limit ≤ maxTicks) × Columns n (now periods) (now costs) ⌝ }
     ensures { λ r. ⌜ r ≡ leastFixed base limit (loads n (now (periods .entry)) (now (costs .entry))) ⌝ }
 {
-    let mut w = base;
-    while w <= limit {
-        let demand = base + interference(w, 0, periods, costs, n);
-        if demand == w {
-            return w;
+    let mut w = first_value(base, periods, costs, n);
+    loop {
+        let next = next_value(w, base, limit, periods, costs, n);
+        if next == w {
+            return if w <= limit { w } else { 0 };
         }
-        w = demand;
+        w = next;
     }
-    0
 }
 
 // The largest e from 1 to the limit with e = base + interference in e, one job less of each task.

@@ -1,0 +1,30 @@
+use mathlib.Core.Path.{ap, _∙_}
+use Prim.Native.Nat.{ℕ, _+_}
+use native.Mathlib.Omega.{arith}
+use borrow.Author.Needs.{needs}
+use Rattle.analysis.specs.inside.Columns.{loads}
+use Rattle.analysis.proofs.Columns.{interference-fits}
+use Rattle.analysis.proofs.Values.{periods-some, one-tick}
+use Rattle.analysis.proofs.first_value.Statement.{statement}
+use Rattle.analysis.proofs.first_value.Tie as tie
+
+interference-requires : tie.Need-interference-requires
+interference-requires c κs = search needs
+
+add-result : tie.Need-add-result
+add-result c =
+    let s = c .before .before .before in
+    let f = interference-fits (s .args .n) (s .args .periods .now) (s .args .costs .now) (s .pre .1) 0 1
+    (omega arith) in
+    record { fits = omega (arith, c .interference .ensures, f) }
+
+returns : tie.Need-returns
+returns c =
+    let s = c .before .before .before in
+    let a = s .args in
+    let ls = loads (a .n) (a .periods .now) (a .costs .now) in
+    ap (λ (x : ℕ). a .base + x)
+    (c .interference .ensures ∙ one-tick ls (periods-some (a .n) (a .periods .now) (a .costs .now) (s .pre .1)))
+
+pub first-value-spec : {M : Type 1} → statement M
+first-value-spec = tie.close (tie.spec interference-requires add-result returns)

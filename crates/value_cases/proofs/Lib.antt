@@ -1,0 +1,2 @@
+-- Laws of the tasks that are shown.
+pub mod Tasks
