@@ -1,5 +1,6 @@
 //! Times the proved planner against the same algorithm in plain Rust (`plain.rs`), on the same
-//! texts in one run, and looks for a slow table. See `docs/TESTING.md`.
+//! texts in one run, and looks for a slow table. With `--cfg before` it has an older library beside
+//! it. See `docs/TESTING.md`.
 
 mod dice;
 // Of these files only a part is needed here.
@@ -14,6 +15,7 @@ mod tables;
 
 use dice::Dice;
 use model::{Answer, Row, Table, MOST_PIECES, MOST_TASKS};
+use plain::Work;
 use std::hint::black_box;
 use std::process::ExitCode;
 
@@ -36,16 +38,24 @@ const USAGE: &str = "usage: bench [--tables N] [--rounds N] [--climb MILLIONS] [
 
 type Function = fn(&[u8], &mut [u8]) -> Answer;
 
-/// The same call twice: in plain Rust and in the library.
+/// The same call twice: what is measured against, and what is measured.
 struct Pair {
-    plain: Function,
-    library: Function,
+    base: Function,
+    timed: Function,
 }
 
-const PLAN: Pair = Pair { plain: plain::plan, library: library::plan };
-const REVIEW: Pair = Pair { plain: plain::review, library: library::review };
-const CRANE: Pair = Pair { plain: plain::crane, library: library::crane };
-const WATCH: Pair = Pair { plain: plain::watch, library: library::watch };
+const PLAN: Pair = Pair { base: plain::plan, timed: library::plan };
+const REVIEW: Pair = Pair { base: plain::review, timed: library::review };
+const CRANE: Pair = Pair { base: plain::crane, timed: library::crane };
+const WATCH: Pair = Pair { base: plain::watch, timed: library::watch };
+
+/// The planner before request 6 and after it, in plain Rust and, where the older one is linked, in
+/// the library.
+const SOONER: &[(&str, Pair)] = &[
+    ("plain", Pair { base: plain::plan_before, timed: plain::plan }),
+    #[cfg(before)]
+    ("library", Pair { base: library::plan_before, timed: library::plan }),
+];
 
 /// A text on which the two do not print the same.
 struct Different(Vec<u8>);
@@ -61,13 +71,18 @@ unsafe extern "C" {
 /// Seconds of the processor for one call of each.
 #[derive(Clone, Copy, Default)]
 struct Times {
-    plain: f64,
-    library: f64,
+    base: f64,
+    timed: f64,
 }
 
 impl Times {
     fn ratio(&self) -> f64 {
-        self.library / self.plain
+        self.timed / self.base
+    }
+
+    fn add(&mut self, times: Times) {
+        self.base += times.base;
+        self.timed += times.timed;
     }
 }
 
@@ -96,19 +111,19 @@ fn seconds(function: Function, text: &[u8], calls: u32) -> f64 {
 /// The shortest times of several rounds, which are disturbed least; the two take turns in going
 /// first.
 fn measure(pair: &Pair, text: &[u8], rounds: u32) -> Result<Times, Different> {
-    if printed(pair.plain, text) != printed(pair.library, text) {
+    if printed(pair.base, text) != printed(pair.timed, text) {
         return Err(Different(text.to_vec()));
     }
-    let once = seconds(pair.plain, text, 1);
+    let once = seconds(pair.base, text, 1);
     let calls = (BATCH / once).clamp(1.0, 10_000.0) as u32;
-    let mut times = Times { plain: f64::INFINITY, library: f64::INFINITY };
+    let mut times = Times { base: f64::INFINITY, timed: f64::INFINITY };
     for round in 0..rounds {
         if round % 2 == 0 {
-            times.plain = times.plain.min(seconds(pair.plain, text, calls));
+            times.base = times.base.min(seconds(pair.base, text, calls));
         }
-        times.library = times.library.min(seconds(pair.library, text, calls));
+        times.timed = times.timed.min(seconds(pair.timed, text, calls));
         if round % 2 == 1 {
-            times.plain = times.plain.min(seconds(pair.plain, text, calls));
+            times.base = times.base.min(seconds(pair.base, text, calls));
         }
     }
     Ok(times)
@@ -128,34 +143,35 @@ fn print_times(
     for (tasks, texts) in texts.iter().enumerate() {
         let mut sum = Times::default();
         for text in texts {
-            let times = measure(pair, text, rounds)?;
-            sum.plain += times.plain;
-            sum.library += times.library;
+            sum.add(measure(pair, text, rounds)?);
         }
         let micros = 1e6 / texts.len() as f64;
-        let growth = before.map_or(String::new(), |before| format!("{:.2}", sum.library / before));
-        let (plain, library) = (sum.plain * micros, sum.library * micros);
+        let growth = before.map_or(String::new(), |before| format!("{:.2}", sum.timed / before));
+        let (plain, library) = (sum.base * micros, sum.timed * micros);
         println!("  {:5} {plain:10.2} {library:10.2} {:7.2} {growth:>7}", tasks + 1, sum.ratio());
-        before = Some(sum.library);
-        total.plain += sum.plain;
-        total.library += sum.library;
+        before = Some(sum.timed);
+        total.add(sum);
     }
-    let (plain, library) = (total.plain * 1e3, total.library * 1e3);
+    let (plain, library) = (total.base * 1e3, total.timed * 1e3);
     println!("  total: plain {plain:.3} ms, library {library:.3} ms, ratio {:.3}", total.ratio());
     Ok(())
 }
 
 // ---- Tables -----------------------------------------------------------------------------
 
-/// The plan's order, and the terms added up in the search for it if `COUNTED`: its work, whatever
-/// the machine.
-fn chosen<const COUNTED: bool>(table: &Table) -> (Option<Vec<usize>>, u64) {
+/// The plan's order, and the work of the search for it if `COUNTED`, as it is or as it was before
+/// request 6.
+fn chosen<const COUNTED: bool, const SOONER: bool>(table: &Table) -> (Option<Vec<usize>>, Work) {
     let longer = |row: &Row| Row { worst: row.worst + table.switch, ..*row };
-    plain::chosen::<COUNTED>(&table.rows.iter().map(longer).collect::<Vec<_>>())
+    plain::chosen::<COUNTED, SOONER>(&table.rows.iter().map(longer).collect::<Vec<_>>())
+}
+
+fn order(table: &Table) -> Option<Vec<usize>> {
+    chosen::<false, true>(table).0
 }
 
 fn work(table: &Table) -> u64 {
-    chosen::<true>(table).1
+    chosen::<true, true>(table).1.terms
 }
 
 fn typical(dice: &mut Dice, tasks: usize) -> Table {
@@ -212,7 +228,7 @@ fn ranked_text(table: &Table) -> Vec<u8> {
     let rows = &table.rows;
     let mut by_period: Vec<usize> = (0..rows.len()).collect();
     by_period.sort_by_key(|&index| rows[index].period);
-    let order = chosen::<false>(table).0.unwrap_or(by_period);
+    let order = order(table).unwrap_or(by_period);
     let ranks = order.iter().flat_map(|&index| format!("rank={}\n", rows[index].task).into_bytes());
     tables::text(table).into_iter().chain(ranks).collect()
 }
@@ -231,7 +247,7 @@ fn print_full_boards(
         if work(&table) < least {
             continue;
         }
-        let half = &mut texts[usize::from(chosen::<false>(&table).0.is_none())];
+        let half = &mut texts[usize::from(order(&table).is_none())];
         if half.len() < boards {
             half.push(tables::text(&table));
         }
@@ -241,15 +257,12 @@ fn print_full_boards(
     for (name, texts) in ["with an order", "with no order"].iter().zip(&texts) {
         let mut sum = Times::default();
         for text in texts {
-            let times = measure(&PLAN, text, options.rounds)?;
-            sum.plain += times.plain;
-            sum.library += times.library;
+            sum.add(measure(&PLAN, text, options.rounds)?);
         }
         let micros = 1e6 / texts.len() as f64;
-        let (plain, library) = (sum.plain * micros, sum.library * micros);
+        let (plain, library) = (sum.base * micros, sum.timed * micros);
         println!("  {name}: plain {plain:.2}, library {library:.2}, ratio {:.3}", sum.ratio());
-        total.plain += sum.plain;
-        total.library += sum.library;
+        total.add(sum);
     }
     println!("  all: ratio {:.3}", total.ratio());
     Ok(())
@@ -269,17 +282,43 @@ fn print_cranes(dice: &mut Dice, count: usize, rounds: u32) -> Result<(), Differ
             };
             let pieces: Vec<Vec<u8>> = (0..boards).map(|_| board()).collect();
             let times = measure(&CRANE, &pieces.concat(), rounds)?;
-            sum.plain += times.plain;
-            sum.library += times.library;
-            let turns = (BATCH / times.library).clamp(1.0, 10_000.0) as u32;
+            sum.add(times);
+            let turns = (BATCH / times.timed).clamp(1.0, 10_000.0) as u32;
             let pieces: Vec<&[u8]> = pieces.iter().map(Vec::as_slice).collect();
             let turn = |_| seconds_in_turn(library::plan, &pieces, turns);
             single += (0..rounds).map(turn).fold(f64::INFINITY, f64::min);
         }
         let micros = 1e6 / count as f64;
-        let (plain, library) = (sum.plain * micros, sum.library * micros);
-        let more = sum.library / single;
+        let (plain, library) = (sum.base * micros, sum.timed * micros);
+        let more = sum.timed / single;
         println!("  {boards:6} {plain:9.2} {library:10.2} {:7.2} {more:16.2}", sum.ratio());
+    }
+    Ok(())
+}
+
+// ---- Where the search of a latest response begins --------------------------------------
+
+/// The numbers of tasks for which it is shown what request 6 has saved.
+const SHOWN: [usize; 2] = [12, 16];
+const SAVED: &str = "planner before and after request 6, for one call, times in microseconds";
+
+/// What request 6 has saved on some tables: the values that the search of a latest response tries,
+/// and the time of a call, before and after.
+fn print_saved(name: &str, tables: &[Table], rounds: u32) -> Result<(), Different> {
+    let count = tables.len() as f64;
+    let values = |work: fn(&Table) -> Work| {
+        tables.iter().map(|table| work(table).values).sum::<u64>() as f64 / count
+    };
+    let before = values(|table| chosen::<true, false>(table).1);
+    let after = values(|table| chosen::<true, true>(table).1);
+    println!("  {name}: values tried {before:.1}, {after:.1}, ratio {:.3}", after / before);
+    for (side, pair) in SOONER {
+        let mut sum = Times::default();
+        for table in tables {
+            sum.add(measure(pair, &tables::text(table), rounds)?);
+        }
+        let (before, after) = (sum.base * 1e6 / count, sum.timed * 1e6 / count);
+        println!("    {side}: {before:.2}, {after:.2}, ratio {:.3}", sum.ratio());
     }
     Ok(())
 }
@@ -318,7 +357,7 @@ fn print_full_runs(rounds: u32) -> Result<(), Different> {
     println!("watcher, 1000000 ticks, {MOST_TASKS} tasks, 2048 lengths, milliseconds a call");
     for (name, period, worst, best) in FULL_RUNS {
         let times = measure(&WATCH, &full_run(period, worst, best), rounds)?;
-        let (plain, library) = (1e3 * times.plain, 1e3 * times.library);
+        let (plain, library) = (1e3 * times.base, 1e3 * times.timed);
         println!("  {name}: plain, from release to release, {plain:.2}, library {library:.2}");
     }
     Ok(())
@@ -401,10 +440,10 @@ fn print_stack(dice: &mut Dice, count: usize) {
     println!("stack of a call with {MOST_TASKS} tasks, bytes:");
     println!(
         "  planner {}, reviewer {}, crane {}, watcher {}",
-        most(PLAN.library, &plans),
-        most(REVIEW.library, &reviews),
-        most(CRANE.library, &[crane]),
-        most(WATCH.library, &runs)
+        most(PLAN.timed, &plans),
+        most(REVIEW.timed, &reviews),
+        most(CRANE.timed, &[crane]),
+        most(WATCH.timed, &runs)
     );
 }
 
@@ -454,7 +493,7 @@ fn step_from(dice: &mut Dice, table: &Table) -> Table {
 /// A table made to be slow: short tasks that leave one tick in 87,639 free, so that the search of a
 /// latest response creeps; long tasks that all just fit below them, so that every set of these is
 /// tried; and, last in the table, a task that is never stable, so that all of it is in vain.
-fn creeping() -> Table {
+fn creeping(tasks: usize) -> Table {
     let loose = |period| Row {
         task: 0,
         period,
@@ -465,7 +504,7 @@ fn creeping() -> Table {
         hold: 0,
     };
     let (short, never) = ([1_844, 43, 7, 3, 2], 1);
-    let long = std::iter::repeat_n(1_000_000, MOST_TASKS - short.len() - never);
+    let long = std::iter::repeat_n(1_000_000, tasks - short.len() - never);
     let mut rows = long.chain(short).map(loose).collect::<Vec<_>>();
     rows.push(Row { beta: 0, ..rows[0] });
     rows.iter_mut().zip(1..).for_each(|(row, task)| row.task = task);
@@ -489,13 +528,16 @@ fn climb(dice: &mut Dice, start: Table, budget: u64) -> (u64, Table) {
 /// Climbs from a drawn table and from the made one, each with half of the budget, and times the
 /// slowest table that was met.
 fn print_slowest(dice: &mut Dice, millions: u64, rounds: u32) -> Result<(), Different> {
-    let starts = [slow(dice, MOST_TASKS), creeping()];
+    let starts = [slow(dice, MOST_TASKS), creeping(MOST_TASKS)];
     let ends = starts.map(|start| climb(dice, start, millions * 500_000));
     println!("climbed to {} and {} terms", ends[0].0, ends[1].0);
     let (_, table) = ends.into_iter().max_by_key(|end| end.0).expect("two climbs");
+    println!("{SAVED}");
+    print_saved("12 tasks, made to be slow", &[creeping(12)], 2)?;
+    print_saved("the slowest table found", &[table.clone()], 2)?;
     let text = tables::text(&table);
     let times = measure(&PLAN, &text, rounds)?;
-    let (plain, library) = (times.plain * 1e3, times.library * 1e3);
+    let (plain, library) = (times.base * 1e3, times.timed * 1e3);
     println!(
         "slowest table found: plain {plain:.3} ms, library {library:.3} ms, ratio {:.3}",
         times.ratio()
@@ -556,6 +598,11 @@ fn run(options: &Options) -> Result<(), Different> {
         &texts_of(&typical, ranked_text),
         options.rounds,
     )?;
+    println!("{SAVED}");
+    for tasks in SHOWN {
+        print_saved(&format!("{tasks} tasks, typical"), &typical[tasks - 1], options.rounds)?;
+        print_saved(&format!("{tasks} tasks, slow"), &slow[tasks - 1], options.rounds)?;
+    }
     print_full_boards("as drawn", &mut dice, 0, options)?;
     print_full_boards("with much to search", &mut dice, MUCH_WORK, options)?;
     // Dice of their own, so that the tables of the other parts stay what they were.

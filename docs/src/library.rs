@@ -37,6 +37,19 @@ extern "C" {
     );
 }
 
+// The planner's call of an older library, for `bench` alone: docs/TESTING.md has how it is renamed.
+#[cfg(before)]
+extern "C" {
+    fn lumavoneig_plan_before(
+        text: *const u8,
+        text_len: usize,
+        out: *mut u8,
+        out_len: usize,
+        answer: *mut u64,
+        answer_len: usize,
+    );
+}
+
 type Function = unsafe extern "C" fn(*const u8, usize, *mut u8, usize, *mut u64, usize);
 
 fn call(function: Function, text: &[u8], buffer: &mut [u8]) -> Answer {
@@ -60,6 +73,11 @@ fn call(function: Function, text: &[u8], buffer: &mut [u8]) -> Answer {
 
 pub fn plan(text: &[u8], buffer: &mut [u8]) -> Answer {
     call(lumavoneig_plan, text, buffer)
+}
+
+#[cfg(before)]
+pub fn plan_before(text: &[u8], buffer: &mut [u8]) -> Answer {
+    call(lumavoneig_plan_before, text, buffer)
 }
 
 pub fn review(text: &[u8], buffer: &mut [u8]) -> Answer {

@@ -115,14 +115,23 @@ fn digits(bytes: &[u8]) -> Option<u64> {
 
 // ---- Figures ----------------------------------------------------------------------------
 
-/// The rows above as columns, and how many terms have been added up so far if `COUNTED`: a
-/// measure of work that does not depend on the machine.
-struct Above<const COUNTED: bool> {
+/// What the figures have cost so far, whatever the machine: the terms with a division that were
+/// added up, and the values that the search of a latest response has tried.
+#[derive(Clone, Copy, Default)]
+pub struct Work {
+    pub terms: u64,
+    pub values: u64,
+}
+
+/// The rows above as columns; their work is counted if `COUNTED`. The search of a latest response
+/// begins with one job of each, or, as it did before request 6, with the task's own time: `SOONER`
+/// says which.
+struct Above<const COUNTED: bool, const SOONER: bool> {
     count: usize,
     period: [u64; MOST_TASKS],
     worst: [u64; MOST_TASKS],
     best: [u64; MOST_TASKS],
-    work: u64,
+    work: Work,
 }
 
 struct Figures {
@@ -131,14 +140,14 @@ struct Figures {
     margin: i64,
 }
 
-impl<const COUNTED: bool> Above<COUNTED> {
+impl<const COUNTED: bool, const SOONER: bool> Above<COUNTED, SOONER> {
     fn new() -> Self {
         Above {
             count: 0,
             period: [1; MOST_TASKS],
             worst: [0; MOST_TASKS],
             best: [0; MOST_TASKS],
-            work: 0,
+            work: Work::default(),
         }
     }
 
@@ -159,26 +168,36 @@ impl<const COUNTED: bool> Above<COUNTED> {
 
     fn count_a_sum(&mut self) {
         if COUNTED {
-            self.work += 1 + self.count as u64;
+            self.work.terms += 1 + self.count as u64;
+        }
+    }
+
+    fn count_a_value(&mut self) {
+        if COUNTED {
+            self.work.values += 1;
         }
     }
 
     fn latest(&mut self, row: &Row, blocked: u64) -> Option<u64> {
-        let mut time = row.worst;
-        loop {
+        let own = row.worst + blocked;
+        let mut time = own;
+        if SOONER {
+            time += self.worst[..self.count].iter().sum::<u64>();
+        }
+        self.count_a_value();
+        while time <= row.period {
             self.count_a_sum();
-            let mut next = row.worst + blocked;
+            let mut next = own;
             for (period, worst) in self.period[..self.count].iter().zip(&self.worst) {
                 next += time.div_ceil(*period) * worst;
             }
             if next == time {
                 return Some(time);
             }
-            if next > row.period {
-                return None;
-            }
             time = next;
+            self.count_a_value();
         }
+        None
     }
 
     fn earliest(&mut self, row: &Row, latest: u64) -> u64 {
@@ -212,13 +231,13 @@ fn blocking_time<'a>(below: impl Iterator<Item = &'a Row>) -> u64 {
 
 // ---- The search -------------------------------------------------------------------------
 
-struct Search<'a, const COUNTED: bool> {
+struct Search<'a, const COUNTED: bool, const SOONER: bool> {
     rows: &'a [Row],
     lowest: Vec<u8>,
-    above: Above<COUNTED>,
+    above: Above<COUNTED, SOONER>,
 }
 
-impl<const COUNTED: bool> Search<'_, COUNTED> {
+impl<const COUNTED: bool, const SOONER: bool> Search<'_, COUNTED, SOONER> {
     /// Whether a set has an order, with the largest hold outside it.
     fn has_order(&mut self, set: usize, largest: u64) -> bool {
         if self.lowest[set] == UNKNOWN {
@@ -259,10 +278,12 @@ impl<const COUNTED: bool> Search<'_, COUNTED> {
 
 /// The order of the plan, highest rank first, and the work done to find it (0 unless `COUNTED`); the
 /// rows have the switch in their worst times.
-pub fn chosen<const COUNTED: bool>(rows: &[Row]) -> (Option<Vec<usize>>, u64) {
+pub fn chosen<const COUNTED: bool, const SOONER: bool>(
+    rows: &[Row],
+) -> (Option<Vec<usize>>, Work) {
     let mut lowest = vec![UNKNOWN; 1 << rows.len()];
     lowest[0] = 0;
-    let mut search = Search { rows, lowest, above: Above::<COUNTED>::new() };
+    let mut search = Search { rows, lowest, above: Above::<COUNTED, SOONER>::new() };
     let found = search.has_order((1 << rows.len()) - 1, 0);
     (found.then(|| search.order()), search.above.work)
 }
@@ -285,12 +306,16 @@ fn push_line(text: &mut Vec<u8>, key: &[u8], mut number: u64) {
     text.push(b'\n');
 }
 
-fn plan_text(board: u64, rows: &[Row], order: &[usize]) -> Result<Vec<u8>, Refusal> {
+fn plan_text<const SOONER: bool>(
+    board: u64,
+    rows: &[Row],
+    order: &[usize],
+) -> Result<Vec<u8>, Refusal> {
     let mut text = Vec::with_capacity(HEAD_ROOM + rows.len() * RANK_ROOM);
     push_line(&mut text, b"plan=", 1);
     push_line(&mut text, b"board=", board);
     push_line(&mut text, b"tasks=", rows.len() as u64);
-    let mut above = Above::<false>::new();
+    let mut above = Above::<false, SOONER>::new();
     for (at, &index) in order.iter().enumerate() {
         let (row, rank) = (&rows[index], at as u64 + 1);
         let blocked = blocking_time(order[at + 1..].iter().map(|&index| &rows[index]));
@@ -307,12 +332,12 @@ fn plan_text(board: u64, rows: &[Row], order: &[usize]) -> Result<Vec<u8>, Refus
     Ok(text)
 }
 
-fn planned(text: &[u8]) -> Result<Vec<u8>, Refusal> {
+fn planned<const SOONER: bool>(text: &[u8]) -> Result<Vec<u8>, Refusal> {
     let mut reader = Reader::new(text);
     let (board, rows) = reader.table()?;
     reader.end()?;
-    let order = chosen::<false>(&rows).0.ok_or(Refusal { number: 8, place: 0 })?;
-    plan_text(board, &rows, &order)
+    let order = chosen::<false, SOONER>(&rows).0.ok_or(Refusal { number: 8, place: 0 })?;
+    plan_text::<SOONER>(board, &rows, &order)
 }
 
 fn reviewed(text: &[u8]) -> Result<Vec<u8>, Refusal> {
@@ -320,7 +345,7 @@ fn reviewed(text: &[u8]) -> Result<Vec<u8>, Refusal> {
     let (board, rows) = reader.table()?;
     let order = reader.ranks(&rows)?;
     reader.end()?;
-    plan_text(board, &rows, &order)
+    plan_text::<true>(board, &rows, &order)
 }
 
 fn deliver(plan: Result<Vec<u8>, Refusal>, buffer: &mut [u8]) -> Answer {
@@ -338,7 +363,12 @@ fn deliver(plan: Result<Vec<u8>, Refusal>, buffer: &mut [u8]) -> Answer {
 }
 
 pub fn plan(text: &[u8], buffer: &mut [u8]) -> Answer {
-    deliver(planned(text), buffer)
+    deliver(planned::<true>(text), buffer)
+}
+
+/// The same as it was before request 6.
+pub fn plan_before(text: &[u8], buffer: &mut [u8]) -> Answer {
+    deliver(planned::<false>(text), buffer)
 }
 
 pub fn review(text: &[u8], buffer: &mut [u8]) -> Answer {
@@ -477,7 +507,7 @@ fn watched(text: &[u8]) -> Result<Vec<u8>, Refusal> {
     let lengths = reader.lengths(&ranks)?;
     reader.end()?;
     // For its refusal of a late task.
-    plan_text(board, &rows, &order)?;
+    plan_text::<true>(board, &rows, &order)?;
     Ok(run(&mut ranks, &lengths, ticks))
 }
 
