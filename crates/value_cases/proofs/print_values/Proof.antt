@@ -53,8 +53,8 @@ further : (c : tie.Else1 Inv-loop μ-loop)
 further c =
     let a = c .before .before .before .before .before .before .before .args in
     let l = c .before .before .loop in
-    moves (a .base) (a .limit) (loads (a .n) (a .periods .now) (a .costs .now)) (l .value) (l .inv) _
-    (c .before .next-value .ensures) (c .if1 .left)
+    let ls = loads (a .n) (a .periods .now) (a .costs .now) in
+    moves (a .base) (a .limit) ls (l .value) (l .inv) _ (c .before .next-value .ensures) (c .if1 .left)
 
 loop-less : tie.Need-loop-less Inv-loop μ-loop
 loop-less c = omega (arith, further (c .before .before .before))
@@ -64,8 +64,8 @@ loop-again c =
     let i = c .before .before .before in
     let a = i .before .before .before .before .before .before .before .args in
     let l = i .before .before .loop in
-    rw (i .before .next-value .ensures)
-    (goes-on (a .base) (a .limit) (loads (a .n) (a .periods .now) (a .costs .now)) (l .value) (l .inv) (further i .0))
+    let ls = loads (a .n) (a .periods .now) (a .costs .now) in
+    rw (i .before .next-value .ensures) (goes-on (a .base) (a .limit) ls (l .value) (l .inv) (further i .0))
 
 pub print-values-spec : {M : Type 1} → statement M
 print-values-spec =
