@@ -47,6 +47,11 @@ next-within base limit w ls h = ap (λ b. pick b (base + interference 0 w ls) w)
 pub next-past : (base limit w : ℕ) (ls : List Load) → limit < w → nextValue base limit ls w ≡ w
 next-past base limit w ls h = ap (λ b. pick b (base + interference 0 w ls) w) (lt-leb w limit h)
 
+-- the request's case: task 13 below tasks 11 and 12 has 27 and 35, which is followed by itself
+pub task-13 : let ls = load 24 6 ∷ load 18 2 ∷ [] in
+    (firstValue 19 ls ≡ 27) × (nextValue 19 200 ls 27 ≡ 35) × (nextValue 19 200 ls 35 ≡ 35)
+task-13 = (refl, refl, refl)
+
 -- ---- where the search stands: at a value that takes no less than itself, with no solution behind it
 pub record Searching (base limit : ℕ) (ls : List Load) (w : ℕ) : Type 0 where
   pub some : 1 ≤ w

@@ -1,5 +1,3 @@
-use mathlib.Core.Path.{ap, _∙_}
-use Prim.Native.Nat.{ℕ, _+_}
 use native.Mathlib.Omega.{arith}
 use borrow.Author.Needs.{needs}
 use Rattle.analysis.specs.inside.Columns.{loads}
@@ -23,8 +21,8 @@ returns c =
     let s = c .before .before .before in
     let a = s .args in
     let ls = loads (a .n) (a .periods .now) (a .costs .now) in
-    ap (λ (x : ℕ). a .base + x)
-    (c .interference .ensures ∙ one-tick ls (periods-some (a .n) (a .periods .now) (a .costs .now) (s .pre .1)))
+    let each = one-tick ls (periods-some (a .n) (a .periods .now) (a .costs .now) (s .pre .1)) in
+    omega (arith, c .interference .ensures, each)
 
 pub first-value-spec : {M : Type 1} → statement M
 first-value-spec = tie.close (tie.spec interference-requires add-result returns)

@@ -12,7 +12,7 @@ returns : tie.Need-returns
 returns c =
     let a = c .before .before .before .args in
     let ls = loads (a .n) (a .periods .now) (a .costs .now) in
-    sym (next-past (a .base) (a .limit) (a .w) ls (c .if1 .taken))
+    sym (next-past (a .base) (a .limit) (a .w) ls (omega (arith, c .if1 .taken)))
 
 interference-requires : tie.Need-interference-requires
 interference-requires c κs = search needs
