@@ -300,10 +300,10 @@ fn print_cranes(dice: &mut Dice, count: usize, rounds: u32) -> Result<(), Differ
 
 /// The numbers of tasks for which it is shown what request 6 has saved.
 const SHOWN: [usize; 2] = [12, 16];
-const SAVED: &str = "planner before and after request 6, for one call, times in microseconds";
+const SAVED: &str = "planner before and after request 6: values of W tried for an order, microseconds a call";
 
-/// What request 6 has saved on some tables: the values that the search of a latest response tries,
-/// and the time of a call, before and after.
+/// What request 6 has saved on some tables: the values that the search of a latest response tries
+/// while an order is looked for, and the time of a call, before and after.
 fn print_saved(name: &str, tables: &[Table], rounds: u32) -> Result<(), Different> {
     let count = tables.len() as f64;
     let values = |work: fn(&Table) -> Work| {

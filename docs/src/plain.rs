@@ -115,8 +115,8 @@ fn digits(bytes: &[u8]) -> Option<u64> {
 
 // ---- Figures ----------------------------------------------------------------------------
 
-/// What the figures have cost so far, whatever the machine: the terms with a division that were
-/// added up, and the values that the search of a latest response has tried.
+/// What the figures have cost so far, whatever the machine: the terms that were added up, beside
+/// those of first values, and the values that the search of a latest response has tried.
 #[derive(Clone, Copy, Default)]
 pub struct Work {
     pub terms: u64,
@@ -366,7 +366,7 @@ pub fn plan(text: &[u8], buffer: &mut [u8]) -> Answer {
     deliver(planned::<true>(text), buffer)
 }
 
-/// The same as it was before request 6.
+/// The same with the search of a latest response as the library had it before request 6.
 pub fn plan_before(text: &[u8], buffer: &mut [u8]) -> Answer {
     deliver(planned::<false>(text), buffer)
 }

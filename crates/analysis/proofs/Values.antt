@@ -1,9 +1,10 @@
 -- Why the search of W begins with one job of each task: a window of a tick or more meets a job of each, so no solution
 -- is less; and one tick further a solution can be missed.
-use mathlib.Core.Path.{_≡_, refl, ap, _∙_}
+use mathlib.Core.Path.{_≡_, refl, sym, ap, _∙_}
 use mathlib.Core.Logic.{inl, inr}
 use mathlib.Core.List.{List, [], _∷_}
-use Prim.Native.Nat.{ℕ, zero, suc, _+_, _-_, _*_, _≤_, _<_}
+use Prim.Native.Nat.{ℕ, zero, suc, _+_, _-_, _≤_, _<_}
+use native.Mathlib.Numerals.{add-one}
 use native.Mathlib.Omega.{arith}
 use borrow.Author.Tests.{le-leb, lt-leb}
 use Rattle.basics.specs.Basics.{pick}
@@ -13,7 +14,7 @@ use Rattle.basics.proofs.Tests.{le-or-lt}
 use Rattle.responses.proofs.Sums.{Periods, ceiling-one, interference-mono}
 use Rattle.responses.proofs.FixedPoints.{demand-mono, least-is, least-none}
 use Rattle.analysis.specs.inside.Columns.{loadsFrom, loads, Columns}
-use Rattle.analysis.specs.inside.Values.{oneJobEach, firstValue, nextValue}
+use Rattle.analysis.specs.inside.Values.{oneJobEach, firstValue, nextValue, valueAt}
 
 -- ---- the first value
 -- a window of a tick meets one job of each task
@@ -47,49 +48,82 @@ next-within base limit w ls h = ap (λ b. pick b (base + interference 0 w ls) w)
 pub next-past : (base limit w : ℕ) (ls : List Load) → limit < w → nextValue base limit ls w ≡ w
 next-past base limit w ls h = ap (λ b. pick b (base + interference 0 w ls) w) (lt-leb w limit h)
 
--- the request's case: task 13 below tasks 11 and 12 has 27 and 35, which is followed by itself
-pub task-13 : let ls = load 24 6 ∷ load 18 2 ∷ [] in
-    (firstValue 19 ls ≡ 27) × (nextValue 19 200 ls 27 ≡ 35) × (nextValue 19 200 ls 35 ≡ 35)
+-- the request's case: the values for task 13 below tasks 11 and 12 are 27 and 35, which is followed by itself
+pub task-13 : let value = valueAt 19 200 (load 24 6 ∷ load 18 2 ∷ []) in
+    (value 0 ≡ 27) × (value 1 ≡ 35) × (value 2 ≡ 35)
 task-13 = (refl, refl, refl)
 
--- ---- where the search stands: at a value that takes no less than itself, with no solution behind it
+-- ---- where the search stands: at a value that takes no less than itself, with no solution below it
 pub record Searching (base limit : ℕ) (ls : List Load) (w : ℕ) : Type 0 where
   pub some : 1 ≤ w
   pub rises : w ≤ base + interference 0 w ls
-  pub none-behind : (v : ℕ) → 1 ≤ v → v ≡ base + interference 0 v ls → v ≤ limit → w ≤ v
+  pub none-below : (v : ℕ) → 1 ≤ v → v ≡ base + interference 0 v ls → v ≤ limit → w ≤ v
 
 module _ (base limit : ℕ) (ls : List Load) where
-  pub begins : 1 ≤ base → Periods ls → Searching base limit ls (firstValue base ls)
+  begins : 1 ≤ base → Periods ls → Searching base limit ls (firstValue base ls)
   begins h ps = record {
     some = omega arith;
     rises = omega (arith, one-job-met (firstValue base ls) ls ps (omega arith));
-    none-behind = λ v k e l. first-least base v ls ps k e;
+    none-below = λ v k e l. first-least base v ls ps k e;
   }
 
-  module _ (w : ℕ) (s : Searching base limit ls w) where
-    -- another value is further on, from within the limit
-    pub moves : (next : ℕ) → next ≡ nextValue base limit ls w → (next ≡ w → ⊥) → (w ≤ limit) × (w < next)
-    moves next e h = elim (le-or-lt w limit) [
-      | inl l ↦ (l, omega (arith, e, next-within base limit w ls l, s .rises, h))
-      | inr l ↦ absurd (h (e ∙ next-past base limit w ls l))
-    ]
-
-    pub goes-on : w ≤ limit → Searching base limit ls (nextValue base limit ls w)
-    goes-on l =
+  steps-on : (w : ℕ) → Searching base limit ls w → Searching base limit ls (nextValue base limit ls w)
+  steps-on w s = elim (le-or-lt w limit) [
+    | inl l ↦ (
         let up = demand-mono 0 base ls in
         rw (next-within base limit w ls l) (record {
           some = omega (arith, s .some, s .rises);
           rises = up w (base + interference 0 w ls) (s .rises);
-          none-behind = λ v h e k. omega (arith, up w v (s .none-behind v h e k), e);
+          none-below = λ v h e k. omega (arith, up w v (s .none-below v h e k), e);
+        }))
+    | inr l ↦ rw (next-past base limit w ls l) s
+  ]
+
+  pub searching : 1 ≤ base → Periods ls → (k : ℕ) → Searching base limit ls (valueAt base limit ls k)
+  searching h ps zero = begins h ps
+  searching h ps (suc k) = steps-on (valueAt base limit ls k) (searching h ps k)
+
+  module _ (w : ℕ) (s : Searching base limit ls w) where
+    -- a value that is not followed by itself is within the limit, and followed by a greater one
+    pub moves : (nextValue base limit ls w ≡ w → ⊥) → (w ≤ limit) × (w < nextValue base limit ls w)
+    moves h = elim (le-or-lt w limit) [
+      | inl l ↦ (l, omega (arith, next-within base limit w ls l, s .rises, h))
+      | inr l ↦ absurd (h (next-past base limit w ls l))
+    ]
+
+    -- one that is, is W or shows the task late
+    pub ends-at : nextValue base limit ls w ≡ w → w ≤ limit → w ≡ leastFixed base limit ls
+    ends-at e l =
+        least-is base limit ls w (s .some) (sym e ∙ next-within base limit w ls l) l (s .none-below)
+
+    pub ends-late : limit < w → 0 ≡ leastFixed base limit ls
+    ends-late l = least-none base limit ls (λ v h e k. omega (arith, s .none-below v h e k))
+
+-- ---- a search that has come to a value by some steps, each to a greater one
+pub record Reached (base limit : ℕ) (ls : List Load) (w k : ℕ) : Type 0 where
+  pub value-is : w ≡ valueAt base limit ls k
+  pub few : k < w
+  pub moved : (j : ℕ) → j < k → valueAt base limit ls j < valueAt base limit ls (suc j)
+
+module _ (base limit : ℕ) (ls : List Load) (some : 1 ≤ base) (ps : Periods ls) where
+  pub reached-first : (w : ℕ) → w ≡ firstValue base ls → Reached base limit ls w 0
+  reached-first w e = record { value-is = e; few = omega (arith, e); moved = λ j l. absurd (omega arith) }
+
+  module _ (w k : ℕ) (r : Reached base limit ls w k) where
+    pub stands : Searching base limit ls w
+    stands = rw (r .value-is) (searching base limit ls some ps k)
+
+    pub reached-next : (next : ℕ) → next ≡ nextValue base limit ls w → w < next → Reached base limit ls next (k + 1)
+    reached-next next e h =
+        let e′ : next ≡ valueAt base limit ls (suc k) = e ∙ ap (nextValue base limit ls) (r .value-is) in
+        rw (add-one k) (record {
+          value-is = e′;
+          few = omega (arith, r .few, h);
+          moved = λ j l. elim (le-or-lt k j) [
+            | inl m ↦ (let j-is : j ≡ k = omega arith in rw j-is (omega (arith, r .value-is, e′, h)))
+            | inr m ↦ r .moved j m
+          ];
         })
-
-    -- the same value is W, or shows the task late
-    pub found : w ≡ nextValue base limit ls w → w ≤ limit → w ≡ leastFixed base limit ls
-    found e l =
-        least-is base limit ls w (s .some) (e ∙ next-within base limit w ls l) l (s .none-behind)
-
-    pub late : limit < w → 0 ≡ leastFixed base limit ls
-    late l = least-none base limit ls (λ v h e k. omega (arith, s .none-behind v h e k))
 
 -- ---- the columns' own
 module _ (n : ℕ) (ps cs : List ℕ) (k : Columns n ps cs) where

@@ -11,7 +11,7 @@ ghost use Rattle.responses.specs.Figures.{blocking, mayHold, marginAt, lateFigu
 ghost use Rattle.rows.specs.inside.Numbers.{rowIn, rowsIn};
 ghost use Rattle.analysis.specs.inside.Columns.{loads, columnsMax, baseMax, Columns, withTimes, Filled};
 ghost use Rattle.analysis.specs.inside.Columns.{Among, Fillable, UnderColumns, FiguresIn};
-ghost use Rattle.analysis.specs.inside.Values.{firstValue, nextValue};
+ghost use Rattle.analysis.specs.inside.Values.{firstValue, nextValue, Tries};
 use basics::larger;
 use responses::Figures;
 use rows::BEST;
@@ -63,7 +63,13 @@ pub fn interference(window: u64, spared: u64, periods: &[u64], costs: &[u64], n:
     sum
 }
 
-// The first value that the search of W tries: the base and one job of each task, which is what a window of a tick meets.
+// Where the search of W ends: its last value, and the steps that led to it from the first.
+pub struct Tried {
+    pub last: u64,
+    pub steps: u64,
+}
+
+// The first value that it tries: the base and one job of each task, which is what a window of one tick meets.
 pub fn first_value(base: u64, periods: &[u64], costs: &[u64], n: usize) -> u64
     requires { ⌜ (base ≤ baseMax) × Columns n (now periods) (now costs) ⌝ }
     ensures { λ r. ⌜ r ≡ firstValue base (loads n (now (periods .entry)) (now (costs .entry))) ⌝ }
@@ -71,8 +77,8 @@ pub fn first_value(base: u64, periods: &[u64], costs: &[u64], n: usize) -> u64
     base + interference(1, 0, periods, costs, n)
 }
 
-// The value that it tries after w, or w itself where it ends: with a solution, or past the limit, where the task is late.
-pub fn next_value(w: u64, base: u64, limit: u64, periods: &[u64], costs: &[u64], n: usize) -> u64
+// The value after w, or w itself where the search ends: with a solution, or past the limit, where the task is late.
+pub fn next_value(base: u64, limit: u64, periods: &[u64], costs: &[u64], n: usize, w: u64) -> u64
     requires { ⌜ (1 ≤ w) × (base ≤ baseMax) × (limit ≤ maxTicks) × Columns n (now periods) (now costs) ⌝ }
     ensures { λ r. ⌜ r ≡ nextValue base limit (loads n (now (periods .entry)) (now (costs .entry))) w ⌝ }
 {
@@ -82,19 +88,30 @@ pub fn next_value(w: u64, base: u64, limit: u64, periods: &[u64], costs: &[u64],
     base + interference(w, 0, periods, costs, n)
 }
 
+// The search of W: from the first value on, until a value is followed by itself.
+pub fn try_values(base: u64, limit: u64, periods: &[u64], costs: &[u64], n: usize) -> Tried
+    requires { ⌜ (1 ≤ base) × (base ≤ baseMax) × (limit ≤ maxTicks) × Columns n (now periods) (now costs) ⌝ }
+    ensures { λ t. ⌜ Tries base limit (loads n (now (periods .entry)) (now (costs .entry))) t ⌝ }
+{
+    let mut last = first_value(base, periods, costs, n);
+    let mut steps: u64 = 0;
+    loop {
+        let next = next_value(base, limit, periods, costs, n, last);
+        if next == last {
+            return Tried { last, steps };
+        }
+        last = next;
+        steps += 1;
+    }
+}
+
 // The smallest w from 1 to the limit with w = base + interference in w; 0 for none.
 pub fn least_fixed(base: u64, limit: u64, periods: &[u64], costs: &[u64], n: usize) -> u64
     requires { ⌜ (1 ≤ base) × (base ≤ baseMax) × (limit ≤ maxTicks) × Columns n (now periods) (now costs) ⌝ }
     ensures { λ r. ⌜ r ≡ leastFixed base limit (loads n (now (periods .entry)) (now (costs .entry))) ⌝ }
 {
-    let mut w = first_value(base, periods, costs, n);
-    loop {
-        let next = next_value(w, base, limit, periods, costs, n);
-        if next == w {
-            return if w <= limit { w } else { 0 };
-        }
-        w = next;
-    }
+    let tried = try_values(base, limit, periods, costs, n);
+    if tried.last <= limit { tried.last } else { 0 }
 }
 
 // The largest e from 1 to the limit with e = base + interference in e, one job less of each task.

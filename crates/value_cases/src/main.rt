@@ -1,5 +1,6 @@
 // The values that the search of W tries for some tasks, one after another, and the W that it finds, or that the task is
-// late. `analysis::least_fixed` begins with the same first value and goes on by the same step, and has no other.
+// late. It is the planner's own search: how many values there are it says itself (`analysis::try_values`), and each is
+// found by its own first value and step.
 ghost use mathlib.Core.Path.{_≡_};
 ghost use mathlib.Core.Bool.{true};
 ghost use Prim.Native.Nat.{_≤_};
@@ -9,32 +10,30 @@ use analysis::blocking_time;
 use analysis::first_value;
 use analysis::least_fixed;
 use analysis::next_value;
+use analysis::try_values;
 use rows::Row;
 
 const STDOUT: i32 = 1;
 
-// The values, from the first to the one that is followed by itself.
-fn print_values(base: u64, limit: u64, periods: &[u64], costs: &[u64], n: usize)
+// The first value and those after so many steps.
+fn print_values(base: u64, limit: u64, periods: &[u64], costs: &[u64], n: usize, steps: u64)
     requires { ⌜ (1 ≤ base) × (base ≤ baseMax) × (limit ≤ maxTicks) × Columns n (now periods) (now costs) ⌝ }
 {
     let mut value = first_value(base, periods, costs, n);
     io::print_decimal(STDOUT, value);
-    loop {
-        let next = next_value(value, base, limit, periods, costs, n);
-        if next == value {
-            return;
-        }
+    for _ in 0..steps {
+        value = next_value(base, limit, periods, costs, n, value);
         io::write_all(STDOUT, b" ");
-        io::print_decimal(STDOUT, next);
-        value = next;
+        io::print_decimal(STDOUT, value);
     }
 }
 
-// The values and what is found.
+// The values up to the last that the search tries, and what is found.
 fn print_search(base: u64, limit: u64, periods: &[u64], costs: &[u64], n: usize)
     requires { ⌜ (1 ≤ base) × (base ≤ baseMax) × (limit ≤ maxTicks) × Columns n (now periods) (now costs) ⌝ }
 {
-    print_values(base, limit, periods, costs, n);
+    let tried = try_values(base, limit, periods, costs, n);
+    print_values(base, limit, periods, costs, n, tried.steps);
     let worst = least_fixed(base, limit, periods, costs, n);
     if worst == 0 {
         io::write_all(STDOUT, b", late\n");

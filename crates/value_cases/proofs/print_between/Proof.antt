@@ -13,7 +13,8 @@ add-own : tie.Need-add-own
 add-own c =
     let s = c .before .before .before .before .before .before in
     let l = own-times s in
-    record { fits = omega (arith, c .before .cost3 .ensures, c .blocking-time .ensures, l .cost-period, l .period-max, s .pre .3) }
+    let e = c .before .cost3 .ensures in
+    record { fits = omega (arith, e, c .blocking-time .ensures, l .cost-period, l .period-max, s .pre .3) }
 
 print-search-requires : tie.Need-print-search-requires
 print-search-requires c κs =
