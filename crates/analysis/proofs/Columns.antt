@@ -1,69 +1,21 @@
--- Columns hold the loads and the rows that the definitions speak of, and their interference fits.
+-- Three columns, one behind another, hold the loads and the rows that the definitions speak of.
 use mathlib.Core.Path.{_≡_, refl, ap, ap₂, sym, _∙_}
 use mathlib.Core.List.{List, [], _∷_, map}
-use Prim.Native.Nat.{ℕ, zero, suc, _+_, _-_, _*_, _≤_, _<_}
-use native.Mathlib.Nat.{mul-le-mul, add-zero, zero-add}
-use native.Mathlib.Numerals.{add-one}
+use Prim.Native.Nat.{ℕ, zero, suc, _+_, _-_, _≤_, _<_}
+use native.Mathlib.Nat.{add-zero, zero-add}
 use native.Mathlib.Omega.{arith}
 use lib.ListN.{length, getD, take, drop, length-take, length-drop}
 use lib.Seq.{getD-take, getD-drop}
 use Rattle.basics.specs.Basics.{pick}
 use Rattle.rows.specs.Rows.{maxTicks, cost, timesInRange, rowAt, noRow}
-use Rattle.rows.specs.declared.Row.{Row}
+use Rattle.rows.specs.Rows.{Row}
 use Rattle.rows.proofs.Limits.{Times, times, in-range-times, at-passes, front-passes}
-use Rattle.responses.specs.Interference.{ceiling, Load, load, interference, leastFixed, largestFixed}
-use Rattle.analysis.specs.inside.Columns.{loadsFrom, loads, columnsMax, Columns, Filled, UnderColumns}
+use Rattle.responses.specs.Interference.{Load, load, interference, leastFixed, largestFixed}
+use Rattle.fixed_points.specs.inside.Loads.{loadsFrom, loads, Columns}
+use Rattle.analysis.specs.inside.Columns.{Filled, UnderColumns}
 use Rattle.responses.specs.Figures.{worstLoad, bestLoad, blocking, mayHold, latest, earliest}
-use Rattle.responses.proofs.Sums.{term-max}
 use Rattle.responses.proofs.Responses.{responses}
 
--- from index i on there is the task at i, and what stands after it
-pub loads-step : (n i : ℕ) (ps cs : List ℕ) → i < n
-    → loadsFrom i (n - i) ps cs ≡ load (getD ps i 0) (getD cs i 0) ∷ loadsFrom (i + 1) (n - (i + 1)) ps cs
-unfolding loadsFrom
-loads-step n i ps cs h = let e : n - i ≡ suc (n - (i + 1)) = omega arith in rw (e, add-one i)
-
-pub loads-done : (n : ℕ) (ps cs : List ℕ) → loadsFrom n (n - n) ps cs ≡ []
-unfolding loadsFrom
-loads-done n ps cs = let e : n - n ≡ 0 = omega arith in rw e
-
--- a sum so far, with the interference still to come: what the task at i adds to it
-pub record Added (n : ℕ) (ps cs : List ℕ) (s x r i sum : ℕ) : Type 0 where
-  pub term-fits : (r - s) * getD cs i 0 ≤ maxTicks + maxTicks
-  pub sum-fits : sum + (r - s) * getD cs i 0 ≤ columnsMax * (maxTicks + maxTicks)
-  pub whole :
-      sum + (r - s) * getD cs i 0 + interference s x (loadsFrom (i + 1) (n - (i + 1)) ps cs)
-      ≡ interference s x (loads n ps cs)
-
-module _ (n : ℕ) (ps cs : List ℕ) (k : Columns n ps cs) where
-  max-from : (s x m i : ℕ) → i + m ≤ n → interference s x (loadsFrom i m ps cs) ≤ m * (x + maxTicks)
-  unfolding loadsFrom
-  max-from s x zero i h = omega arith
-  max-from s x (suc m) i h =
-      let t = term-max s x (getD ps i 0) (getD cs i 0) (k .cost-period i (omega arith)) in
-      omega (arith, t, k .period-max i (omega arith), max-from s x m (suc i) (omega arith))
-
-  -- interference in a window of a table fits by far
-  pub interference-fits : (s x : ℕ) → x ≤ maxTicks
-      → interference s x (loads n ps cs) ≤ columnsMax * (maxTicks + maxTicks)
-  interference-fits s x h =
-      let all = max-from s x n 0 (omega arith) in
-      omega (arith, all, mul-le-mul {m₁ = x + maxTicks} {m₂ = maxTicks + maxTicks} (k .few) (omega arith))
-
-  pub added : (s x r i sum : ℕ) → x ≤ maxTicks → i < n → r ≡ ceiling x (getD ps i 0)
-      → sum + interference s x (loadsFrom i (n - i) ps cs) ≡ interference s x (loads n ps cs)
-      → Added n ps cs s x r i sum
-  added s x r i sum h l e w =
-      let t = term-max s x (getD ps i 0) (getD cs i 0) (k .cost-period i l) in
-      let d = ap (λ (q : ℕ). (q - s) * getD cs i 0) e in
-      let p = ap (λ (ls : List Load). interference s x ls) (loads-step n i ps cs l) in
-      record {
-        term-fits = omega (arith, t, d, k .period-max i l);
-        sum-fits = omega (arith, d, p, w, interference-fits s x h);
-        whole = omega (arith, d, p, w);
-      }
-
--- ---- three columns, one behind another
 -- a column, as it is lent: the numbers from an index on
 abbrev pub from : ℕ → List ℕ → List ℕ
 from n xs = take (length xs - n) (drop n xs)
@@ -71,7 +23,7 @@ from n xs = take (length xs - n) (drop n xs)
 from-at : (n i : ℕ) (xs : List ℕ) → n + i < length xs → getD (from n xs) i 0 ≡ getD xs (n + i) 0
 from-at n i xs h = getD-take (length xs - n) (drop n xs) i 0 (omega arith) ∙ getD-drop n xs i 0
 
-from-long : (n : ℕ) (xs : List ℕ) → length (from n xs) ≡ length xs - n
+pub from-long : (n : ℕ) (xs : List ℕ) → length (from n xs) ≡ length xs - n
 from-long n xs = omega (arith, length-take (length xs - n) (drop n xs), length-drop n xs)
 
 front-at : (rows : List Row) (k i : ℕ) → i < k → rowAt (take k rows) i ≡ rowAt rows i

@@ -1,5 +1,4 @@
--- Laws of columns: what they hold, and how they are filled; and of the search of W in them.
+-- Laws of columns: what they hold, and how they are filled.
 pub mod Columns
 pub mod Filling
 pub mod Holds
-pub mod Values

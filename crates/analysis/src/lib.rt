@@ -3,26 +3,33 @@
 ghost use mathlib.Core.Path.{_≡_};
 ghost use mathlib.Core.Bool.{true};
 ghost use Prim.Native.Nat.{suc, _+_, _-_, _*_, _≤_, _<_};
+ghost use lib.IntN.{subℕ};
 ghost use lib.ListN.{length, take, drop};
 ghost use Rattle.basics.specs.Basics.{pick};
-ghost use Rattle.rows.specs.Rows.{maxTicks, fieldCount, inRange, timesInRange};
-ghost use Rattle.responses.specs.Interference.{ceiling, interference, leastFixed, largestFixed};
+ghost use Rattle.rows.specs.Rows.{maxTicks, maxAlpha, maxBeta, inRange, timesInRange};
+ghost use Rattle.responses.specs.Interference.{interference, largestFixed};
 ghost use Rattle.responses.specs.Figures.{blocking, mayHold, marginAt, lateFigures};
-ghost use Rattle.rows.specs.inside.Numbers.{rowIn, rowsIn};
-ghost use Rattle.analysis.specs.inside.Columns.{loads, columnsMax, baseMax, Columns, withTimes, Filled};
-ghost use Rattle.analysis.specs.inside.Columns.{Among, Fillable, UnderColumns, FiguresIn};
-ghost use Rattle.analysis.specs.inside.Values.{firstValue, nextValue, Tries};
+ghost use Rattle.rows.specs.inside.Numbers.{fieldCount, rowIn, rowsIn};
+ghost use Rattle.fixed_points.specs.inside.Loads.{loads, columnsMax, Columns};
+ghost use Rattle.analysis.specs.inside.Columns.{withTimes, Filled, Among, Fillable, UnderColumns, FiguresIn};
 use basics::larger;
+use curves::curve_margin;
+use fixed_points::largest_fixed;
+use fixed_points::least_fixed;
 use responses::Figures;
+use rows::ALPHA;
 use rows::BEST;
+use rows::BETA;
 use rows::FIELDS;
+use rows::FIRST_POINT;
 use rows::PERIOD;
-use rows::Row;
+use rows::POINTS;
 use rows::cost_at;
 use rows::hold_at;
+use rows::number_at;
 
 // The least hold that keeps the processor past a tick.
-const LEAST_HOLD: u32 = 2;
+const LEAST_HOLD: u64 = 2;
 
 // Of a row that is late: nothing but that.
 fn late_figures() -> Figures
@@ -39,118 +46,45 @@ fn late_figures() -> Figures
     }
 }
 
-// x / p rounded up. A window is often within the period, and a test is faster than a division; x + p is far below 2^32,
-// and division is faster there than in 64 bits.
-fn ceil(x: u64, p: u64) -> u64
-    requires { ⌜ (1 ≤ x) × (x ≤ maxTicks) × (1 ≤ p) × (p ≤ maxTicks) ⌝ }
-    ensures { λ r. ⌜ r ≡ ceiling x p ⌝ }
+// How far responses are inside the stability line of alpha and beta.
+fn line_margin(alpha: u64, beta: u64, latest: u64, earliest: u64) -> i64
+    requires { ⌜ (alpha ≤ maxAlpha) × (beta ≤ maxBeta) × (latest ≤ maxTicks) × (earliest ≤ latest) ⌝ }
+    ensures { λ r. ⌜ r ≡ subℕ beta (1000 * earliest + alpha * (latest - earliest)) ⌝ }
 {
-    if x <= p {
-        return 1;
+    let used = 1000 * earliest + alpha * (latest - earliest);
+    beta as i64 - used as i64
+}
+
+// How far responses of row i are inside its stability condition: that of its curve, or with no points its line.
+pub fn margin(rows: &[u64], i: usize, latest: u64, earliest: u64) -> i64
+    requires { ⌜ (fieldCount * suc i ≤ length (now rows)) × (inRange (rowIn (now rows) i) ≡ true)
+        × (latest ≤ maxTicks) × (earliest ≤ latest) ⌝ }
+    ensures { λ r. ⌜ r ≡ marginAt (rowIn (now (rows .entry)) i) latest earliest ⌝ }
+{
+    let points = number_at(rows, i, POINTS);
+    if points == 0 {
+        let alpha = number_at(rows, i, ALPHA);
+        let beta = number_at(rows, i, BETA);
+        return line_margin(alpha, beta, latest, earliest);
     }
-    ((x + (p - 1)) as u32 / p as u32) as u64
+    let first = FIELDS * i + FIRST_POINT;
+    curve_margin(&rows[first..], points as usize, latest, earliest)
 }
 
-// The ticks that the first n tasks of the columns take from a window, less some jobs of each.
-pub fn interference(window: u64, spared: u64, periods: &[u64], costs: &[u64], n: usize) -> u64
-    requires { ⌜ (window ≤ maxTicks) × (1 ≤ window) × (spared ≤ 1) × Columns n (now periods) (now costs) ⌝ }
-    ensures { λ r. ⌜ r ≡ interference spared window (loads n (now (periods .entry)) (now (costs .entry))) ⌝ }
-{
-    let mut sum: u64 = 0;
-    for i in 0..n {
-        sum += (ceil(window, periods[i]) - spared) * costs[i];
-    }
-    sum
-}
-
-// Where the search of W ends: its last value, and the steps that led to it from the first.
-pub struct Tried {
-    pub last: u64,
-    pub steps: u64,
-}
-
-// The first value that it tries: the base and one job of each task, which is what a window of one tick meets.
-pub fn first_value(base: u64, periods: &[u64], costs: &[u64], n: usize) -> u64
-    requires { ⌜ (base ≤ baseMax) × Columns n (now periods) (now costs) ⌝ }
-    ensures { λ r. ⌜ r ≡ firstValue base (loads n (now (periods .entry)) (now (costs .entry))) ⌝ }
-{
-    base + interference(1, 0, periods, costs, n)
-}
-
-// The value after w, or w itself where the search ends: with a solution, or past the limit, where the task is late.
-pub fn next_value(base: u64, limit: u64, periods: &[u64], costs: &[u64], n: usize, w: u64) -> u64
-    requires { ⌜ (1 ≤ w) × (base ≤ baseMax) × (limit ≤ maxTicks) × Columns n (now periods) (now costs) ⌝ }
-    ensures { λ r. ⌜ r ≡ nextValue base limit (loads n (now (periods .entry)) (now (costs .entry))) w ⌝ }
-{
-    if limit < w {
-        return w;
-    }
-    base + interference(w, 0, periods, costs, n)
-}
-
-// The search of W: from the first value on, until a value is followed by itself.
-pub fn try_values(base: u64, limit: u64, periods: &[u64], costs: &[u64], n: usize) -> Tried
-    requires { ⌜ (1 ≤ base) × (base ≤ baseMax) × (limit ≤ maxTicks) × Columns n (now periods) (now costs) ⌝ }
-    ensures { λ t. ⌜ Tries base limit (loads n (now (periods .entry)) (now (costs .entry))) t ⌝ }
-{
-    let mut last = first_value(base, periods, costs, n);
-    let mut steps: u64 = 0;
-    loop {
-        let next = next_value(base, limit, periods, costs, n, last);
-        if next == last {
-            return Tried { last, steps };
-        }
-        last = next;
-        steps += 1;
-    }
-}
-
-// The smallest w from 1 to the limit with w = base + interference in w; 0 for none.
-pub fn least_fixed(base: u64, limit: u64, periods: &[u64], costs: &[u64], n: usize) -> u64
-    requires { ⌜ (1 ≤ base) × (base ≤ baseMax) × (limit ≤ maxTicks) × Columns n (now periods) (now costs) ⌝ }
-    ensures { λ r. ⌜ r ≡ leastFixed base limit (loads n (now (periods .entry)) (now (costs .entry))) ⌝ }
-{
-    let tried = try_values(base, limit, periods, costs, n);
-    if tried.last <= limit { tried.last } else { 0 }
-}
-
-// The largest e from 1 to the limit with e = base + interference in e, one job less of each task.
-pub fn largest_fixed(base: u64, limit: u64, periods: &[u64], costs: &[u64], n: usize) -> u64
-    requires { ⌜ (1 ≤ base) × (limit ≤ maxTicks) × Columns n (now periods) (now costs)
-        × (base + interference 1 limit (loads n (now periods) (now costs)) ≤ limit) ⌝ }
-    ensures { λ r. ⌜ r ≡ largestFixed base limit (loads n (now (periods .entry)) (now (costs .entry))) ⌝ }
-{
-    let mut e = limit;
-    loop {
-        let demand = base + interference(e, 1, periods, costs, n);
-        if demand == e {
-            return e;
-        }
-        e = demand;
-    }
-}
-
-// How far the responses are inside the task's stability line.
-pub fn margin(row: Row, latest: u64, earliest: u64) -> i64
-    requires { ⌜ (inRange row ≡ true) × (latest ≤ maxTicks) × (earliest ≤ latest) ⌝ }
-    ensures { λ r. ⌜ r ≡ marginAt row latest earliest ⌝ }
-{
-    let used = 1000 * earliest + row.alpha as u64 * (latest - earliest);
-    row.beta as i64 - used as i64
-}
-
-// The earliest response of a row whose latest is known, under the first n tasks of the columns: in a stretch of its own
+// The earliest response of row i, whose latest is known, under the first n tasks of the columns: in a stretch of its own
 // none of them counts.
-fn earliest(row: Row, latest: u64, periods: &[u64], bests: &[u64], n: usize) -> u64
-    requires { ⌜ (inRange row ≡ true) × (latest ≤ maxTicks) × Columns n (now periods) (now bests)
-        × (row .best + interference 1 latest (loads n (now periods) (now bests)) ≤ latest) ⌝ }
-    ensures { λ r. ⌜ r ≡ pick (mayHold row) (row .best)
-        (largestFixed (row .best) latest (loads n (now (periods .entry)) (now (bests .entry)))) ⌝ }
+fn earliest(rows: &[u64], i: usize, latest: u64, periods: &[u64], bests: &[u64], n: usize) -> u64
+    requires { ⌜ (fieldCount * suc i ≤ length (now rows)) × (inRange (rowIn (now rows) i) ≡ true)
+        × (latest ≤ maxTicks) × Columns n (now periods) (now bests)
+        × (rowIn (now rows) i .best + interference 1 latest (loads n (now periods) (now bests)) ≤ latest) ⌝ }
+    ensures { λ r. ⌜ (let t = rowIn (now (rows .entry)) i in r ≡ pick (mayHold t) (t .best)
+        (largestFixed (t .best) latest (loads n (now (periods .entry)) (now (bests .entry))))) ⌝ }
 {
-    if LEAST_HOLD <= row.hold {
-        return row.best as u64;
+    let best = number_at(rows, i, BEST);
+    if LEAST_HOLD <= hold_at(rows, i) {
+        return best;
     }
-    largest_fixed(row.best as u64, latest, periods, bests, n)
+    largest_fixed(best, latest, periods, bests, n)
 }
 
 // What a largest hold blocks for: all of it but its first tick.
@@ -183,10 +117,9 @@ pub fn put_times(rows: &[u64], i: usize, columns: &mut [u64], n: usize, k: usize
         × (k < n) × (n ≤ columnsMax) × (3 * n ≤ length (now columns)) ⌝ }
     ensures { λ _. ⌜ now (columns .exit) ≡ withTimes (now (columns .entry)) n k (rowIn (now (rows .entry)) i) ⌝ }
 {
-    let at = FIELDS * i;
-    columns[k] = rows[at + PERIOD];
+    columns[k] = number_at(rows, i, PERIOD);
     columns[n + k] = cost_at(rows, i);
-    columns[n + n + k] = rows[at + BEST];
+    columns[n + n + k] = number_at(rows, i, BEST);
 }
 
 // The columns of the rows at n positions. What stands past them is left open.
@@ -201,19 +134,28 @@ pub fn fill_columns(rows: &[u64], positions: &[usize], n: usize, columns: &mut [
     }
 }
 
-// All figures of a row that rows below block for some ticks, under the first k of the n rows that the columns hold.
-pub fn figures_under(row: Row, blocked: u64, columns: &[u64], n: usize, k: usize) -> Figures
-    requires { ⌜ UnderColumns row blocked (now columns) n k ⌝ }
-    ensures { λ x. ⌜ FiguresIn row blocked (now (columns .entry)) n k x ⌝ }
+// All figures of row i, which rows below block for some ticks, under the first k of the n rows that the columns hold.
+pub fn figures_under(
+    rows: &[u64],
+    i: usize,
+    blocked: u64,
+    columns: &[u64],
+    n: usize,
+    k: usize,
+) -> Figures
+    requires { ⌜ (fieldCount * suc i ≤ length (now rows))
+        × UnderColumns (rowIn (now rows) i) blocked (now columns) n k ⌝ }
+    ensures { λ x. ⌜ FiguresIn (rowIn (now (rows .entry)) i) blocked (now (columns .entry)) n k x ⌝ }
 {
     let costs = &columns[n..];
-    let latest = least_fixed(row.cost() + blocked, row.period as u64, columns, costs, k);
+    let base = cost_at(rows, i) + blocked;
+    let latest = least_fixed(base, number_at(rows, i, PERIOD), columns, costs, k);
     if latest == 0 {
         return late_figures();
     }
     let bests = &columns[n + n..];
-    let earliest = earliest(row, latest, columns, bests, k);
-    let margin = margin(row, latest, earliest);
+    let earliest = earliest(rows, i, latest, columns, bests, k);
+    let margin = margin(rows, i, latest, earliest);
     Figures {
         figured: true,
         late: false,

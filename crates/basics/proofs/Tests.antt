@@ -1,5 +1,5 @@
 -- A test is true or false, joined tests are taken apart and put together, and a range's test gives its two bounds.
-use mathlib.Core.Path.{_≡_, refl, sym, _∙_}
+use mathlib.Core.Path.{_≡_, refl, ap, sym, _∙_}
 use mathlib.Core.Bool.{Bool, true, false, _&&_, _||_, not}
 use mathlib.Core.List.{List, [], _∷_, _++_}
 use mathlib.Core.Logic.{_⊎_, inl, inr}
@@ -81,6 +81,9 @@ eqb-swap x y e = ne-eqb y x (λ h. eqb-false x y e (sym h))
 pub in-append : (x : ℕ) (s t : List ℕ) → isIn x (s ++ t) ≡ (isIn x s || isIn x t)
 in-append x [] t = refl
 in-append x (y ∷ s) t = elim (test-of (eqb x y)) [ inl e ↦ rw e | inr e ↦ rw e (in-append x s t) ]
+
+pub in-front : (x : ℕ) (s t : List ℕ) → isIn x s ≡ true → isIn x (s ++ t) ≡ true
+in-front x s t h = in-append x s t ∙ ap (λ b. b || isIn x t) h
 
 pub distinct-last : (xs : List ℕ) (x : ℕ) → distinct xs ≡ true → isIn x xs ≡ false → distinct (xs ++ (x ∷ [])) ≡ true
 distinct-last [] x e h = refl

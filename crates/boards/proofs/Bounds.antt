@@ -11,7 +11,7 @@ use native.Mathlib.Nat.{le-trans, le-of-eq}
 use lib.ListN.{length}
 use Rattle.basics.proofs.Tests.{le-or-lt}
 use Rattle.rows.specs.Rows.{timesInRange, allRows, rowAt}
-use Rattle.rows.specs.declared.Row.{Row}
+use Rattle.rows.specs.Rows.{Row}
 use Rattle.rows.proofs.Limits.{Times, times, at-passes, front-passes}
 use Rattle.responses.specs.Figures.{rowsAbove, rowsBelow}
 use Rattle.responses.specs.Claims.{Figured}

@@ -8,7 +8,7 @@ use Prim.Native.Nat.{ℕ, zero, suc, _+_}
 use native.Mathlib.Omega.{arith}
 use native.Mathlib.Nat.{add-zero, zero-add}
 use Rattle.basics.proofs.Tests.{le-or-lt}
-use Rattle.rows.specs.declared.Row.{Row}
+use Rattle.rows.specs.Rows.{Row}
 use Rattle.responses.specs.Claims.{NoneHolds}
 use Rattle.boards.specs.Boards.{Job, withReleases, highest, queueAt, workedAt, finishing}
 use Rattle.boards.specs.Document01.{afterWork, finishes, pendingThen, finishedThen, SameBoard}

@@ -13,7 +13,7 @@ use borrow.Author.Tests.{eqb-true, eq-eqb, leb-true, le-leb}
 use Rattle.basics.specs.Basics.{pick}
 use Rattle.basics.proofs.Tests.{test-of, true-not-false, and-left, and-right}
 use Rattle.rows.specs.Rows.{rowAt}
-use Rattle.rows.specs.declared.Row.{Row}
+use Rattle.rows.specs.Rows.{Row}
 use Rattle.boards.specs.Boards.{Job, Done, noJobs, releases, withReleases, isDone}
 use Rattle.boards.specs.Boards.{highest, queueAt, ends, worked, workedAt, finishing}
 

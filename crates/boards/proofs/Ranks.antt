@@ -7,7 +7,7 @@ use native.Mathlib.Nat.{not-suc-le-zero, le-of-suc-le-suc, sub-zero}
 use lib.ListN.{length, drop}
 use Rattle.basics.specs.Basics.{sumTo}
 use Rattle.rows.specs.Rows.{rowAt, cost}
-use Rattle.rows.specs.declared.Row.{Row}
+use Rattle.rows.specs.Rows.{Row}
 use Rattle.responses.specs.Interference.{ceiling}
 use Rattle.responses.specs.Figures.{rowsAbove, worstIn, bestIn}
 

@@ -11,7 +11,7 @@ use native.Mathlib.Nat.{div-add-mod', mul-mod-left, lt-of-mul-lt-mul-right}
 use lib.Dec.{eqb, leb}
 use borrow.Author.Tests.{eqb-true, eq-eqb, leb-true, le-leb}
 use Rattle.basics.proofs.Tests.{le-or-lt, true-not-false, and-left, and-right, and-both}
-use Rattle.rows.specs.declared.Row.{Row}
+use Rattle.rows.specs.Rows.{Row}
 use Rattle.responses.specs.Interference.{ceiling}
 use Rattle.responses.proofs.Sums.{ceiling-covers, ceiling-close, ceiling-under, ceiling-mono}
 use Rattle.boards.specs.Boards.{releases}

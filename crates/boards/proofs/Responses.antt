@@ -14,7 +14,7 @@ use native.Mathlib.Nat.{add-mul, mul-le-mul-right, le-refl, le-of-eq, lt-trans}
 use lib.ListN.{length}
 use Rattle.basics.proofs.Tests.{le-or-lt}
 use Rattle.rows.specs.Rows.{rowAt, cost}
-use Rattle.rows.specs.declared.Row.{Row}
+use Rattle.rows.specs.Rows.{Row}
 use Rattle.rows.proofs.Limits.{Times}
 use Rattle.responses.specs.Interference.{ceiling}
 use Rattle.responses.specs.Figures.{rowsAbove, rowsBelow, worstIn, bestIn, blocking}

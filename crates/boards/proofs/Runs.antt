@@ -12,7 +12,7 @@ use lib.ListN.{length}
 use borrow.Author.Tests.{le-leb}
 use Rattle.basics.proofs.Tests.{test-of, true-not-false, false-of, le-or-lt, and-left, and-both}
 use Rattle.rows.specs.Rows.{timesInRange, allRows, rowAt}
-use Rattle.rows.specs.declared.Row.{Row}
+use Rattle.rows.specs.Rows.{Row}
 use Rattle.rows.proofs.Limits.{Times, times, at-passes}
 use Rattle.responses.specs.Figures.{rowsBelow}
 use Rattle.responses.specs.Claims.{NoneHolds}

@@ -14,7 +14,7 @@ use Rattle.basics.specs.Basics.{pick, larger}
 use Rattle.basics.proofs.Tests.{test-of, and-left, and-right}
 use Rattle.basics.proofs.Numbers.{larger-left, larger-right}
 use Rattle.rows.specs.Rows.{rowAt}
-use Rattle.rows.specs.declared.Row.{Row}
+use Rattle.rows.specs.Rows.{Row}
 use Rattle.boards.specs.Runs.{ticksOf, Pending, goesOnAfter, stretch, ByRank, ByRules}
 
 both-true : (a b : Bool) → (a ≡ true → b ≡ true) → (b ≡ true → a ≡ true) → a ≡ b

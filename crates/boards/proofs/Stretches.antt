@@ -13,7 +13,7 @@ use borrow.Author.Tests.{leb-true}
 use Rattle.basics.specs.Basics.{pick}
 use Rattle.basics.proofs.Tests.{test-of, true-not-false, false-of, and-right}
 use Rattle.rows.specs.Rows.{rowAt}
-use Rattle.rows.specs.declared.Row.{Row}
+use Rattle.rows.specs.Rows.{Row}
 use Rattle.boards.specs.Boards.{Job, Board, withReleases, highest, queueAt, ends, goesOn, afterTicks}
 use Rattle.boards.proofs.Queues.{HasJob, queue-there, worked-has, released-has, length-none, length-released}
 use Rattle.boards.proofs.Queues.{released-at, highest-at, length-worked, worked-same}

@@ -13,7 +13,7 @@ use lib.ListN.{length}
 use borrow.Author.Tests.{eqb-true}
 use Rattle.basics.proofs.Tests.{test-of, true-not-false, or-cases, or-right}
 use Rattle.rows.specs.Rows.{rowAt}
-use Rattle.rows.specs.declared.Row.{Row}
+use Rattle.rows.specs.Rows.{Row}
 use Rattle.boards.specs.Boards.{Job, Done, Board, noJobs, releases, withReleases, isDone}
 use Rattle.boards.specs.Boards.{queueAt, worked, workedAt, finishing}
 use Rattle.boards.specs.Claims.{Finishes}

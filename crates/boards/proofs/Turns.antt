@@ -12,7 +12,7 @@ use lib.ListN.{length}
 use borrow.Author.Tests.{eqb-true, eq-eqb, leb-false, lt-leb}
 use Rattle.basics.proofs.Tests.{test-of, true-not-false, le-or-lt, and-left, and-right, and-both}
 use Rattle.rows.specs.Rows.{rowAt}
-use Rattle.rows.specs.declared.Row.{Row}
+use Rattle.rows.specs.Rows.{Row}
 use Rattle.boards.specs.Boards.{Job, queueAt, ends}
 use Rattle.boards.specs.Claims.{Finishes}
 use Rattle.boards.specs.Runs.{isOldest, Pending, boardGoesTo, boardTicks}

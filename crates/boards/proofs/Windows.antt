@@ -6,7 +6,7 @@ use native.Mathlib.Omega.{arith}
 use native.Mathlib.Nat.{le-trans, lt-of-lt-of-le}
 use lib.ListN.{length}
 use Rattle.rows.specs.Rows.{rowAt, cost}
-use Rattle.rows.specs.declared.Row.{Row}
+use Rattle.rows.specs.Rows.{Row}
 use Rattle.rows.proofs.Limits.{Times}
 use Rattle.responses.specs.Interference.{ceiling}
 use Rattle.responses.specs.Figures.{rowsAbove, worstIn}

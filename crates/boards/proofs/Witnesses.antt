@@ -7,7 +7,7 @@ use native.Mathlib.Omega.{arith}
 use lib.ListN.{length}
 use Rattle.basics.proofs.Tests.{true-not-false}
 use Rattle.rows.specs.Rows.{rowAt, cost}
-use Rattle.rows.specs.declared.Row.{Row}
+use Rattle.rows.specs.Rows.{Row}
 use Rattle.responses.specs.Extremes.{smallest, largest}
 use Rattle.responses.specs.Figures.{rowsAbove, rowsBelow, blocking, isLate}
 use Rattle.responses.specs.Claims.{NoneHolds, switched}

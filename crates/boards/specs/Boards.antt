@@ -11,7 +11,7 @@ use lib.Dec.{eqb, leb}
 use lib.ListN.{getD}
 use Rattle.basics.specs.Basics.{pick}
 use Rattle.rows.specs.Rows.{rowAt}
-use Rattle.rows.specs.declared.Row.{Row}
+use Rattle.rows.specs.Rows.{Row}
 
 -- a pending job: its release, and the ticks that it still needs
 pub record Job : Type 0 where

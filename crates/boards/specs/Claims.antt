@@ -6,7 +6,7 @@ use mathlib.Core.List.{List}
 use Prim.Native.Nat.{ℕ, _+_, _*_, _≤_, _<_}
 use lib.ListN.{length}
 use Rattle.rows.specs.Rows.{rowAt, cost}
-use Rattle.rows.specs.declared.Row.{Row}
+use Rattle.rows.specs.Rows.{Row}
 use Rattle.responses.specs.Figures.{rowsAbove, rowsBelow, latest, earliest, isLate}
 use Rattle.boards.specs.Boards.{afterTicks, isDone}
 

@@ -6,7 +6,7 @@ use mathlib.Core.List.{List, [], _∷_, _++_}
 use Prim.Native.Nat.{ℕ, zero, suc, _-_}
 use lib.Dec.{leb}
 use Rattle.basics.specs.Basics.{pick}
-use Rattle.rows.specs.declared.Row.{Row}
+use Rattle.rows.specs.Rows.{Row}
 use Rattle.responses.specs.Claims.{NoneHolds}
 use Rattle.boards.specs.Boards.{Job, Done, noJobs, withReleases, afterTicks}
 

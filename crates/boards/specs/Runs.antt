@@ -9,7 +9,7 @@ use lib.Dec.{eqb, leb, ltb}
 use lib.ListN.{length}
 use Rattle.basics.specs.Basics.{pick, larger}
 use Rattle.rows.specs.Rows.{rowAt}
-use Rattle.rows.specs.declared.Row.{Row}
+use Rattle.rows.specs.Rows.{Row}
 use Rattle.responses.specs.Figures.{rowsBelow}
 use Rattle.responses.specs.Claims.{NoneHolds}
 use Rattle.boards.specs.Boards.{Job, withReleases, highest, queueAt, goesOn, afterTicks}

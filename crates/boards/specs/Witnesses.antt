@@ -8,7 +8,7 @@ use lib.Dec.{leb}
 use lib.ListN.{length, getD}
 use Rattle.basics.specs.Basics.{pick}
 use Rattle.rows.specs.Rows.{row, rowAt, cost}
-use Rattle.rows.specs.declared.Row.{Row}
+use Rattle.rows.specs.Rows.{Row}
 use Rattle.responses.specs.Interference.{leastFixed, largestFixed}
 use Rattle.responses.specs.Figures.{rowsAbove, worstLoad, bestLoad}
 use Rattle.responses.specs.Claims.{NoneHolds, NoSwitch, switched, SwitchUpTo}

@@ -15,12 +15,13 @@ use Rattle.grammars.specs.Grammars.{a-line, keyIn}
 use Rattle.grammars.specs.Forms.{Form}
 use Rattle.grammars.specs.Reasons.{Passes, Reaches, begin, line}
 use Rattle.grammars.proofs.Steps.{no-line}
-use Rattle.rows.specs.Rows.{switchAt}
-use Rattle.tables.specs.TableLines.{rowLineAt}
+use Rattle.rows.specs.Rows.{firstPointAt}
+use Rattle.rows.specs.inside.Numbers.{lineCount}
+use Rattle.tables.specs.TableLines.{RowLine, rowLineAt}
 use Rattle.tables.specs.TableLines.{Stage, at-board, at-tasks, at-switch, at-field, at-rank, at-end, table, readTable}
 use Rattle.tables.proofs.Keys.{table-plain}
 use Rattle.tables.proofs.Readings.{read}
-use Rattle.tables.proofs.RowLines.{at-within}
+use Rattle.tables.proofs.RowLines.{at-within, each-point}
 use Rattle.crane_demands.specs.Pieces.{Separate, boardKey, pieces}
 use Rattle.crane_demands.proofs.Pieces.{only-cut}
 use Rattle.crane_demands.proofs.Lines.{signed-no-feed, Others, no-others, line-other, Begun, first-line}
@@ -46,9 +47,37 @@ not-first h e = true-not-false true refl (sym (ap isFirst e) ∙ h)
 expected-key : {key lock : List ℕ} {form lockForm : Form} → a-line key form ≡ a-line lock lockForm → key ≡ lock
 expected-key e = cc
 
-field-differs : (i : ℕ) → i < switchAt → (more : List ℕ) → begins boardKey (rowLineAt i .key ++ more) ≡ false
-field-differs = at-within (λ l. (more : List ℕ) → begins boardKey (l .key ++ more) ≡ false)
-    (λ s. refl, (λ s. refl, (λ s. refl, (λ s. refl, (λ s. refl, (λ s. refl, (λ s. refl, tt)))))))
+field-differs : (i : ℕ) → i < lineCount → (more : List ℕ) → begins boardKey (rowLineAt i .key ++ more) ≡ false
+field-differs =
+    let F : RowLine → Type 0 = λ l. (more : List ℕ) → begins boardKey (l .key ++ more) ≡ false in
+    at-within F (
+      λ s. refl,
+      (
+        λ s. refl,
+        (
+          λ s. refl,
+          (
+            λ s. refl,
+            (
+              λ s. refl,
+              (
+                λ s. refl,
+                (
+                  λ s. refl,
+                  (
+                    λ s. refl,
+                    (
+                      λ s. refl,
+                      (λ s. refl, each-point F (λ at s. refl) (λ at s. refl) firstPointAt 7),
+                    ),
+                  ),
+                ),
+              ),
+            ),
+          ),
+        ),
+      ),
+    )
 
 kind : (k : ℕ) (s : Stage) (key : List ℕ) (z : ℤ) → Passes (table false) s key z → Early k s → Kind s key
 kind k at-board key z p h = first refl (expected-key (sym (p .is-expected)))
@@ -60,7 +89,7 @@ kind k (at-switch n b) key z p h =
     later (not-first refl) (λ more. ap (λ l. begins boardKey (l ++ more)) is)
 kind k (at-field n b s rs vs) key z p h =
     let is = expected-key (sym (p .is-expected)) in
-    later (not-first refl) (λ more. ap (λ l. begins boardKey (l ++ more)) is ∙ field-differs (length vs) (h .0) more)
+    later (not-first refl) (λ more. ap (λ l. begins boardKey (l ++ more)) is ∙ field-differs (length vs) (omega (arith, h .0 .few, h .0 .more)) more)
 kind k (at-rank n b rs os) key z p h = absurd h
 kind k (at-end b rs os) key z p h = no-line (sym (p .is-expected))
 

@@ -1,4 +1,4 @@
--- The starred cases, the others, and those of holds and of the switch are so, by computing.
+-- The starred cases, the others, and those of holds, of the switch and of curves are so, by computing.
 use mathlib.Core.Path.{_≡_, refl, sym, _∙_}
 use mathlib.Core.Bool.{true}
 use mathlib.Core.List.{List, [], _∷_}
@@ -10,8 +10,9 @@ use Rattle.text.specs.Lines.{numberOf, lineAt}
 use Rattle.grammars.specs.Forms.{formAt}
 use Rattle.grammars.specs.Grammars.{readFor}
 use Rattle.tables.specs.TableLines.{readTable}
-use Rattle.rows.specs.Rows.{cost, withSwitch}
-use Rattle.rows.specs.declared.Row.{Row}
+use Rattle.curves.specs.Curves.{Point, point, permitted, curveMargin}
+use Rattle.rows.specs.Rows.{cost, withSwitch, withCurve}
+use Rattle.rows.specs.Rows.{Row}
 use Rattle.responses.specs.Extremes.{smallest, largest}
 use Rattle.responses.specs.Figures.{blocking, isLate}
 use Rattle.responses.specs.Claims.{NoneHolds}
@@ -22,7 +23,7 @@ use Rattle.plans.specs.Plans.{rankText, headText, planText, refusalText}
 use Rattle.plans.specs.Outcomes.{fitted, ifInTime}
 use Rattle.demands.specs.Calls.{onTable, ifOrdered}
 use Rattle.demands.specs.Cases.{HasFigures, AllSo, row11, row12, row13, starred, unstarred, ofTasks, ofHolds}
-use Rattle.demands.specs.Cases.{ofSwitch}
+use Rattle.demands.specs.Cases.{ofSwitch, curved13, ofCurves, ofCurveTexts}
 
 -- the rows below count by their blocking time, which is that of none
 none-blocks : (below : List Row) → NoneHolds below → blocking below ≡ blocking []
@@ -116,3 +117,56 @@ switch-so = (
     ),
   ),
 )
+
+-- one behind another
+infixr 20 _also_
+_also_ : {A B : Type 0} → A → B → A × B
+a also b = (a, b)
+
+-- with a curve, below 11 and 12
+judge : (c : List Point) {e w j : ℕ} {m : ℤ} → HasFigures (curved13 c) (row11 8000 ∷ row12 8000 ∷ []) [] e w j m
+    → (below : List Row) → NoneHolds below → HasFigures (curved13 c) (row11 8000 ∷ row12 8000 ∷ []) below e w j m
+judge c h = over (curved13 c) (row11 8000 ∷ row12 8000 ∷ []) h
+
+pub curves-so : AllSo ofCurves
+unfolding cost blocking smallest largest permitted curveMargin
+curves-so =
+    judge (point 30 10 ∷ []) (refl, refl, refl, refl, refl)
+    also judge (point 25 12 ∷ []) (refl, refl, refl, refl, refl)
+    also judge (point 25 9 ∷ []) (refl, refl, refl, refl, refl)
+    also judge (point 24 1000 ∷ []) (refl, refl, refl, refl, refl)
+    also judge (point 0 1000000 ∷ []) (refl, refl, refl, refl, refl)
+    also judge (point 20 20 ∷ point 40 0 ∷ []) (refl, refl, refl, refl, refl)
+    also judge (point 24 11 ∷ point 27 10 ∷ []) (refl, refl, refl, refl, refl)
+    also judge (point 24 10 ∷ point 27 9 ∷ []) (refl, refl, refl, refl, refl)
+    also judge (point 0 30 ∷ point 25 12 ∷ point 26 0 ∷ []) (refl, refl, refl, refl, refl)
+    also judge (point 0 30 ∷ point 25 10 ∷ []) (refl, refl, refl, refl, refl)
+    also judge (point 0 30 ∷ point 23 20 ∷ []) (refl, refl, refl, refl, refl)
+    also judge (point 24 20 ∷ point 25 11 ∷ []) (refl, refl, refl, refl, refl)
+    also judge (point 0 1000000 ∷ point 1000000 0 ∷ []) (refl, refl, refl, refl, refl)
+    also judge (point 0 11 ∷ point 100 11 ∷ []) (refl, refl, refl, refl, refl)
+    also judge (point 5 40 ∷ point 10 30 ∷ point 15 25 ∷ point 20 18 ∷ point 25 12 ∷ []) (refl, refl, refl, refl, refl)
+    also judge (point 1 40 ∷ point 2 30 ∷ point 3 25 ∷ point 4 18 ∷ point 5 12 ∷ []) (refl, refl, refl, refl, refl)
+    also judge (point 0 50 ∷ point 5 45 ∷ point 10 40 ∷ point 15 30 ∷ point 20 20 ∷ point 24 15 ∷ point 27 13 ∷ point 40 0 ∷ [])
+    (refl, refl, refl, refl, refl)
+    also judge (point 0 20 ∷ point 1 20 ∷ point 2 20 ∷ point 3 20 ∷ point 4 20 ∷ point 5 20 ∷ point 20 20 ∷ point 30 10 ∷ [])
+    (refl, refl, refl, refl, refl)
+    also judge (point 1 20 ∷ point 2 20 ∷ point 3 20 ∷ point 4 20 ∷ point 5 20 ∷ point 6 20 ∷ point 7 20 ∷ point 8 20 ∷ [])
+    (refl, refl, refl, refl, refl)
+    also over (row13 57000) (withCurve (point 0 0 ∷ []) (row11 8000) ∷ row12 8000 ∷ []) (refl, refl, refl, refl, refl)
+    also over (withSwitch 1 (curved13 (point 25 20 ∷ []))) (withSwitch 1 (row11 8000) ∷ withSwitch 1 (row12 8000) ∷ [])
+    (refl, refl, refl, refl, refl)
+    also (refl, refl, refl, refl, refl)
+    also (refl, refl, refl, refl, refl)
+    also late-over (withCurve (point 1000000 1000000 ∷ []) (row12 8000)) (row13 57000 ∷ []) refl
+    also tt
+
+pub curve-texts-so : AllSo ofCurveTexts
+unfolding digits decimal signed keyLine numberOf lineAt formAt readFor readTable
+    cost blocking smallest largest permitted curveMargin overSet rankText headText planText refusalText fitted ifInTime
+    onTable ifOrdered
+curve-texts-so =
+    refl also refl also refl also refl also refl also refl also refl also refl
+    also refl also refl also refl also refl also refl also refl also refl also refl
+    also refl also refl also refl also refl also refl also refl also refl also refl
+    also refl also tt

@@ -67,24 +67,6 @@ module _ (room : ℕ) (plan : List ℕ) (w : Outcome) (is : w ≡ fitted room pl
   )
 
 -- ---- numbers that are listed
--- the numbers from 1 to 5, and from 1 to 6
-pub up-to-five : (n : ℕ) (more : List ℕ) → suc n ≤ 5 → isIn (suc n) (1 ∷ 2 ∷ 3 ∷ 4 ∷ 5 ∷ more) ≡ true
-up-to-five zero more h = refl
-up-to-five (suc zero) more h = refl
-up-to-five (suc (suc zero)) more h = refl
-up-to-five (suc (suc (suc zero))) more h = refl
-up-to-five (suc (suc (suc (suc zero)))) more h = refl
-up-to-five (suc (suc (suc (suc (suc n))))) more h = absurd (omega arith)
-
-pub up-to-six : (n : ℕ) (more : List ℕ) → suc n ≤ 6 → isIn (suc n) (1 ∷ 2 ∷ 3 ∷ 4 ∷ 5 ∷ 6 ∷ more) ≡ true
-up-to-six n more h =
-    elim (le-or-lt (suc n) 5) [
-      | inl l ↦ up-to-five n (6 ∷ more) l
-      | inr l ↦
-          let is : n ≡ 5 = omega arith in
-          subst (λ m. isIn (suc m) (1 ∷ 2 ∷ 3 ∷ 4 ∷ 5 ∷ 6 ∷ more) ≡ true) (sym is) refl
-    ]
-
 -- a refusal whose number is listed is not numbered 0
 pub numbered : (w : Outcome) (ns : List ℕ) → isIn 0 ns ≡ false
     → ((n p : ℕ) → w ≡ refuses n p → isIn n ns ≡ true) → Numbered w

@@ -12,12 +12,11 @@ use lib.ListN.{length}
 use lib.Signed.{leZ}
 use borrow.Author.Tests.{not-true}
 use Rattle.basics.specs.Basics.{isIn}
-use Rattle.basics.proofs.Tests.{and-left, and-right, true-not-false, le-or-lt}
+use Rattle.basics.proofs.Tests.{and-left, and-right, true-not-false, le-or-lt, in-front}
 use Rattle.rows.specs.Rows.{inRange, allRows, rowAt}
-use Rattle.rows.specs.declared.Row.{Row}
+use Rattle.rows.specs.Rows.{Row}
 use Rattle.tables.specs.TableLines.{TableRead, readTable}
-use Rattle.tables.specs.Claims.{Accepted, Tells}
-use Rattle.tables.proofs.Refusals.{unranked-small}
+use Rattle.tables.specs.Claims.{Accepted, Tells, tableRefusals}
 use Rattle.tables.proofs.Readings.{read}
 use Rattle.responses.specs.Figures.{rowsAbove, rowsBelow, isLate, margin, isStable}
 use Rattle.orders.specs.Orders.{Chosen}
@@ -35,8 +34,9 @@ use Rattle.demands.specs.Calls.{ifOrdered, planned}
 use Rattle.demands.specs.Demands.{Promised, entryAt, plannerRefusals}
 use Rattle.demands.specs.Demands.{EveryOrderFails, ByRule, TablePlan, PlanDemands}
 use Rattle.demands.proofs.Outcomes.{same-refusal, not-both, zero-or-more, on-accepted, on-refused}
-use Rattle.demands.proofs.Outcomes.{nine-is, written-is, up-to-five}
-use Rattle.demands.proofs.Texts.{Accepts, failing, refused-low, telling, tells-only, refused-exactly}
+use Rattle.demands.proofs.Outcomes.{nine-is, written-is}
+use Rattle.demands.proofs.Texts.{Accepts, failing, refused-listed, refused-else, telling, tells-only}
+use Rattle.demands.proofs.Texts.{refused-exactly}
 use Rattle.demands.proofs.Promises.{promised}
 
 module _ (text : List ℕ) where
@@ -117,7 +117,7 @@ module _ (text : List ℕ) where
     listed : Cases → (n p : ℕ) → planned text room ≡ refuses n p → isIn n plannerRefusals ≡ true
     listed (refused m r is) n p e =
         subst (λ k. isIn k plannerRefusals ≡ true) (same-refusal (sym is ∙ e) .0)
-        (up-to-five m (8 ∷ 9 ∷ []) (unranked-small text (suc m) (answer .line) (failing false text m r)))
+        (in-front (suc m) tableRefusals (8 ∷ 9 ∷ []) (refused-listed false text m r))
     listed (unordered a o is) n p e = subst (λ k. isIn k plannerRefusals ≡ true) (same-refusal (sym is ∙ e) .0) refl
     listed (short a order o h is) n p e = subst (λ k. isIn k plannerRefusals ≡ true) (same-refusal (sym is ∙ e) .0) refl
     listed (written a order o h is) n p e = absurd (not-both (sym is ∙ e))
@@ -134,15 +134,17 @@ module _ (text : List ℕ) where
     unfolding ifOrdered
     ordered-is order o = ap (ifOrdered room (answer .board)) o
 
-    -- it has no number up to 6
-    high : Cases → Accepts false text → (n k : ℕ) → onRows ≡ refuses n k → 7 ≤ n
-    high (refused m r is) ok n k e = absurd (omega (arith, r, ok))
-    high (unordered a o is) ok n k e = omega (arith, same-refusal (sym is ∙ (on-accepted answer onRows ok ∙ e)) .0)
-    high (short a order o h is) ok n k e = omega (arith, same-refusal (sym is ∙ (on-accepted answer onRows ok ∙ e)) .0)
-    high (written a order o h is) ok n k e = absurd (not-both (sym is ∙ (on-accepted answer onRows ok ∙ e)))
+    -- it has none of a text's numbers
+    other : Cases → Accepts false text → (n k : ℕ) → onRows ≡ refuses n k → isIn n tableRefusals ≡ false
+    other (refused m r is) ok n k e = absurd (omega (arith, r, ok))
+    other (unordered a o is) ok n k e =
+        subst (λ m. isIn m tableRefusals ≡ false) (same-refusal (sym is ∙ (on-accepted answer onRows ok ∙ e)) .0) refl
+    other (short a order o h is) ok n k e =
+        subst (λ m. isIn m tableRefusals ≡ false) (same-refusal (sym is ∙ (on-accepted answer onRows ok ∙ e)) .0) refl
+    other (written a order o h is) ok n k e = absurd (not-both (sym is ∙ (on-accepted answer onRows ok ∙ e)))
 
     eight-only : Cases → planned text room ≡ refuses 8 0 → EveryOrderFails (answer .rows)
-    eight-only (refused n r is) e = absurd (omega (arith, same-refusal (sym is ∙ e) .0, refused-low false text n r))
+    eight-only (refused n r is) e = absurd (refused-else false text n 8 r refl (same-refusal (sym is ∙ e) .0))
     eight-only (unordered a o is) e = choice a .none-passes o
     eight-only (short a order o h is) e =
         absurd (let z : _≡_ {A = ℕ} 9 8 = same-refusal (sym is ∙ e) .0 in omega arith)
@@ -187,7 +189,7 @@ module _ (text : List ℕ) where
       }
 
     has-room : Cases → planRoom ≤ room → (p : ℕ) → planned text room ≡ refuses 9 p → ⊥
-    has-room (refused n r is) h p e = omega (arith, same-refusal (sym is ∙ e) .0, refused-low false text n r)
+    has-room (refused n r is) h p e = refused-else false text n 9 r refl (same-refusal (sym is ∙ e) .0)
     has-room (unordered a o is) h p e = let z : _≡_ {A = ℕ} 8 9 = same-refusal (sym is ∙ e) .0 in omega arith
     has-room (short a order o l is) h p e = omega (arith, order-fits a order o)
     has-room (written a order o l is) h p e = not-both (sym is ∙ e)
@@ -196,7 +198,7 @@ module _ (text : List ℕ) where
     plan-demands = record {
       read = read false text;
       listed = listed cases;
-      refused = refused-exactly false text onRows (high cases);
+      refused = refused-exactly false text onRows (other cases);
       accepted = λ b rows t.
           let is = tells-only false text b rows [] t in
           subst (λ (a : TableRead). TablePlan room (a .board) (a .rows) (planned text room)) is

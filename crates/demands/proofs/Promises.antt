@@ -8,10 +8,11 @@ use native.Mathlib.Omega.{arith}
 use lib.ListN.{length, take, length-take}
 use lib.Seq.{getD-take}
 use Rattle.rows.specs.Rows.{inRange, timesInRange, allRows, rowAt, noRow}
-use Rattle.rows.specs.declared.Row.{Row}
+use Rattle.rows.specs.Rows.{Row}
 use Rattle.rows.proofs.Limits.{all-times, at-passes, front-passes}
 use Rattle.responses.specs.Figures.{rowsAbove, rowsBelow}
 use Rattle.responses.specs.Claims.{Figured, AsRequest2, AsDocument01, NoSwitch, NoneHolds, SwitchUpTo, Grows}
+use Rattle.responses.proofs.Conditions.{by-condition, own-curve}
 use Rattle.responses.proofs.Responses.{figured, without-either}
 use Rattle.responses.proofs.Switches.{by-numbers, without-switch, switch-grows}
 use Rattle.responses.proofs.Sequences.{by-set}
@@ -82,7 +83,7 @@ module _ (order : List Row) (ok : allRows inRange order ≡ true) (in-time : Non
   grows : (s : ℕ) → SwitchUpTo s order → (i : ℕ) → i < length order
       → Grows (rowAt order i) (rowsAbove order i) (rowsBelow order i) s
   grows s up i h =
-      switch-grows (rowAt order i) (rowsAbove order i) (rowsBelow order i) s (at-passes timesInRange order i times-ok h)
+      switch-grows (rowAt order i) (rowsAbove order i) (rowsBelow order i) s (at-passes inRange order i ok h)
       (front-passes timesInRange i order times-ok) (up i h) (front-each (λ r. r .switch ≤ s) order i up)
 
   pub promised : Promised order
@@ -90,6 +91,9 @@ module _ (order : List Row) (ok : allRows inRange order ≡ true) (in-time : Non
     as-many = entries-length [] order;
     entry-is = entry-is;
     by-formulas = by-formulas;
+    by-condition = λ i h.
+        by-condition (rowAt order i) (rowsAbove order i) (rowsBelow order i) (at-passes inRange order i ok h);
+    own-curve = λ i h. own-curve (rowAt order i) (rowsAbove order i) (rowsBelow order i);
     by-sets = by-sets;
     by-numbers = λ i h. by-numbers (rowAt order i) (rowsAbove order i) (rowsBelow order i);
     without-switch = before-switch;

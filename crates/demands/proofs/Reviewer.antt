@@ -1,18 +1,18 @@
 -- The reviewer's demands, for every text and every room. The rank lines of an accepted text make a possible order, so
 -- its rows are in range; where none of them is late, the figures written are by the formulas and kept on every board.
 use mathlib.Core.Path.{_≡_, refl, sym, ap, subst, _∙_}
-use mathlib.Core.Bool.{true}
+use mathlib.Core.Bool.{true, false}
 use mathlib.Core.List.{List, [], _∷_}
 use mathlib.Core.Logic.{inl, inr}
 use Prim.Native.Nat.{ℕ, suc, _≤_, _<_}
 use native.Mathlib.Omega.{arith}
 use lib.ListN.{length}
 use Rattle.basics.specs.Basics.{isIn}
-use Rattle.basics.proofs.Tests.{true-not-false, le-or-lt}
+use Rattle.basics.proofs.Tests.{true-not-false, le-or-lt, in-front}
 use Rattle.rows.specs.Rows.{inRange, allRows, tasksOf, rowsFor, rowAt}
-use Rattle.rows.specs.declared.Row.{Row}
+use Rattle.rows.specs.Rows.{Row}
 use Rattle.tables.specs.TableLines.{TableRead, readTable}
-use Rattle.tables.specs.Claims.{Accepted}
+use Rattle.tables.specs.Claims.{Accepted, rankedRefusals}
 use Rattle.tables.proofs.Readings.{read}
 use Rattle.responses.specs.Figures.{rowsAbove, rowsBelow, isLate}
 use Rattle.orders.specs.Orders.{Possible}
@@ -28,8 +28,9 @@ use Rattle.plans.proofs.Lengths.{plan-fits}
 use Rattle.demands.specs.Calls.{givenOrder, reviewed}
 use Rattle.demands.specs.Demands.{Promised, reviewerRefusals, Given, FirstLate, OrderReview, ReviewDemands}
 use Rattle.demands.proofs.Outcomes.{same-refusal, not-both, zero-or-more, on-accepted, on-refused}
-use Rattle.demands.proofs.Outcomes.{nine-is, written-is, up-to-six}
-use Rattle.demands.proofs.Texts.{Accepts, failing, refused-low, telling, tells-only, refused-exactly}
+use Rattle.demands.proofs.Outcomes.{nine-is, written-is}
+use Rattle.demands.proofs.Texts.{Accepts, failing, refused-listed, refused-else, telling, tells-only}
+use Rattle.demands.proofs.Texts.{refused-exactly}
 use Rattle.demands.proofs.Promises.{promised}
 
 pub none-late-first : (order : List Row) → NoneLate order → firstLate order ≡ 0
@@ -132,7 +133,7 @@ module _ (text : List ℕ) where
     listed : Cases → (n p : ℕ) → reviewed text room ≡ refuses n p → isIn n reviewerRefusals ≡ true
     listed (refused m r is) n p e =
         subst (λ k. isIn k reviewerRefusals ≡ true) (same-refusal (sym is ∙ e) .0)
-        (up-to-six m (7 ∷ 9 ∷ []) (refused-low true text m r))
+        (in-front (suc m) rankedRefusals (7 ∷ 9 ∷ []) (refused-listed true text m r))
     listed (late a k l is) n p e = subst (λ k. isIn k reviewerRefusals ≡ true) (same-refusal (sym is ∙ e) .0) refl
     listed (short a t h is) n p e = subst (λ k. isIn k reviewerRefusals ≡ true) (same-refusal (sym is ∙ e) .0) refl
     listed (written a t h is) n p e = absurd (not-both (sym is ∙ e))
@@ -141,16 +142,18 @@ module _ (text : List ℕ) where
     abbrev onOrder : Outcome
     onOrder = ifInTime room (answer .board) order
 
-    -- it has no number up to 6
-    high : Cases → Accepts true text → (n k : ℕ) → onOrder ≡ refuses n k → 7 ≤ n
-    high (refused m r is) ok n k e = absurd (omega (arith, r, ok))
-    high (late a j l is) ok n k e = omega (arith, same-refusal (sym is ∙ (on-accepted answer onOrder ok ∙ e)) .0)
-    high (short a t h is) ok n k e = omega (arith, same-refusal (sym is ∙ (on-accepted answer onOrder ok ∙ e)) .0)
-    high (written a t h is) ok n k e = absurd (not-both (sym is ∙ (on-accepted answer onOrder ok ∙ e)))
+    -- it has none of a text's numbers
+    other : Cases → Accepts true text → (n k : ℕ) → onOrder ≡ refuses n k → isIn n rankedRefusals ≡ false
+    other (refused m r is) ok n k e = absurd (omega (arith, r, ok))
+    other (late a j l is) ok n k e =
+        subst (λ m. isIn m rankedRefusals ≡ false) (same-refusal (sym is ∙ (on-accepted answer onOrder ok ∙ e)) .0) refl
+    other (short a t h is) ok n k e =
+        subst (λ m. isIn m rankedRefusals ≡ false) (same-refusal (sym is ∙ (on-accepted answer onOrder ok ∙ e)) .0) refl
+    other (written a t h is) ok n k e = absurd (not-both (sym is ∙ (on-accepted answer onOrder ok ∙ e)))
 
     -- 7 is said of the first late rank, counted from 1
     seven-only : Cases → (p : ℕ) → reviewed text room ≡ refuses 7 p → (k : ℕ) × (p ≡ suc k) × FirstLate order k
-    seven-only (refused n r is) p e = absurd (omega (arith, same-refusal (sym is ∙ e) .0, refused-low true text n r))
+    seven-only (refused n r is) p e = absurd (refused-else true text n 7 r refl (same-refusal (sym is ∙ e) .0))
     seven-only (late a k l is) p e = (k, sym (same-refusal (sym is ∙ e) .1), l)
     seven-only (short a t h is) p e = absurd (let z : _≡_ {A = ℕ} 9 7 = same-refusal (sym is ∙ e) .0 in omega arith)
     seven-only (written a t h is) p e = absurd (not-both (sym is ∙ e))
@@ -194,7 +197,7 @@ module _ (text : List ℕ) where
       is-given = record { possible = is-possible ok .0; tasks-are = is-possible ok .1 }
 
     has-room : Cases → planRoom ≤ room → (p : ℕ) → reviewed text room ≡ refuses 9 p → ⊥
-    has-room (refused n r is) h p e = omega (arith, same-refusal (sym is ∙ e) .0, refused-low true text n r)
+    has-room (refused n r is) h p e = refused-else true text n 9 r refl (same-refusal (sym is ∙ e) .0)
     has-room (late a k l is) h p e = let z : _≡_ {A = ℕ} 7 9 = same-refusal (sym is ∙ e) .0 in omega arith
     has-room (short a t l is) h p e = omega (arith, order-fits a t)
     has-room (written a t l is) h p e = not-both (sym is ∙ e)
@@ -203,7 +206,7 @@ module _ (text : List ℕ) where
     review-demands = record {
       read = read true text;
       listed = listed cases;
-      refused = refused-exactly true text onOrder (high cases);
+      refused = refused-exactly true text onOrder (other cases);
       given = λ b rows tasks t.
           let is = tells-only true text b rows tasks t in
           subst (λ (a : TableRead). Given (a .rows) (a .order) (rowsFor (a .order) (a .rows))) is

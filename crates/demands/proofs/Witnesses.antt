@@ -10,8 +10,9 @@ use Rattle.text.specs.Text.{digits, decimal, signed, keyLine}
 use Rattle.text.specs.Lines.{numberOf, lineAt}
 use Rattle.grammars.specs.Forms.{formAt}
 use Rattle.grammars.specs.Grammars.{readFor}
+use Rattle.curves.specs.Curves.{wellFormed, permitted, curveMargin}
 use Rattle.rows.specs.Rows.{maxTask, maxTicks, cost}
-use Rattle.rows.specs.declared.Row.{Row}
+use Rattle.rows.specs.Rows.{Row}
 use Rattle.tables.specs.TableLines.{TableRead, readTable}
 use Rattle.responses.specs.Extremes.{smallest, largest}
 use Rattle.responses.specs.Figures.{worstLoad, bestLoad, worstIn, bestIn, blocking, isLate, latest, earliest, marginAt}
@@ -24,11 +25,11 @@ use Rattle.plans.specs.Entries.{entry, entries}
 use Rattle.plans.specs.Plans.{rankText, headText, planText, rankRoom}
 use Rattle.plans.specs.Outcomes.{refuses, ifInTime}
 use Rattle.demands.specs.Calls.{onTable, planned, reviewed}
-use Rattle.demands.specs.Cases.{table}
+use Rattle.demands.specs.Cases.{table, pointed}
 use Rattle.boards.specs.Witnesses.{exampleOrder}
 use Rattle.boards.proofs.Witnesses.{runs-met}
 use Rattle.demands.specs.Witnesses.{example, exampleRows, timelyText, lateOrder, lateText, malformed}
-use Rattle.demands.specs.Witnesses.{tenth, tenths, mostText, switchedText, looseOrder}
+use Rattle.demands.specs.Witnesses.{tenth, tenths, mostText, switchedText, looseOrder, curvedText, curvedRows}
 use Rattle.demands.specs.Witnesses.{Met, Excluded}
 use Rattle.demands.proofs.Outcomes.{same-refusal, not-both}
 use Rattle.demands.proofs.Texts.{failing, telling, fails-only}
@@ -83,7 +84,7 @@ module _ where
 
 pub met : Met
 unfolding digits decimal signed keyLine numberOf lineAt formAt readFor readTable
-    cost blocking smallest largest overSet rankText headText planText ifInTime onTable
+    cost blocking smallest largest wellFormed permitted curveMargin overSet rankText headText planText ifInTime onTable
 met =
     let late-told = telling true lateText refl in
     let late = Reviewer.review-demands lateText 0 in
@@ -99,6 +100,7 @@ met =
       exceeding = failing false _ 3 refl;
       repeated = failing false _ 4 refl;
       impossible = failing true _ 5 refl;
+      disorderly = failing false _ 10 refl;
       tells = telling false example refl;
       by-rule = Planner.rule-of example 0 refl exampleOrder refl;
       short = omega (arith, plan-long);
@@ -119,6 +121,19 @@ met =
       hold-past = refl;
       switch-most = refl;
       switch-past = refl;
+      curve-met = refl;
+      curve-most = refl;
+      delay-not-above = refl;
+      allow-above = refl;
+      delay-past = refl;
+      allow-past = refl;
+      points-past = refl;
+      tells-curved = telling false curvedText refl;
+      by-rule-curved = Planner.rule-of curvedText 0 refl curvedRows refl;
+      line-fails = Planner.choice (pointed ("points=0" ∷ [])) refl .none-passes refl;
+      lent-whole = refl;
+      lent-rows = refl;
+      lent-second = refl;
       tells-switched = telling false switchedText refl;
       by-rule-switched = Planner.rule-of switchedText 0 refl (switched 1 looseOrder) refl;
       beside-switched = refl;
@@ -145,7 +160,7 @@ late-only room = refl
 pub excluded : Excluded
 excluded = record {
   two-for-a-table = λ room d.
-      let e = fails-only false example 2 77 (d .refused 2 77 .0 (refl, omega arith)) in
+      let e = fails-only false example 2 77 (d .refused 2 77 .0 (refl, refl)) in
       let z : _≡_ {A = ℕ} 0 2 = sym example-accepted ∙ ap (λ (a : TableRead). a .refused) e in
       omega arith;
   empty-plan = λ room d. not-both (Planner.decided malformed room _ d ∙ malformed-only room);

@@ -4,17 +4,17 @@ use mathlib.Core.List.{List}
 use mathlib.Core.Option.{Option, none, some}
 use Prim.Native.Nat.{ℕ, zero, suc}
 use Rattle.rows.specs.Rows.{rowsFor}
-use Rattle.rows.specs.declared.Row.{Row}
+use Rattle.rows.specs.Rows.{Row}
 use Rattle.tables.specs.TableLines.{TableRead, readTable}
 use Rattle.orders.specs.Stability.{chosenOrder}
 use Rattle.plans.specs.Plans.{planRoom}
 use Rattle.plans.specs.Outcomes.{Outcome, refuses, planOf, ifInTime, printed}
 
--- refusals 1 to 6: those of the text; else what its table comes to
+-- refusals 1 to 6 and 11: those of the text; else what its table comes to
 unfoldable pub onTable : TableRead → Outcome → Outcome
 onTable a next = elim (a .refused) [ zero ↦ next | suc n ↦ refuses (suc n) (a .line) ]
 
--- the planner: 1 to 5, 8, 9
+-- the planner: 1 to 5, 8, 9, 11
 unfoldable pub ifOrdered : ℕ → ℕ → Option (List Row) → Outcome
 ifOrdered room board none = refuses 8 0
 ifOrdered room board (some order) = planOf room board order
@@ -28,7 +28,7 @@ planned text room =
 abbrev pub givenOrder : List ℕ → List Row
 givenOrder text = let a = readTable true text in rowsFor (a .order) (a .rows)
 
--- the reviewer: 1 to 6, 7 with the first late rank, 9
+-- the reviewer: 1 to 6 and 11, 7 with the first late rank, 9
 abbrev pub reviewed : List ℕ → ℕ → Outcome
 reviewed text room =
     let a = readTable true text in

@@ -1,5 +1,6 @@
--- Document 01's starred cases, each row with a hold of 0 under a switch of 0, in one list under one proposition about
--- the definitions; its other cases, as the programs print them; and cases of holds and of the switch.
+-- Document 01's starred cases, each row with a hold of 0 and no points under a switch of 0, in one list under one
+-- proposition about the definitions; its other cases, as the programs print them; and cases of holds, of the switch
+-- and of curves.
 use mathlib.Core.Path.{_≡_}
 use mathlib.Core.Bool.{true, false}
 use mathlib.Core.List.{List, [], _∷_, _++_}
@@ -8,8 +9,9 @@ use Prim.Native.Nat.{ℕ}
 use Prim.Native.String.{String}
 use lib.IntN.{ℤ, pos, negsuc}
 use Rattle.text.specs.Text.{lined}
-use Rattle.rows.specs.Rows.{row, withSwitch, tasksOf}
-use Rattle.rows.specs.declared.Row.{Row}
+use Rattle.curves.specs.Curves.{Point, point}
+use Rattle.rows.specs.Rows.{row, withSwitch, withCurve, tasksOf}
+use Rattle.rows.specs.Rows.{Row}
 use Rattle.responses.specs.Figures.{latest, isLate, earliest, jitter, margin}
 use Rattle.responses.specs.Claims.{NoneHolds}
 use Rattle.orders.specs.Stability.{chosenOrder}
@@ -70,9 +72,9 @@ row13 beta = row 13 200 19 17 3000 beta 0 0
 abbrev pub tableUnder : String → String → String → String → List ℕ
 tableUnder switch beta11 beta12 beta13 = lined (
     "board=7" ∷ "tasks=3" ∷ switch
-    ∷ "task=11" ∷ "period=24" ∷ "worst=6" ∷ "best=6" ∷ "alpha=1000" ∷ beta11 ∷ "hold=0"
-    ∷ "task=12" ∷ "period=18" ∷ "worst=2" ∷ "best=2" ∷ "alpha=1000" ∷ beta12 ∷ "hold=0"
-    ∷ "task=13" ∷ "period=200" ∷ "worst=19" ∷ "best=17" ∷ "alpha=3000" ∷ beta13 ∷ "hold=0"
+    ∷ "task=11" ∷ "period=24" ∷ "worst=6" ∷ "best=6" ∷ "alpha=1000" ∷ beta11 ∷ "hold=0" ∷ "points=0"
+    ∷ "task=12" ∷ "period=18" ∷ "worst=2" ∷ "best=2" ∷ "alpha=1000" ∷ beta12 ∷ "hold=0" ∷ "points=0"
+    ∷ "task=13" ∷ "period=200" ∷ "worst=19" ∷ "best=17" ∷ "alpha=3000" ∷ beta13 ∷ "hold=0" ∷ "points=0"
     ∷ [])
 
 abbrev pub table : String → String → String → List ℕ
@@ -91,7 +93,7 @@ planWith margin13 = lined (
 abbrev pub alone : String → String → List ℕ
 alone worst beta = lined (
     "board=7" ∷ "tasks=1" ∷ "switch=0"
-    ∷ "task=1" ∷ "period=10" ∷ worst ∷ "best=10" ∷ "alpha=1000" ∷ beta ∷ "hold=0"
+    ∷ "task=1" ∷ "period=10" ∷ worst ∷ "best=10" ∷ "alpha=1000" ∷ beta ∷ "hold=0" ∷ "points=0"
     ∷ [])
 
 abbrev pub starred : List Case
@@ -119,8 +121,8 @@ starred =
 abbrev pub elevenAbove : List ℕ
 elevenAbove = lined (
     "board=7" ∷ "tasks=2" ∷ "switch=0"
-    ∷ "task=11" ∷ "period=24" ∷ "worst=6" ∷ "best=6" ∷ "alpha=1000" ∷ "beta=8000" ∷ "hold=0"
-    ∷ "task=13" ∷ "period=200" ∷ "worst=19" ∷ "best=17" ∷ "alpha=3000" ∷ "beta=57000" ∷ "hold=0"
+    ∷ "task=11" ∷ "period=24" ∷ "worst=6" ∷ "best=6" ∷ "alpha=1000" ∷ "beta=8000" ∷ "hold=0" ∷ "points=0"
+    ∷ "task=13" ∷ "period=200" ∷ "worst=19" ∷ "best=17" ∷ "alpha=3000" ∷ "beta=57000" ∷ "hold=0" ∷ "points=0"
     ∷ "rank=11" ∷ "rank=13"
     ∷ [])
 
@@ -150,12 +152,12 @@ ofTasks = planner (lined ("board=7" ∷ "tasks=16" ∷ [])) (lined ("plan=0" ∷
 abbrev pub holding13 : ℕ → Row
 holding13 hold = row 13 200 19 17 3000 57000 hold 0
 
--- a short loop over a long one that may hold the bus for 3 ticks, with the beta of the first and a last line
+-- a short loop over a long one that may hold the bus for 3 ticks, with the beta of the first and the line of its hold
 abbrev pub bus : String → String → List ℕ
-bus beta last = lined (
+bus beta hold = lined (
     "board=7" ∷ "tasks=2" ∷ "switch=0"
-    ∷ "task=1" ∷ "period=10" ∷ "worst=2" ∷ "best=2" ∷ "alpha=1000" ∷ beta ∷ "hold=0"
-    ∷ "task=2" ∷ "period=20" ∷ "worst=5" ∷ "best=3" ∷ "alpha=1000" ∷ "beta=20000" ∷ last
+    ∷ "task=1" ∷ "period=10" ∷ "worst=2" ∷ "best=2" ∷ "alpha=1000" ∷ beta ∷ "hold=0" ∷ "points=0"
+    ∷ "task=2" ∷ "period=20" ∷ "worst=5" ∷ "best=3" ∷ "alpha=1000" ∷ "beta=20000" ∷ hold ∷ "points=0"
     ∷ [])
 
 abbrev pub ofHolds : List Case
@@ -175,16 +177,16 @@ ofHolds =
     ∷ "rank=2" ∷ "task=2" ∷ "best=3" ∷ "worst=7" ∷ "jitter=4" ∷ "margin=13000"
     ∷ []))
     ∷ refusal (bus "beta=3999" "hold=3") 8 0
-    ∷ refusal (bus "beta=6000" "hold=6") 4 17
-    ∷ refusal (bus "beta=6000" "rank=1") 1 17
+    ∷ refusal (bus "beta=6000" "hold=6") 4 18
+    ∷ refusal (bus "beta=6000" "rank=1") 1 18
     ∷ []
 
 -- ---- the switch
--- one task with a period of 10, with the lines before it, its worst, its best and its hold
+-- one task with a period of 10, with the lines before it, its worst, its best and its hold, and no points
 abbrev pub aloneUnder : List String → String → String → String → List ℕ
 aloneUnder head worst best hold =
     lined head
-    ++ lined ("task=1" ∷ "period=10" ∷ worst ∷ best ∷ "alpha=1000" ∷ "beta=10000" ∷ hold ∷ [])
+    ++ lined ("task=1" ∷ "period=10" ∷ worst ∷ best ∷ "alpha=1000" ∷ "beta=10000" ∷ hold ∷ "points=0" ∷ [])
 
 -- under a switch, by its line
 abbrev pub oneUnder : String → String → String → String → List ℕ
@@ -244,5 +246,107 @@ ofSwitch =
     ∷ planner (aloneUnder ("board=7" ∷ "switch=0" ∷ "tasks=1" ∷ []) "worst=7" "best=7" "hold=0")
     (refusedAt "refusal=1" "line=2")
     ∷ planner (oneUnder "switch=0" "worst=7" "best=7" "hold=0" ++ lined ("switch=0" ∷ []))
-    (refusedAt "refusal=1" "line=11")
+    (refusedAt "refusal=1" "line=12")
+    ∷ []
+
+-- ---- curves
+-- the paper's task 13 with a curve: at its E of 25 below 11 and 12 the jitter of 10 is judged
+abbrev pub curved13 : List Point → Row
+curved13 c = withCurve c (row13 57000)
+
+-- below 11 and 12, with its margin
+abbrev pub judged : List Point → ℤ → Case
+judged c m = figures (curved13 c) (row11 8000 ∷ row12 8000 ∷ []) 25 35 10 m
+
+-- one task that needs 7 to 10 ticks, whose line refuses it, with the lines behind its hold
+abbrev pub pointed : List String → List ℕ
+pointed lines =
+    lined ("board=7" ∷ "tasks=1" ∷ "switch=0"
+    ∷ "task=1" ∷ "period=10" ∷ "worst=10" ∷ "best=7" ∷ "alpha=1000" ∷ "beta=9999" ∷ "hold=0" ∷ lines)
+
+abbrev pub pointedPlan : String → List ℕ
+pointedPlan margin = lined (
+    "plan=1" ∷ "board=7" ∷ "tasks=1"
+    ∷ "rank=1" ∷ "task=1" ∷ "best=7" ∷ "worst=10" ∷ "jitter=3" ∷ margin
+    ∷ [])
+
+abbrev pub ofCurves : List Case
+ofCurves =
+    -- one point: before its delay and at it its allow; past it 1,000 for each tick
+    judged (point 30 10 ∷ []) (pos 0)
+    ∷ judged (point 25 12 ∷ []) (pos 2000)
+    ∷ judged (point 25 9 ∷ []) (negsuc 999)
+    ∷ judged (point 24 1000 ∷ []) (negsuc 999)
+    ∷ judged (point 0 1000000 ∷ []) (negsuc 24999)
+    -- on the line between two: from 20 at 20 down to 0 at 40 it permits 15; a third of a tick is rounded down, above and
+    -- below 0
+    ∷ judged (point 20 20 ∷ point 40 0 ∷ []) (pos 5000)
+    ∷ judged (point 24 11 ∷ point 27 10 ∷ []) (pos 666)
+    ∷ judged (point 24 10 ∷ point 27 9 ∷ []) (negsuc 333)
+    -- at a point in the middle, at the last, and past it
+    ∷ judged (point 0 30 ∷ point 25 12 ∷ point 26 0 ∷ []) (pos 2000)
+    ∷ judged (point 0 30 ∷ point 25 10 ∷ []) (pos 0)
+    ∷ judged (point 0 30 ∷ point 23 20 ∷ []) (negsuc 1999)
+    -- delays a tick apart, and as far as can be; allows that stay
+    ∷ judged (point 24 20 ∷ point 25 11 ∷ []) (pos 1000)
+    ∷ judged (point 0 1000000 ∷ point 1000000 0 ∷ []) (pos 999965000)
+    ∷ judged (point 0 11 ∷ point 100 11 ∷ []) (pos 1000)
+    -- five points: at the last, and past it; eight: between the sixth and the seventh, before the last, and past it
+    ∷ judged (point 5 40 ∷ point 10 30 ∷ point 15 25 ∷ point 20 18 ∷ point 25 12 ∷ []) (pos 2000)
+    ∷ judged (point 1 40 ∷ point 2 30 ∷ point 3 25 ∷ point 4 18 ∷ point 5 12 ∷ []) (negsuc 19999)
+    ∷ judged (point 0 50 ∷ point 5 45 ∷ point 10 40 ∷ point 15 30 ∷ point 20 20 ∷ point 24 15 ∷ point 27 13 ∷ point 40 0 ∷ [])
+    (pos 4333)
+    ∷ judged (point 0 20 ∷ point 1 20 ∷ point 2 20 ∷ point 3 20 ∷ point 4 20 ∷ point 5 20 ∷ point 20 20 ∷ point 30 10 ∷ [])
+    (pos 5000)
+    ∷ judged (point 1 20 ∷ point 2 20 ∷ point 3 20 ∷ point 4 20 ∷ point 5 20 ∷ point 6 20 ∷ point 7 20 ∷ point 8 20 ∷ [])
+    (negsuc 16999)
+    -- only a curve of its own counts
+    ∷ figures (row13 57000) (withCurve (point 0 0 ∷ []) (row11 8000) ∷ row12 8000 ∷ []) 25 35 10 (pos 2000)
+    -- under a switch, with a hold of its own, and over one
+    ∷ figures (withSwitch 1 (curved13 (point 25 20 ∷ []))) (withSwitch 1 (row11 8000) ∷ withSwitch 1 (row12 8000) ∷ [])
+    25 43 18 (pos 2000)
+    ∷ between (withCurve (point 17 18 ∷ []) (holding13 2)) (row11 8000 ∷ row12 8000 ∷ []) [] 17 35 18 (pos 0)
+    ∷ between (withCurve (point 6 6 ∷ []) (row11 8000)) (row12 8000 ∷ []) (holding13 5 ∷ []) 6 12 6 (pos 0)
+    -- no curve makes a late task timely
+    ∷ late (withCurve (point 1000000 1000000 ∷ []) (row12 8000)) (row13 57000 ∷ [])
+    ∷ []
+
+-- ---- curves in a text: the line of the points is its eleventh, and the pairs follow
+abbrev pub ofCurveTexts : List Case
+ofCurveTexts =
+    -- a text whose line has no order, and whose curve has: alpha and beta are read and not used
+    refusal (pointed ("points=0" ∷ [])) 8 0
+    ∷ plan (pointed ("points=1" ∷ "delay=7" ∷ "allow=3" ∷ [])) (pointedPlan "margin=0")
+    ∷ plan (pointed ("points=2" ∷ "delay=6" ∷ "allow=4" ∷ "delay=9" ∷ "allow=3" ∷ [])) (pointedPlan "margin=666")
+    ∷ refusal (pointed ("points=1" ∷ "delay=7" ∷ "allow=2" ∷ [])) 8 0
+    ∷ refusal (pointed ("points=1" ∷ "delay=6" ∷ "allow=1000" ∷ [])) 8 0
+    -- the reviewer writes a negative margin
+    ∷ reviewer (pointed ("points=2" ∷ "delay=6" ∷ "allow=3" ∷ "delay=9" ∷ "allow=2" ∷ "rank=1" ∷ []))
+    (pointedPlan "margin=-334")
+    ∷ reviewer (pointed ("points=1" ∷ "delay=5" ∷ "allow=9" ∷ "rank=1" ∷ [])) (pointedPlan "margin=-2000")
+    -- 11 on the line of a delay and of an allow, each held to the point before it; not on those of a first point
+    ∷ refusal (pointed ("points=2" ∷ "delay=7" ∷ "allow=3" ∷ "delay=7" ∷ "allow=3" ∷ [])) 11 14
+    ∷ refusal (pointed ("points=2" ∷ "delay=7" ∷ "allow=3" ∷ "delay=6" ∷ "allow=3" ∷ [])) 11 14
+    ∷ refusal (pointed ("points=2" ∷ "delay=7" ∷ "allow=3" ∷ "delay=0" ∷ "allow=3" ∷ [])) 11 14
+    ∷ refusal (pointed ("points=2" ∷ "delay=7" ∷ "allow=3" ∷ "delay=8" ∷ "allow=4" ∷ [])) 11 15
+    ∷ refusal (pointed ("points=3" ∷ "delay=1" ∷ "allow=5" ∷ "delay=5" ∷ "allow=2" ∷ "delay=3" ∷ [])) 11 16
+    ∷ refusal (pointed ("points=3" ∷ "delay=1" ∷ "allow=5" ∷ "delay=5" ∷ "allow=2" ∷ "delay=6" ∷ "allow=3" ∷ [])) 11 17
+    -- 3, 2 and 1 before it
+    ∷ refusal (pointed ("points=2" ∷ "delay=7" ∷ "allow=3" ∷ "delay=1000001" ∷ [])) 3 14
+    ∷ refusal (pointed ("points=2" ∷ "delay=7" ∷ "allow=3" ∷ "delay=8" ∷ "allow=1000001" ∷ [])) 3 15
+    ∷ refusal (pointed ("points=2" ∷ "delay=7" ∷ "allow=3" ∷ "delay=07" ∷ [])) 2 14
+    ∷ refusal (pointed ("points=2" ∷ "delay=7" ∷ "allow=3" ∷ "allow=3" ∷ [])) 1 14
+    -- both sides of the limits of a delay, of an allow and of the points
+    ∷ plan (pointed ("points=1" ∷ "delay=1000000" ∷ "allow=1000000" ∷ [])) (pointedPlan "margin=999997000")
+    ∷ refusal (pointed ("points=1" ∷ "delay=1000001" ∷ "allow=3" ∷ [])) 3 12
+    ∷ refusal (pointed ("points=1" ∷ "delay=7" ∷ "allow=1000001" ∷ [])) 3 13
+    ∷ plan
+    (pointed ("points=8" ∷ "delay=0" ∷ "allow=9" ∷ "delay=1" ∷ "allow=9" ∷ "delay=2" ∷ "allow=8" ∷ "delay=3" ∷ "allow=8"
+    ∷ "delay=4" ∷ "allow=7" ∷ "delay=5" ∷ "allow=6" ∷ "delay=6" ∷ "allow=5" ∷ "delay=7" ∷ "allow=4" ∷ []))
+    (pointedPlan "margin=1000")
+    ∷ refusal (pointed ("points=9" ∷ [])) 3 11
+    -- as many pairs as the points say, and the line of the points itself
+    ∷ refusal (pointed ("points=1" ∷ "delay=7" ∷ "allow=3" ∷ "delay=8" ∷ "allow=3" ∷ [])) 1 14
+    ∷ refusal (pointed ("points=2" ∷ "delay=7" ∷ "allow=3" ∷ [])) 1 14
+    ∷ refusal (pointed []) 1 11
     ∷ []

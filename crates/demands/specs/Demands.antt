@@ -2,7 +2,7 @@
 -- any outcome and in document 01's words, apart from how the outcome is found; only one outcome meets them.
 use mathlib.Core.Path.{_≡_}
 use mathlib.Core.Bool.{Bool, true, false}
-use mathlib.Core.List.{List, [], _∷_, Perm}
+use mathlib.Core.List.{List, [], _∷_, _++_, Perm}
 use mathlib.Core.Logic.{_↔_}
 use Prim.Native.Nat.{ℕ, suc, _≤_, _<_}
 use lib.IntN.{pos}
@@ -10,11 +10,11 @@ use lib.ListN.{length, getD}
 use lib.Signed.{leZ}
 use Rattle.basics.specs.Basics.{isIn}
 use Rattle.rows.specs.Rows.{tasksOf, rowsFor, rowAt}
-use Rattle.rows.specs.declared.Row.{Row}
-use Rattle.tables.specs.Claims.{Tells, Fails, Read}
+use Rattle.rows.specs.Rows.{Row}
+use Rattle.tables.specs.Claims.{Tells, Fails, tableRefusals, rankedRefusals, Read}
 use Rattle.responses.specs.Figures.{rowsAbove, rowsBelow, isLate}
-use Rattle.responses.specs.Claims.{Figured, ByNumbers, AsRequest2, AsDocument01, NoSwitch, NoneHolds}
-use Rattle.responses.specs.Claims.{SwitchUpTo, Grows}
+use Rattle.responses.specs.Claims.{Figured, ByCondition, CurveCounts, ByNumbers, AsRequest2, AsDocument01, NoSwitch}
+use Rattle.responses.specs.Claims.{NoneHolds, SwitchUpTo, Grows}
 use Rattle.orders.specs.Orders.{Possible, positionIn, positionsUp, notAfter, Chosen}
 use Rattle.orders.specs.Stability.{stable, orderStable}
 use Rattle.boards.specs.Claims.{LastsInRange, Kept, NoneLate}
@@ -38,6 +38,9 @@ pub record Promised (order : List Row) : Type 0 where
   pub entry-is :
       (i : ℕ) → i < length order → entryAt order i ≡ entry (rowAt order i) (rowsAbove order i) (rowsBelow order i)
   pub by-formulas : (i : ℕ) → i < length order → Figured (rowAt order i) (rowsAbove order i) (rowsBelow order i)
+  -- the margin is that of its row's stability condition, its curve or with no points its line, and of no other row's
+  pub by-condition : (i : ℕ) → i < length order → ByCondition (rowAt order i) (rowsAbove order i) (rowsBelow order i)
+  pub own-curve : (i : ℕ) → i < length order → CurveCounts (rowAt order i) (rowsAbove order i) (rowsBelow order i)
   -- by which rows are above and which below, and not by their sequence
   pub by-sets :
       (i : ℕ) (above′ below′ : List Row) → i < length order
@@ -95,13 +98,13 @@ pub record TablePlan (room board : ℕ) (rows : List Row) (w : Outcome) : Type 0
   pub chosen : Chosen stable rows
 
 abbrev pub plannerRefusals : List ℕ
-plannerRefusals = 1 ∷ 2 ∷ 3 ∷ 4 ∷ 5 ∷ 8 ∷ 9 ∷ []
+plannerRefusals = tableRefusals ++ (8 ∷ 9 ∷ [])
 
 pub record PlanDemands (text : List ℕ) (room : ℕ) (w : Outcome) : Type 0 where
   -- demand 1: a text is refused exactly for its reason, with its line, or accepted as it is written
   pub read : Read false text
   pub listed : (n p : ℕ) → w ≡ refuses n p → isIn n plannerRefusals ≡ true
-  pub refused : (n k : ℕ) → ((w ≡ refuses n k) × (n ≤ 6)) ↔ Fails false text n k
+  pub refused : (n k : ℕ) → ((w ≡ refuses n k) × (isIn n tableRefusals ≡ true)) ↔ Fails false text n k
   -- demands 2 and 3
   pub accepted : (board : ℕ) (rows : List Row) → Tells false text board rows [] → TablePlan room board rows w
   -- a program's buffer has room for every plan
@@ -125,12 +128,12 @@ pub record OrderReview (room board : ℕ) (order : List Row) (w : Outcome) : Typ
   pub in-time : NoneLate order → PlanOf room board order w
 
 abbrev pub reviewerRefusals : List ℕ
-reviewerRefusals = 1 ∷ 2 ∷ 3 ∷ 4 ∷ 5 ∷ 6 ∷ 7 ∷ 9 ∷ []
+reviewerRefusals = rankedRefusals ++ (7 ∷ 9 ∷ [])
 
 pub record ReviewDemands (text : List ℕ) (room : ℕ) (w : Outcome) : Type 0 where
   pub read : Read true text
   pub listed : (n p : ℕ) → w ≡ refuses n p → isIn n reviewerRefusals ≡ true
-  pub refused : (n k : ℕ) → ((w ≡ refuses n k) × (n ≤ 6)) ↔ Fails true text n k
+  pub refused : (n k : ℕ) → ((w ≡ refuses n k) × (isIn n rankedRefusals ≡ true)) ↔ Fails true text n k
   -- the rows of the rank lines' tasks are an order given, and any such is reviewed
   pub given :
       (board : ℕ) (rows : List Row) (tasks : List ℕ) → Tells true text board rows tasks

@@ -3,14 +3,16 @@
 -- would admit, each excluded.
 use mathlib.Core.Path.{_≡_}
 use mathlib.Core.Bool.{true, false}
-use mathlib.Core.List.{List, [], _∷_, _++_}
+use mathlib.Core.List.{List, [], _∷_, _++_, map}
 use Prim.Native.Nat.{ℕ, zero, suc, _+_, _-_, _*_, _/_, _^_, _≤_, _<_}
 use Prim.Native.String.{String}
-use lib.ListN.{length}
+use lib.ListN.{length, drop}
 use Rattle.text.specs.Text.{bytes, lined, decimal, keyLine}
 use Rattle.rows.specs.Rows.{maxTask, maxTicks, minAlpha, maxBeta, minHold, minSwitch, maxSwitch, maxTasks, maxBuffer}
-use Rattle.rows.specs.Rows.{row, withSwitch, inRange}
-use Rattle.rows.specs.declared.Row.{Row}
+use Rattle.curves.specs.Curves.{Point, point}
+use Rattle.rows.specs.Rows.{row, rowWith, withSwitch, withCurve, inRange}
+use Rattle.rows.specs.Rows.{Row}
+use Rattle.rows.specs.Numbers.{fieldCount, rowsOf, rowIn}
 use Rattle.boards.specs.Claims.{NoneLate}
 use Rattle.boards.specs.Witnesses.{exampleOrder}
 use Rattle.responses.specs.Figures.{isLate, inLimits}
@@ -18,7 +20,7 @@ use Rattle.responses.specs.Claims.{switched}
 use Rattle.plans.specs.Entries.{entry, entries}
 use Rattle.plans.specs.Plans.{rankText, headText, planText, headRoom, rankRoom, planRoom}
 use Rattle.plans.specs.Outcomes.{writes, refuses}
-use Rattle.demands.specs.Cases.{row11, row12, row13, tableUnder, table}
+use Rattle.demands.specs.Cases.{row11, row12, row13, tableUnder, table, pointed}
 use Rattle.tables.specs.TableLines.{maxBoard}
 use Rattle.tables.specs.Claims.{Tells, Fails}
 use Rattle.demands.specs.Demands.{EveryOrderFails, ByRule, PlanDemands}
@@ -65,7 +67,7 @@ tenthLines zero = []
 tenthLines (suc k) =
     keyLine (bytes "task=") (decimal (suc k))
     ++ lined (
-    "period=1000000" ∷ "worst=100000" ∷ "best=100000" ∷ "alpha=1000" ∷ "beta=200000000000" ∷ "hold=0" ∷ [])
+    "period=1000000" ∷ "worst=100000" ∷ "best=100000" ∷ "alpha=1000" ∷ "beta=200000000000" ∷ "hold=0" ∷ "points=0" ∷ [])
     ++ tenthLines k
 
 abbrev pub mostText : List ℕ
@@ -83,16 +85,48 @@ looseRows = row11 10000 ∷ row12 10000 ∷ row13 79000 ∷ []
 abbrev pub looseOrder : List Row
 looseOrder = row12 10000 ∷ row11 10000 ∷ row13 79000 ∷ []
 
+-- a task whose line refuses it and whose curve does not, as a table, and its row
+abbrev pub curvedText : List ℕ
+curvedText = pointed ("points=1" ∷ "delay=7" ∷ "allow=3" ∷ [])
+
+abbrev pub curvedRows : List Row
+curvedRows = rowWith (point 7 3 ∷ []) 1 10 10 7 1000 9999 0 0 ∷ []
+
+-- two rows as numbers: one with a point of the eight that there is room for, and one with none under a switch
+abbrev pub lentNumbers : List ℕ
+lentNumbers =
+    1 ∷ 10 ∷ 10 ∷ 7 ∷ 1000 ∷ 9999 ∷ 0 ∷ 1
+    ∷ 7 ∷ 3 ∷ 0 ∷ 0 ∷ 0 ∷ 0 ∷ 0 ∷ 0 ∷ 0 ∷ 0 ∷ 0 ∷ 0 ∷ 0 ∷ 0 ∷ 0 ∷ 0 ∷ 0
+    ∷ 2 ∷ 20 ∷ 5 ∷ 4 ∷ 1000 ∷ 9000 ∷ 3 ∷ 0
+    ∷ 0 ∷ 0 ∷ 0 ∷ 0 ∷ 0 ∷ 0 ∷ 0 ∷ 0 ∷ 0 ∷ 0 ∷ 0 ∷ 0 ∷ 0 ∷ 0 ∷ 0 ∷ 0 ∷ 6
+    ∷ []
+
+abbrev pub lentRows : List Row
+lentRows = curvedRows ++ (row 2 20 5 4 1000 9000 3 6 ∷ [])
+
+-- n points, each a tick behind the one before it
+abbrev pub fallingFrom : ℕ → List Point
+fallingFrom zero = []
+fallingFrom (suc n) = point (10 - n) n ∷ fallingFrom n
+
+abbrev pub withPoints : List Point → Row
+withPoints c = rowWith c 1 10 7 7 1000 0 7 3
+
 pub record Met : Type 0 where
-  -- refusals 1 to 6, each at its line
+  -- refusals 1 to 6 and 11, each at its line
   pub missing : Fails false [] 1 1
-  pub trailing : Fails false (example ++ bytes "x") 1 25
+  pub trailing : Fails false (example ++ bytes "x") 1 28
   pub no-number : Fails false malformed 2 1
   pub out-of-range : Fails false tooMany 3 2
   pub exceeding : Fails false (twoTasks ("worst=11" ∷ [])) 4 6
   pub repeated :
-      Fails false (twoTasks ("worst=10" ∷ "best=1" ∷ "alpha=1000" ∷ "beta=0" ∷ "hold=0" ∷ "task=1" ∷ [])) 5 11
-  pub impossible : Fails true (example ++ lined ("rank=11" ∷ "rank=11" ∷ [])) 6 26
+      Fails false (twoTasks (
+      "worst=10" ∷ "best=1" ∷ "alpha=1000" ∷ "beta=0" ∷ "hold=0" ∷ "points=0" ∷ "task=1" ∷ [])) 5 12
+  pub impossible : Fails true (example ++ lined ("rank=11" ∷ "rank=11" ∷ [])) 6 29
+  pub disorderly :
+      Fails false (twoTasks (
+      "worst=10" ∷ "best=1" ∷ "alpha=1000" ∷ "beta=0" ∷ "hold=0"
+      ∷ "points=2" ∷ "delay=5" ∷ "allow=0" ∷ "delay=5" ∷ [])) 11 14
   -- a table with an order, in a room that is too short too, and one with none
   pub tells : Tells false example 7 exampleRows []
   pub by-rule : ByRule exampleRows exampleOrder
@@ -118,6 +152,23 @@ pub record Met : Type 0 where
   pub hold-past : inRange (row 1 10 7 7 1000 0 8 3) ≡ false
   pub switch-most : inRange (row 1 maxTicks 7 7 1000 0 7 maxSwitch) ≡ true
   pub switch-past : inRange (row 1 maxTicks 7 7 1000 0 7 (suc maxSwitch)) ≡ false
+  -- a curve at its limits, and past each: a delay not above the one before it, an allow above the one before it, a delay
+  -- and an allow past the limit, a point too many
+  pub curve-met : inRange (withPoints (point 0 1000000 ∷ point 1 1000000 ∷ point 1000000 0 ∷ [])) ≡ true
+  pub curve-most : inRange (withPoints (fallingFrom 8)) ≡ true
+  pub delay-not-above : inRange (withPoints (point 5 5 ∷ point 5 4 ∷ [])) ≡ false
+  pub allow-above : inRange (withPoints (point 5 5 ∷ point 6 6 ∷ [])) ≡ false
+  pub delay-past : inRange (withPoints (point 1000001 0 ∷ [])) ≡ false
+  pub allow-past : inRange (withPoints (point 0 1000001 ∷ [])) ≡ false
+  pub points-past : inRange (withPoints (fallingFrom 9)) ≡ false
+  -- a table with a curve, with an order that its line does not have
+  pub tells-curved : Tells false curvedText 7 curvedRows []
+  pub by-rule-curved : ByRule curvedRows curvedRows
+  pub line-fails : EveryOrderFails (map (withCurve []) curvedRows)
+  -- rows as they are lent, with their curve and their switch
+  pub lent-whole : length lentNumbers ≡ fieldCount * 2
+  pub lent-rows : rowsOf 2 lentNumbers ≡ lentRows
+  pub lent-second : rowIn lentNumbers 1 ∷ [] ≡ drop 1 lentRows
   -- a table under a switch, with an order; figures of rows that have different ones
   pub tells-switched : Tells false switchedText 7 (switched 1 looseRows) []
   pub by-rule-switched : ByRule (switched 1 looseRows) (switched 1 looseOrder)

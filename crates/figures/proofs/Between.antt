@@ -1,85 +1,30 @@
--- Rows among numbers are figured where they stand: too many rows are in no limits, and what is answered of the rows
--- among the numbers is answered of the rows put there.
+-- Rows among numbers are figured where they stand: the rows at the positions 0, 1, 2, .. are those of the numbers, a
+-- row is in the limits of a table with those above it and below it exactly where the code's test says so, and the
+-- answer by that test is all that is promised of it.
 use mathlib.Core.Path.{_≡_, refl, ap, ap₂, sym, _∙_}
-use mathlib.Core.Bool.{Bool, true, false, _&&_, not}
-use mathlib.Core.Logic.{inl, inr}
-use mathlib.Core.List.{List}
-use Prim.Native.Nat.{ℕ, _+_, _-_, _≤_, _<_}
+use mathlib.Core.Bool.{Bool, true, false, _&&_}
+use mathlib.Core.List.{List, [], _∷_}
+use Prim.Native.Nat.{ℕ, zero, suc, _+_, _-_, _*_, _≤_, _<_}
 use native.Mathlib.Omega.{arith}
-use lib.Dec.{leb}
-use lib.ListN.{length, getD, take}
-use borrow.Author.Tests.{leb-true, le-leb, lt-leb, not-true, not-false}
+use lib.Dec.{leb, ltb}
+use lib.ListN.{length, getD, take, length-take, length-drop}
+use borrow.Author.Tests.{leb-true, ltb-true, le-leb, lt-leb, lt-ltb, le-ltb}
 use Rattle.basics.specs.Basics.{pick}
+use mathlib.Core.Logic.{inl, inr}
 use Rattle.basics.proofs.Tests.{le-or-lt, and-left, and-right}
-use Rattle.rows.specs.Rows.{inRange, timesInRange, allRows}
-use Rattle.rows.specs.declared.Row.{Row}
-use Rattle.rows.specs.inside.Numbers.{rowIn, rowsOf, rowsIn, numbersRoom, RowsPut}
-use Rattle.rows.proofs.RowNumbers.{rows-length, rows-are}
+use Rattle.rows.specs.Rows.{Row, maxTasks, rowAt, inRange, allRows}
+use Rattle.rows.specs.inside.Numbers.{fieldCount, rowIn, rowsOf, rowsIn}
+use Rattle.rows.proofs.RowNumbers.{rows-length, rows-at, rows-are}
 use Rattle.analysis.proofs.Filling.{rows-long, row-is}
-use Rattle.responses.specs.Figures.{maxOthers, inLimits, figuresUnder, noFigures, figuresOf}
-use Rattle.responses.specs.Claims.{FiguresSay}
+use Rattle.responses.specs.Figures.{rowsAbove, rowsBelow, maxOthers, figuresUnder, noFigures, figuresOf}
+use Rattle.responses.specs.Figures as F
+use Rattle.responses.specs.Claims.{FiguresSay, RowFigures}
 use Rattle.responses.specs.declared.Figures.{Figures}
+use Rattle.responses.proofs.Conditions.{by-condition}
 use Rattle.responses.proofs.Responses.{limits-times, figured}
 use Rattle.responses.proofs.Switches.{by-numbers, switch-grows}
 use Rattle.responses.proofs.Sequences.{figures-permuted, figures-below}
-
--- ---- few enough
-none-left : (a b c : Bool) → (a && (b && (c && false))) ≡ false
-none-left true true true = refl
-none-left true true false = refl
-none-left true false c = refl
-none-left false b c = refl
-
-with-true : (a b c : Bool) → (a && b && c) ≡ (a && (b && (c && true)))
-with-true true true true = refl
-with-true true true false = refl
-with-true true false c = refl
-with-true false b c = refl
-
--- what a test that is passed says of the rows
-pub record InLimits (t : Row) (above below : List Row) : Type 0 where
-  pub in-range : inRange t ≡ true
-  pub times-in-range : allRows timesInRange above ≡ true
-  pub below-in-range : allRows inRange below ≡ true
-  pub few : length above + length below ≤ maxOthers
-
-module _ (t : Row) (above below : List Row) where
-  pub too-many : maxOthers < length above + length below → inLimits t above below ≡ false
-  too-many h =
-      let r = allRows inRange above in
-      let s = allRows inRange below in
-      ap (λ b. inRange t && (r && (s && b))) (lt-leb (length above + length below) maxOthers h)
-      ∙ none-left (inRange t) r s
-
-  pub few-enough : length above + length below ≤ maxOthers
-      → (inRange t && allRows inRange above && allRows inRange below) ≡ inLimits t above below
-  few-enough h =
-      let r = allRows inRange above in
-      let s = allRows inRange below in
-      with-true (inRange t) r s
-      ∙ ap (λ b. inRange t && (r && (s && b))) (sym (le-leb (length above + length below) maxOthers h))
-
-  pub in-limits : (b : Bool) → b ≡ inLimits t above below → not b ≡ false → InLimits t above below
-  in-limits b e passed =
-      let h = sym e ∙ not-false b passed in
-      let r = allRows inRange above in
-      let s = allRows inRange below in
-      let few = leb (length above + length below) maxOthers in
-      let rest = and-right (inRange t) (r && (s && few)) h in
-      record {
-        in-range = and-left (inRange t) (r && (s && few)) h;
-        times-in-range = limits-times t above below h .1;
-        below-in-range = and-left s few (and-right r (s && few) rest);
-        few = leb-true (length above + length below) maxOthers (and-right s few (and-right r (s && few) rest));
-      }
-
-  -- the answer, by a test that is theirs
-  pub answered : (b : Bool) → b ≡ inLimits t above below → not b ≡ false
-      → figuresUnder t above below ≡ figuresOf t above below
-  answered b e h = ap (λ c. pick c (figuresUnder t above below) noFigures) (sym (sym e ∙ not-false b h))
-
-  pub unanswered : (b : Bool) → b ≡ inLimits t above below → not b ≡ true → noFigures ≡ figuresOf t above below
-  unanswered b e h = ap (λ c. pick c (figuresUnder t above below) noFigures) (sym (sym e ∙ not-true b h))
+use Rattle.figures.specs.inside.Limits.{inLimits}
 
 -- ---- rows at the positions 0, 1, 2, .. are those of the numbers, in their sequence
 pub in-sequence : (ns ps : List ℕ) (n : ℕ) → n ≤ length ps → ((i : ℕ) → i < n → getD ps i 0 ≡ i)
@@ -91,32 +36,140 @@ in-sequence ns ps n held is =
     ∙ rows-are ns rows (λ i l.
     let h : i < n = omega (arith, l, long) in sym (row-is ns ps n held i h ∙ ap (rowIn ns) (is i h))))
 
--- ---- what is answered of the numbers' rows, where there is room for a table's, is answered of the rows put there
-pub say : (t : Row) (above below : List Row) (us us′ ls ls′ : List ℕ) (x : Figures)
-    → numbersRoom ≤ length us → RowsPut above us us′ → numbersRoom ≤ length ls → RowsPut below ls ls′
-    → x ≡ figuresOf t (rowsOf (length above) us′) (rowsOf (length below) ls′) → FiguresSay t above below x
-say t above below us us′ ls ls′ x upper put lower put′ e = record {
-  answer = is;
-  by-formulas = λ h. let k = limits-times t above below h in figured t above below (k .0) (k .1);
-  by-numbers = by-numbers t above below;
-  switch-grows = λ h s own others.
-      let k = limits-times t above below h in switch-grows t above below s (k .0) (k .1) own others;
-  any-sequence = λ above′ below′ p q. is ∙ figures-permuted t p q;
-  by-blocking = λ below′ b h. is ∙ figures-below t above below below′ b h;
-}
-  where
-    n : ℕ
-    n = length above
+-- ---- every row passes: that at i, those before it and those after it
+regrouped : (r x a b : Bool) → (r && (x && (a && b))) ≡ (x && (r && a && b))
+regrouped true x a b = refl
+regrouped false true a b = refl
+regrouped false false a b = refl
 
-    m : ℕ
-    m = length below
+all-around : (f : Row → Bool) (rows : List Row) (i : ℕ) → i < length rows
+    → allRows f rows ≡ (f (rowAt rows i) && (allRows f (rowsAbove rows i) && allRows f (rowsBelow rows i)))
+all-around f [] i h = absurd (omega arith)
+all-around f (r ∷ rows) zero h = refl
+all-around f (r ∷ rows) (suc i) h =
+    ap (λ b. f r && b) (all-around f rows i (omega arith))
+    ∙ regrouped (f r) (f (rowAt rows i)) (allRows f (rowsAbove rows i)) (allRows f (rowsBelow rows i))
 
-    is : x ≡ figuresOf t above below
-    is = e ∙ elim (le-or-lt (n + m) maxOthers) [
-      | inl few ↦ ap₂ (figuresOf t) (put .there upper (omega (arith, few))) (put′ .there lower (omega (arith, few)))
-      | inr many ↦
-          let none = too-many t (rowsOf n us′) (rowsOf m ls′)
-          (omega (arith, many, rows-length n us′, rows-length m ls′)) in
-          sym (unanswered t (rowsOf n us′) (rowsOf m ls′) false (sym none) refl)
-          ∙ unanswered t above below false (sym (too-many t above below many)) refl
-    ]
+none-left : (a b c : Bool) → (a && (b && (c && false))) ≡ false
+none-left true true true = refl
+none-left true true false = refl
+none-left true false c = refl
+none-left false b c = refl
+
+with-true : (a b c : Bool) → (a && (b && (c && true))) ≡ (a && (b && c))
+with-true true true true = refl
+with-true true true false = refl
+with-true true false c = refl
+with-true false b c = refl
+
+-- ---- the test
+module _ (ns : List ℕ) (n i : ℕ) where
+  abbrev ranged : Bool
+  ranged = allRows inRange (rowsOf n ns)
+
+  pub too-many : maxTasks < n → inLimits ns n i ≡ false
+  too-many h =
+      ap (λ b. b && (ltb i n && (leb (fieldCount * n) (length ns) && ranged))) (lt-leb n maxTasks h)
+
+  pub not-there : n ≤ maxTasks → n ≤ i → inLimits ns n i ≡ false
+  not-there few h =
+      ap₂ (λ a b. a && (b && (leb (fieldCount * n) (length ns) && ranged))) (le-leb n maxTasks few) (le-ltb i n h)
+
+  pub by-room : n ≤ maxTasks → i < n → inLimits ns n i ≡ (leb (fieldCount * n) (length ns) && ranged)
+  by-room few there =
+      ap₂ (λ a b. a && (b && (leb (fieldCount * n) (length ns) && ranged))) (le-leb n maxTasks few) (lt-ltb i n there)
+
+  pub too-short : n ≤ maxTasks → i < n → length ns < fieldCount * n → inLimits ns n i ≡ false
+  too-short few there h = by-room few there ∙ ap (λ b. b && ranged) (lt-leb (fieldCount * n) (length ns) h)
+
+  pub by-rows : n ≤ maxTasks → i < n → fieldCount * n ≤ length ns → inLimits ns n i ≡ ranged
+  by-rows few there h = by-room few there ∙ ap (λ b. b && ranged) (le-leb (fieldCount * n) (length ns) h)
+
+  -- what a test that is passed says
+  pub record InLimits : Type 0 where
+    pub few : n ≤ maxTasks
+    pub there : i < n
+    pub held : fieldCount * n ≤ length ns
+    pub in-range : allRows inRange (rowsOf n ns) ≡ true
+
+  pub in-limits : inLimits ns n i ≡ true → InLimits
+  in-limits h =
+      let room = leb (fieldCount * n) (length ns) in
+      let rest = and-right (leb n maxTasks) (ltb i n && (room && ranged)) h in
+      let last = and-right (ltb i n) (room && ranged) rest in
+      record {
+        few = leb-true n maxTasks (and-left (leb n maxTasks) (ltb i n && (room && ranged)) h);
+        there = ltb-true i n (and-left (ltb i n) (room && ranged) rest);
+        held = leb-true (fieldCount * n) (length ns) (and-left room ranged last);
+        in-range = and-right room ranged last;
+      }
+
+  -- ---- and that of a table's limits is the same
+  abbrev t : Row
+  t = rowIn ns i
+
+  abbrev above : List Row
+  above = rowsAbove (rowsOf n ns) i
+
+  abbrev below : List Row
+  below = rowsBelow (rowsOf n ns) i
+
+  others : i < n → suc (length above + length below) ≡ n
+  others there =
+      omega (arith, length-take i (rowsOf n ns), length-drop (suc i) (rowsOf n ns), rows-length n ns)
+
+  -- of so many rows, the one at i and the rest
+  around : i < n → ranged ≡ (inRange t && (allRows inRange above && allRows inRange below))
+  around there =
+      all-around inRange (rowsOf n ns) i (omega (arith, rows-length n ns))
+      ∙ ap (λ r. inRange r && (allRows inRange above && allRows inRange below)) (rows-at n i ns there)
+
+  pub same-limits : fieldCount * n ≤ length ns → i < n → F.inLimits t above below ≡ inLimits ns n i
+  same-limits held there = elim (le-or-lt n maxTasks) [
+    | inl few ↦
+        ap (λ b. inRange t && (allRows inRange above && (allRows inRange below && b)))
+        (le-leb (length above + length below) maxOthers (omega (arith, few, others there)))
+        ∙ with-true (inRange t) (allRows inRange above) (allRows inRange below)
+        ∙ sym (by-rows few there held ∙ around there)
+    | inr many ↦
+        ap (λ b. inRange t && (allRows inRange above && (allRows inRange below && b)))
+        (lt-leb (length above + length below) maxOthers (omega (arith, many, others there)))
+        ∙ none-left (inRange t) (allRows inRange above) (allRows inRange below)
+        ∙ sym (too-many many)
+  ]
+
+  -- ---- the answer
+  say : (x : Figures) → x ≡ figuresOf t above below → FiguresSay t above below x
+  say x is = record {
+    answer = is;
+    by-formulas = λ h. let k = limits-times t above below h in figured t above below (k .0) (k .1);
+    by-condition = λ h. by-condition t above below (own h);
+    by-numbers = by-numbers t above below;
+    switch-grows = λ h s mine others.
+        switch-grows t above below s (own h) (limits-times t above below h .1) mine others;
+    any-sequence = λ above′ below′ p q. is ∙ figures-permuted t p q;
+    by-blocking = λ below′ b h. is ∙ figures-below t above below below′ b h;
+  }
+    where
+      own : F.inLimits t above below ≡ true → inRange t ≡ true
+      own h =
+          and-left (inRange t) (allRows inRange above
+          && (allRows inRange below && leb (length above + length below) maxOthers)) h
+
+  pub refused : (x : Figures) → x ≡ noFigures → inLimits ns n i ≡ false → RowFigures ns n i x
+  refused x e h = record {
+    held = λ room there.
+        say x (e ∙ ap (λ b. pick b (figuresUnder t above below) noFigures) (sym (same-limits room there ∙ h)));
+    not-held = λ l. e;
+    no-such-row = λ l. e;
+  }
+
+  pub answered : (x : Figures) → x ≡ figuresUnder t above below → inLimits ns n i ≡ true → RowFigures ns n i x
+  answered x e h =
+      let k = in-limits h in
+      record {
+        held = λ room there.
+            say x (e ∙ ap (λ b. pick b (figuresUnder t above below) noFigures) (sym (same-limits room there ∙ h)));
+        not-held = λ l. absurd (omega (arith, l, k .held));
+        no-such-row = λ l. absurd (omega (arith, l, k .there));
+      }

@@ -1,23 +1,22 @@
-// A row's figures between any rows above it and below it: the rows are put among numbers, and, where they are in the
-// limits of a table, their times into the columns of the analysis.
+// A row's figures between the rows above it and below it: rows are lent as numbers, highest first, and, where they are
+// in the limits of a table, the times of those above are put into the columns of the analysis.
 ghost use mathlib.Core.Path.{_≡_};
 ghost use Prim.Native.Nat.{ℕ, _*_, _≤_, _<_};
 ghost use lib.ListN.{length, getD};
-ghost use Rattle.rows.specs.Rows.{maxTasks, fieldCount, inRange, allRows};
-ghost use Rattle.rows.specs.inside.Numbers.{rowsOf};
-ghost use Rattle.responses.specs.Figures.{noFigures, inLimits, figuresOf};
-ghost use Rattle.responses.specs.Claims.{FiguresSay};
+ghost use Rattle.rows.specs.Rows.{maxTasks, inRange, allRows};
+ghost use Rattle.rows.specs.inside.Numbers.{fieldCount, rowsOf};
+ghost use Rattle.responses.specs.Figures.{noFigures};
+ghost use Rattle.responses.specs.Claims.{RowFigures};
+ghost use Rattle.figures.specs.inside.Limits.{inLimits};
 use analysis::blocking_from;
 use analysis::figures_under;
 use analysis::fill_columns;
 use responses::Figures;
+use rows::FIELDS;
 use rows::MAX_TASKS;
-use rows::NUMBERS;
-use rows::Row;
 use rows::in_range_at;
-use rows::put_rows;
 
-// Of rows that are out of range or too many.
+// Of rows that are out of range or too many, and of a row that is not there.
 fn no_figures() -> Figures
     ensures { λ x. ⌜ x ≡ noFigures ⌝ }
 {
@@ -47,17 +46,20 @@ fn all_in_range(numbers: &[u64], n: usize) -> bool
     true
 }
 
-// Whether a row, n rows above it and m rows below it are in the limits of a table.
-fn in_limits(row: Row, above: &[u64; NUMBERS], n: usize, below: &[u64; NUMBERS], m: usize) -> bool
-    ensures { λ r. ⌜ r ≡ inLimits row (rowsOf n (now (above .entry))) (rowsOf m (now (below .entry))) ⌝ }
+// Whether row i is one of n rows that are there and in the limits of a table.
+fn in_limits(rows: &[u64], n: usize, i: usize) -> bool
+    ensures { λ r. ⌜ r ≡ inLimits (now (rows .entry)) n i ⌝ }
 {
-    if MAX_TASKS <= n {
+    if MAX_TASKS < n {
         return false;
     }
-    if MAX_TASKS - n <= m {
+    if n <= i {
         return false;
     }
-    row.in_range() & all_in_range(above, n) & all_in_range(below, m)
+    if rows.len() < FIELDS * n {
+        return false;
+    }
+    all_in_range(rows, n)
 }
 
 // The positions of rows in their own sequence.
@@ -71,35 +73,16 @@ fn positions() -> [usize; MAX_TASKS]
     positions
 }
 
-// The figures of a row between n rows above it and m rows below it.
-fn figures_between(
-    row: Row,
-    above: &[u64; NUMBERS],
-    n: usize,
-    below: &[u64; NUMBERS],
-    m: usize,
-) -> Figures
-    ensures { λ x. ⌜ x ≡ figuresOf row (rowsOf n (now (above .entry))) (rowsOf m (now (below .entry))) ⌝ }
+// The figures of row i of n rows, highest first: those before it are above it, and those after it below it.
+pub fn row_figures(rows: &[u64], n: usize, i: usize) -> Figures
+    ensures { λ x. ⌜ RowFigures (now (rows .entry)) n i x ⌝ }
 {
-    if !in_limits(row, above, n, below, m) {
+    if !in_limits(rows, n, i) {
         return no_figures();
     }
     let positions = positions();
     let mut columns = [0u64; 3 * MAX_TASKS];
-    fill_columns(above, &positions, n, &mut columns);
-    let blocked = blocking_from(below, &positions, 0, m);
-    figures_under(row, blocked, &columns, n, n)
-}
-
-// The figures of a row between any rows above it and below it.
-pub fn row_figures(row: Row, above: &[Row], below: &[Row]) -> Figures
-    ensures { λ x. ⌜ FiguresSay row (now (above .entry)) (now (below .entry)) x ⌝ }
-{
-    let n = above.len();
-    let m = below.len();
-    let mut upper = [0u64; NUMBERS];
-    let mut lower = [0u64; NUMBERS];
-    put_rows(above, &mut upper);
-    put_rows(below, &mut lower);
-    figures_between(row, &upper, n, &lower, m)
+    fill_columns(rows, &positions, i, &mut columns);
+    let blocked = blocking_from(rows, &positions, i + 1, n);
+    figures_under(rows, i, blocked, &columns, i, i)
 }

@@ -11,7 +11,7 @@ use borrow.Author.Tests.{eq-eqb, lt-ltb}
 use lib.Dec.{eqb, ltb}
 use lib.ListN.{length}
 use lib.Seq.{append-snoc}
-use Rattle.rows.specs.declared.Row.{Row}
+use Rattle.rows.specs.Rows.{Row}
 use Rattle.basics.proofs.Tests.{test-of, and-left, and-right, and-both}
 use Rattle.orders.specs.Orders as O
 use Rattle.orders.specs.Orders.{Taken, here, later, Possible, nothing, positionsUp, notAfter, tried}

@@ -8,7 +8,7 @@ use native.Mathlib.Omega.{arith}
 use lib.ListN.{length}
 use Rattle.basics.proofs.Tests.{and-both}
 use Rattle.rows.specs.Rows.{allRows}
-use Rattle.rows.specs.declared.Row.{Row}
+use Rattle.rows.specs.Rows.{Row}
 use Rattle.rows.proofs.Limits.{head-passes, tail-passes}
 use Rattle.orders.specs.Orders.{Taken, here, later, Possible, nothing, first}
 

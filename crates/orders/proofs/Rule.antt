@@ -12,7 +12,7 @@ use borrow.Author.Tests.{eq-eqb, ne-eqb, eqb-true, not-true, ltb-true}
 use lib.Dec.{eqb, ltb}
 use lib.ListN.{length}
 use Rattle.rows.specs.Rows.{hasTask, distinctRows}
-use Rattle.rows.specs.declared.Row.{Row}
+use Rattle.rows.specs.Rows.{Row}
 use Rattle.basics.proofs.Tests.{test-of, false-of, and-left, and-right}
 use Rattle.orders.specs.Orders as O
 use Rattle.orders.specs.Orders.{Taken, here, later, Possible, positionIn, positionsUp, notAfter}

@@ -9,7 +9,7 @@ use lib.ListN.{length}
 use lib.Seq.{append-snoc}
 use Rattle.basics.proofs.Tests.{and-left, and-right}
 use Rattle.rows.specs.Rows.{distinctRows, rowAt}
-use Rattle.rows.specs.declared.Row.{Row}
+use Rattle.rows.specs.Rows.{Row}
 use Rattle.responses.specs.Figures.{rowsAbove, rowsBelow, isStable}
 use Rattle.responses.proofs.Sequences.{by-set}
 use Rattle.orders.specs.Orders.{Taken, here, later, Possible, nothing, first, BySets, passesBetween, Chosen}

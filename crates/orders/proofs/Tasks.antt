@@ -12,7 +12,7 @@ use lib.ListN.{length}
 use Rattle.basics.specs.Basics.{isIn, distinct}
 use Rattle.basics.proofs.Tests.{and-left, and-right, and-both, or-right}
 use Rattle.rows.specs.Rows.{tasksOf, hasTask, distinctRows, rowFor, rowsFor, allTasks, isPossible}
-use Rattle.rows.specs.declared.Row.{Row}
+use Rattle.rows.specs.Rows.{Row}
 use Rattle.orders.specs.Orders.{Taken, here, later, Possible, nothing, first}
 use Rattle.orders.proofs.Possible.{swapped, taken-length}
 use Rattle.orders.proofs.Rule.{other-task}

@@ -1,11 +1,11 @@
-// Document 01's cases and some of holds and of the switch, as texts: what has to be answered stands beside each, and the
-// whole buffer is compared.
+// Document 01's cases and some of holds, of the switch and of curves, as texts: what has to be answered stands beside
+// each, and the whole buffer is compared.
 use trials::Answer;
 use trials::SPACE;
 ghost use Rattle.io.specs.Counts.{Counts};
 
-// The document's table up to the last beta, with a switch of 0 and a hold of 0 in each row before it, and its plan.
-const EXAMPLE: [u8; 194] = *b"board=7
+// The document's table up to the last beta, with a switch of 0, and a hold of 0 and no points in each row before it, and its plan.
+const EXAMPLE: [u8; 212] = *b"board=7
 tasks=3
 switch=0
 task=11
@@ -15,6 +15,7 @@ best=6
 alpha=1000
 beta=8000
 hold=0
+points=0
 task=12
 period=18
 worst=2
@@ -22,6 +23,7 @@ best=2
 alpha=1000
 beta=8000
 hold=0
+points=0
 task=13
 period=200
 worst=19
@@ -53,7 +55,7 @@ margin=2000
 ";
 
 // Its rows under a switch of 1, with an order, and what the reviewer has to say of it.
-const SWITCHED: [u8; 236] = *b"board=7
+const SWITCHED: [u8; 263] = *b"board=7
 tasks=3
 switch=1
 task=11
@@ -63,6 +65,7 @@ best=6
 alpha=1000
 beta=8000
 hold=0
+points=0
 task=12
 period=18
 worst=2
@@ -70,6 +73,7 @@ best=2
 alpha=1000
 beta=8000
 hold=0
+points=0
 task=13
 period=200
 worst=19
@@ -77,6 +81,7 @@ best=17
 alpha=3000
 beta=57000
 hold=0
+points=0
 rank=12
 rank=11
 rank=13
@@ -185,21 +190,31 @@ fn example_refuses(name: &[u8], review: bool, rest: &[u8], number: u8, place: u3
 }
 
 fn planner_cases() {
-    example_plans(b"the document's example", false, b"beta=57000\nhold=0\n");
-    example_refuses(b"beta of 13 at 54999", false, b"beta=54999\nhold=0\n", 8, 0);
+    example_plans(
+        b"the document's example",
+        false,
+        b"beta=57000\nhold=0\npoints=0\n",
+    );
+    example_refuses(
+        b"beta of 13 at 54999",
+        false,
+        b"beta=54999\nhold=0\npoints=0\n",
+        8,
+        0,
+    );
     example_refuses(
         b"no line feed at the end",
         false,
-        b"beta=57000\nhold=0",
+        b"beta=57000\nhold=0\npoints=0",
         1,
-        24,
+        27,
     );
     example_refuses(
         b"a line too many",
         false,
-        b"beta=57000\nhold=0\nrank=12\n",
+        b"beta=57000\nhold=0\npoints=0\nrank=12\n",
         1,
-        25,
+        28,
     );
 }
 
@@ -207,30 +222,36 @@ fn reviewer_cases() {
     example_plans(
         b"order 12, 11, 13",
         true,
-        b"beta=57000\nhold=0\nrank=12\nrank=11\nrank=13\n",
+        b"beta=57000\nhold=0\npoints=0\nrank=12\nrank=11\nrank=13\n",
     );
     example_refuses(
         b"order 11, 13, 12",
         true,
-        b"beta=57000\nhold=0\nrank=11\nrank=13\nrank=12\n",
+        b"beta=57000\nhold=0\npoints=0\nrank=11\nrank=13\nrank=12\n",
         7,
         3,
     );
     example_refuses(
         b"rank of no task",
         true,
-        b"beta=57000\nhold=0\nrank=12\nrank=14\nrank=13\n",
+        b"beta=57000\nhold=0\npoints=0\nrank=12\nrank=14\nrank=13\n",
         6,
-        26,
+        29,
     );
     example_refuses(
         b"rank named twice",
         true,
-        b"beta=57000\nhold=0\nrank=12\nrank=13\nrank=12\n",
+        b"beta=57000\nhold=0\npoints=0\nrank=12\nrank=13\nrank=12\n",
         6,
-        27,
+        30,
     );
-    example_refuses(b"ranks missing", true, b"beta=57000\nhold=0\n", 1, 25);
+    example_refuses(
+        b"ranks missing",
+        true,
+        b"beta=57000\nhold=0\npoints=0\n",
+        1,
+        28,
+    );
 }
 
 fn line_cases() {
@@ -244,14 +265,14 @@ fn row_plans() {
     plans(
         b"worst = period = 10",
         false,
-        b"board=7\ntasks=1\nswitch=0\ntask=5\nperiod=10\nworst=10\nbest=10\nalpha=1000\nbeta=10000\nhold=0\n",
+        b"board=7\ntasks=1\nswitch=0\ntask=5\nperiod=10\nworst=10\nbest=10\nalpha=1000\nbeta=10000\nhold=0\npoints=0\n",
         b"plan=1\nboard=7\ntasks=1\nrank=1\ntask=5\nbest=10\nworst=10\njitter=0\nmargin=0\n",
         72,
     );
     plans(
         b"worst = period = 1000000",
         false,
-        b"board=7\ntasks=1\nswitch=0\ntask=5\nperiod=1000000\nworst=1000000\nbest=1\nalpha=1000\nbeta=1000000001\nhold=0\n",
+        b"board=7\ntasks=1\nswitch=0\ntask=5\nperiod=1000000\nworst=1000000\nbest=1\nalpha=1000\nbeta=1000000001\nhold=0\npoints=0\n",
         b"plan=1\nboard=7\ntasks=1\nrank=1\ntask=5\nbest=1\nworst=1000000\njitter=999999\nmargin=1\n",
         81,
     );
@@ -282,9 +303,9 @@ fn row_refusals() {
     refuses(
         b"a task number used before",
         false,
-        b"board=7\ntasks=2\nswitch=0\ntask=5\nperiod=10\nworst=9\nbest=1\nalpha=1000\nbeta=0\nhold=0\ntask=5\n",
+        b"board=7\ntasks=2\nswitch=0\ntask=5\nperiod=10\nworst=9\nbest=1\nalpha=1000\nbeta=0\nhold=0\npoints=0\ntask=5\n",
         5,
-        11,
+        12,
     );
 }
 
@@ -293,21 +314,21 @@ fn hold_cases() {
     plans(
         b"hold = worst = 10",
         false,
-        b"board=7\ntasks=1\nswitch=0\ntask=5\nperiod=10\nworst=10\nbest=10\nalpha=1000\nbeta=10000\nhold=10\n",
+        b"board=7\ntasks=1\nswitch=0\ntask=5\nperiod=10\nworst=10\nbest=10\nalpha=1000\nbeta=10000\nhold=10\npoints=0\n",
         b"plan=1\nboard=7\ntasks=1\nrank=1\ntask=5\nbest=10\nworst=10\njitter=0\nmargin=0\n",
         72,
     );
     refuses(
         b"hold = worst + 1",
         false,
-        b"board=7\ntasks=1\nswitch=0\ntask=5\nperiod=10\nworst=10\nbest=10\nalpha=1000\nbeta=10000\nhold=11\n",
+        b"board=7\ntasks=1\nswitch=0\ntask=5\nperiod=10\nworst=10\nbest=10\nalpha=1000\nbeta=10000\nhold=11\npoints=0\n",
         4,
         10,
     );
     refuses(
         b"hold = 1000001",
         false,
-        b"board=7\ntasks=1\nswitch=0\ntask=5\nperiod=10\nworst=10\nbest=10\nalpha=1000\nbeta=10000\nhold=1000001\n",
+        b"board=7\ntasks=1\nswitch=0\ntask=5\nperiod=10\nworst=10\nbest=10\nalpha=1000\nbeta=10000\nhold=1000001\npoints=0\n",
         3,
         10,
     );
@@ -325,7 +346,7 @@ fn switch_cases() {
     plans(
         b"worst + switch = period = 10",
         false,
-        b"board=7\ntasks=1\nswitch=3\ntask=5\nperiod=10\nworst=7\nbest=7\nalpha=1000\nbeta=10000\nhold=0\n",
+        b"board=7\ntasks=1\nswitch=3\ntask=5\nperiod=10\nworst=7\nbest=7\nalpha=1000\nbeta=10000\nhold=0\npoints=0\n",
         b"plan=1\nboard=7\ntasks=1\nrank=1\ntask=5\nbest=7\nworst=10\njitter=3\nmargin=0\n",
         71,
     );
@@ -353,9 +374,48 @@ fn switch_cases() {
     refuses(
         b"no switch",
         false,
-        b"board=7\ntasks=1\ntask=5\nperiod=10\nworst=10\nbest=10\nalpha=1000\nbeta=10000\nhold=0\n",
+        b"board=7\ntasks=1\ntask=5\nperiod=10\nworst=10\nbest=10\nalpha=1000\nbeta=10000\nhold=0\npoints=0\n",
         1,
         3,
+    );
+}
+
+// One task whose line refuses it, with other curves.
+fn curve_cases() {
+    plans(
+        b"a curve that permits a third of a tick more",
+        false,
+        b"board=7\ntasks=1\nswitch=0\ntask=5\nperiod=10\nworst=10\nbest=7\nalpha=1000\nbeta=0\nhold=0\npoints=2\ndelay=6\nallow=4\ndelay=9\nallow=3\n",
+        b"plan=1\nboard=7\ntasks=1\nrank=1\ntask=5\nbest=7\nworst=10\njitter=3\nmargin=666\n",
+        73,
+    );
+    plans(
+        b"the same a tick lower, reviewed",
+        true,
+        b"board=7\ntasks=1\nswitch=0\ntask=5\nperiod=10\nworst=10\nbest=7\nalpha=1000\nbeta=0\nhold=0\npoints=2\ndelay=6\nallow=3\ndelay=9\nallow=2\nrank=5\n",
+        b"plan=1\nboard=7\ntasks=1\nrank=1\ntask=5\nbest=7\nworst=10\njitter=3\nmargin=-334\n",
+        74,
+    );
+    refuses(
+        b"E past the last delay",
+        false,
+        b"board=7\ntasks=1\nswitch=0\ntask=5\nperiod=10\nworst=10\nbest=7\nalpha=1000\nbeta=20000\nhold=0\npoints=1\ndelay=6\nallow=10\n",
+        8,
+        0,
+    );
+    refuses(
+        b"a delay not above the one before it",
+        false,
+        b"board=7\ntasks=1\nswitch=0\ntask=5\nperiod=10\nworst=10\nbest=7\nalpha=1000\nbeta=0\nhold=0\npoints=2\ndelay=6\nallow=4\ndelay=6\n",
+        11,
+        14,
+    );
+    refuses(
+        b"an allow above the one before it",
+        false,
+        b"board=7\ntasks=1\nswitch=0\ntask=5\nperiod=10\nworst=10\nbest=7\nalpha=1000\nbeta=0\nhold=0\npoints=2\ndelay=6\nallow=4\ndelay=9\nallow=5\n",
+        11,
+        15,
     );
 }
 
@@ -367,4 +427,5 @@ fn main() {
     row_refusals();
     hold_cases();
     switch_cases();
+    curve_cases();
 }

@@ -12,8 +12,8 @@ use Rattle.text.specs.Buffers.{Wrote}
 use Rattle.text.specs.inside.Puts.{Put}
 use Rattle.text.proofs.Puts.{wrote-front}
 use Rattle.rows.specs.Rows.{inRange, allRows}
-use Rattle.rows.specs.declared.Row.{Row}
-use Rattle.analysis.specs.inside.Columns.{columnsMax}
+use Rattle.rows.specs.Rows.{Row}
+use Rattle.fixed_points.specs.inside.Loads.{columnsMax}
 use Rattle.plans.specs.Entries.{entries, firstLate}
 use Rattle.plans.specs.Plans.{headText, rankTexts, planText, roomFor, mostRanks}
 use Rattle.plans.specs.Outcomes.{fitted, planOf, ifInTime}

@@ -13,13 +13,14 @@ use Rattle.text.specs.Text.{joined}
 use Rattle.text.specs.inside.Puts.{Put}
 use Rattle.text.proofs.Puts.{begins, next, ends}
 use Rattle.rows.specs.Rows.{inRange, allRows, noRow, rowAt}
-use Rattle.rows.specs.declared.Row.{Row}
+use Rattle.rows.specs.Rows.{Row}
 use Rattle.rows.proofs.Limits.{at-passes, front-passes, rest-passes, all-times}
 use Rattle.responses.proofs.Blocking.{blocking-max}
 use Rattle.responses.specs.declared.Figures.{Figures}
 use Rattle.responses.specs.Figures.{rowsAbove, rowsBelow, blocking, isLate, latest, earliest, margin}
 use Rattle.responses.specs.Figures.{lateFigures, figuresAt, figuresUnder}
-use Rattle.analysis.specs.inside.Columns.{columnsMax, Filled, UnderColumns, FiguresIn}
+use Rattle.fixed_points.specs.inside.Loads.{columnsMax}
+use Rattle.analysis.specs.inside.Columns.{Filled, UnderColumns, FiguresIn}
 use Rattle.analysis.proofs.Columns.{filled-front}
 use Rattle.plans.specs.declared.Entry.{Entry}
 use Rattle.plans.specs.Entries.{entry, entries, noEntry, lateFrom, firstLate}

@@ -20,7 +20,8 @@ use plan_lines::put_refusal;
 use plans::Answer;
 use plans::Entry;
 use rows::MAX_TASKS;
-use rows::row_at;
+use rows::TASK;
+use rows::number_at;
 use text::put_bytes;
 
 // Room for the lines before a plan's ranks.
@@ -67,15 +68,16 @@ fn put_ranks(
     let mut end = at;
     let mut i = 0;
     while i < n {
-        let row = row_at(rows, positions[i]);
+        let row = positions[i];
         let blocked = blocking_from(rows, positions, i + 1, n);
-        let figures = figures_under(row, blocked, columns, n, i);
+        let figures = figures_under(rows, row, blocked, columns, n, i);
         if figures.late {
             let rank = i as u32 + 1;
             return RanksPut { late: rank, end };
         }
+        let task = number_at(rows, row, TASK) as u32;
         let entry = Entry {
-            task: row.task,
+            task,
             best: figures.best,
             worst: figures.worst,
             jitter: figures.jitter,
@@ -106,7 +108,8 @@ fn put_plan(
     put_ranks(text, at, rows, positions, n, columns)
 }
 
-// The first late rank of an order, counted from 1; 0 for none. Its plan is found as far as that rank, and is not wanted.
+// The first late rank of an order, counted from 1; 0 for none. Its plan is found as far as that rank, and is not
+// wanted.
 pub fn late_rank(rows: &[u64], positions: &[usize], n: usize) -> u32
     requires { ⌜ (n ≤ maxTasks) × Ordered (now rows) (now positions) n ⌝ }
     ensures { λ r. ⌜ r ≡ firstLate (rowsIn (now (rows .entry)) (take n (now (positions .entry)))) ⌝ }

@@ -8,16 +8,19 @@ use Prim.Native.Nat.{ℕ, zero, suc, _+_, _*_, _≤_, _<_}
 use native.Mathlib.Nat.{mul-le-mul}
 use native.Mathlib.Omega.{arith}
 use lib.Dec.{ltb}
-use lib.IntN.{ℤ, pos, negsuc, subℕ}
+use lib.IntN.{ℤ, pos, negsuc, subℕ, natAbs}
 use lib.ListN.{length, getD, take, drop}
 use lib.Seq.{append-snoc}
 use borrow.Author.Tests.{ltb-true}
 use Rattle.basics.proofs.Tests.{test-of, le-or-lt}
+use Rattle.curves.specs.Curves.{curveMargin}
+use Rattle.curves.specs.Claims.{maxMargin}
 use Rattle.rows.specs.Rows.{maxTask, minTicks, maxTicks, maxAlpha, maxBeta, inRange, allRows, noRow}
-use Rattle.rows.specs.declared.Row.{Row}
+use Rattle.rows.specs.Rows.{Row}
 use Rattle.rows.proofs.Limits.{limits, in-range-times, all-times}
 use Rattle.responses.specs.Figures.{rowsAbove, rowsBelow, earliest, latest, isLate, jitter, margin}
 use Rattle.responses.specs.Claims.{spent, SameFigures}
+use Rattle.responses.proofs.Conditions.{line-margin, by-condition}
 use Rattle.responses.proofs.Responses.{figured}
 use Rattle.plans.specs.declared.Entry.{Entry}
 use Rattle.plans.specs.Entries.{entry, entriesFrom, entries, lateFrom, firstLate}
@@ -151,6 +154,11 @@ difference-in beta spent most few = elim (test-of (ltb beta spent)) [
   | inr e ↦ rw e (omega arith)
 ]
 
+-- that of a curve is smaller than both
+small-in : (m : ℤ) → natAbs m ≤ maxMargin → MarginIn m
+small-in (pos v) h = omega (arith, h)
+small-in (negsuc v) h = omega (arith, h)
+
 -- the numbers of an entry; W is E and the jitter together
 pub record InLimits (e : Entry) : Type 0 where
   pub task-in : e .task ≤ maxTask
@@ -177,7 +185,16 @@ entry-limits r above below hr ha l =
       best-in = some;
       worst-in = most;
       jitter-is = f .jitter-is l;
-      margin-in =
-          difference-in (r .beta) (spent r above below) (limit .beta .le-high)
-          (omega (arith, steep, some, most, f .jitter-is l));
+      margin-in = elim (le-or-lt 1 (length (r .curve))) [
+        | inl points ↦
+            let by = by-condition r above below hr .by-curve points in
+            subst MarginIn (sym (by .margin-is))
+            (small-in (curveMargin (r .curve) (latest r above below) (earliest r above below))
+            (by .margined .small most (omega (arith, f .jitter-is l))))
+        | inr none ↦
+            subst MarginIn (sym (line-margin (r .alpha) (r .beta) (latest r above below) (earliest r above below)
+            (r .curve) (omega (arith, none))))
+            (difference-in (r .beta) (spent r above below) (limit .beta .le-high)
+            (omega (arith, steep, some, most, f .jitter-is l)))
+      ];
     }

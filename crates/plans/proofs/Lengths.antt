@@ -14,7 +14,7 @@ use Rattle.text.specs.Text.{decimal, signed, joined}
 use Rattle.text.proofs.Decimals.{decimal-short}
 use Rattle.text.proofs.Spelling.{line-length}
 use Rattle.rows.specs.Rows.{minTicks, maxTicks, inRange, allRows, noRow}
-use Rattle.rows.specs.declared.Row.{Row}
+use Rattle.rows.specs.Rows.{Row}
 use Rattle.rows.proofs.Limits.{head-passes, tail-passes, append-passes}
 use Rattle.responses.specs.Figures.{rowsAbove, rowsBelow, isLate}
 use Rattle.plans.specs.declared.Entry.{Entry}

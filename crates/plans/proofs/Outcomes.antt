@@ -8,7 +8,7 @@ use lib.ListN.{length, take, drop}
 use lib.Seq.{take-append-seam, drop-append-seam}
 use borrow.Author.Tests.{le-leb, lt-leb}
 use Rattle.text.specs.Buffers.{Wrote}
-use Rattle.rows.specs.declared.Row.{Row}
+use Rattle.rows.specs.Rows.{Row}
 use Rattle.plans.specs.declared.Answer.{Answer}
 use Rattle.plans.specs.Entries.{firstLate}
 use Rattle.plans.specs.Plans.{refusalText}

@@ -4,7 +4,7 @@ use mathlib.Core.Bool.{true, false}
 use mathlib.Core.List.{List, [], _∷_, _++_}
 use Prim.Native.Nat.{ℕ, suc}
 use lib.IntN.{pos}
-use Rattle.rows.specs.declared.Row.{Row}
+use Rattle.rows.specs.Rows.{Row}
 use Rattle.responses.specs.Figures as Figures
 use Rattle.responses.specs.Figures.{isLate}
 use Rattle.plans.specs.declared.Entry.{Entry}

@@ -5,7 +5,7 @@ use mathlib.Core.List.{List, _++_}
 use Prim.Native.Nat.{ℕ, zero, suc}
 use lib.Dec.{leb}
 use lib.ListN.{length, drop}
-use Rattle.rows.specs.declared.Row.{Row}
+use Rattle.rows.specs.Rows.{Row}
 use Rattle.plans.specs.declared.Answer.{Answer}
 use Rattle.plans.specs.Entries.{entries, firstLate}
 use Rattle.plans.specs.Plans.{planText, refusalText}

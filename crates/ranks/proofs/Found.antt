@@ -11,13 +11,13 @@ use Rattle.basics.proofs.Tests.{true-not-false}
 use Rattle.rows.specs.Rows.{allTasks, tasksOf, rowsFor}
 use Rattle.rows.specs.inside.Arrays.{ranking, ranked}
 use Rattle.rows.specs.inside.Numbers.{rowsOf}
-use Rattle.rows.specs.declared.Row.{Row}
+use Rattle.rows.specs.Rows.{Row}
 use Rattle.rows.specs.declared.Order.{Order}
 use Rattle.rows.proofs.Tasks.{tasks-length}
 use Rattle.rows.proofs.Arrays.{ranked-are}
-use Rattle.tables.specs.declared.Reading.{Reading}
+use Rattle.readers.specs.declared.Reading.{Reading}
 use Rattle.tables.specs.TableLines.{TableRead, readTable}
-use Rattle.tables.specs.inside.Readings.{ReadAs}
+use Rattle.readers.specs.inside.Readings.{ReadAs}
 use Rattle.orders.specs.Stability.{chosenOrder}
 use Rattle.orders.specs.Orders.{Possible}
 use Rattle.orders.proofs.Possible.{possible-length}

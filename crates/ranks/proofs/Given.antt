@@ -11,16 +11,16 @@ use Rattle.basics.proofs.Tests.{and-right}
 use Rattle.rows.specs.Rows.{allTasks, rowsFor}
 use Rattle.rows.specs.inside.Arrays.{ranking, ranked}
 use Rattle.rows.specs.inside.Numbers.{rowsOf, TaskNumbers}
-use Rattle.rows.specs.declared.Row.{Row}
+use Rattle.rows.specs.Rows.{Row}
 use Rattle.rows.specs.declared.Order.{Order}
 use Rattle.rows.proofs.Tasks.{all-small}
 use Rattle.rows.proofs.Arrays.{ranked-are}
-use Rattle.tables.specs.declared.Reading.{Reading}
+use Rattle.readers.specs.declared.Reading.{Reading}
 use Rattle.tables.specs.TableLines.{TableRead, readTable}
 use Rattle.tables.specs.Claims.{Accepted}
-use Rattle.tables.specs.inside.Numbers.{rowStart, behind}
-use Rattle.tables.specs.inside.Readings.{ReadAs}
-use Rattle.tables.proofs.Tables.{ranks-counted}
+use Rattle.readers.specs.inside.Numbers.{rowStart, behind}
+use Rattle.readers.specs.inside.Readings.{ReadAs}
+use Rattle.readers.proofs.Tables.{ranks-counted}
 use Rattle.tables.proofs.Readings.{read}
 use Rattle.plans.specs.Outcomes.{ifInTime}
 use Rattle.demands.specs.Calls.{givenOrder, reviewed}

@@ -6,7 +6,7 @@ use native.Mathlib.Omega.{arith}
 use lib.ListN.{length, getD, take, drop}
 use lib.Seq.{length-take-le, getD-take}
 use Rattle.rows.specs.Rows.{inRange, allRows, allTasks, rowsFor}
-use Rattle.rows.specs.declared.Row.{Row}
+use Rattle.rows.specs.Rows.{Row}
 use Rattle.rows.specs.declared.Order.{Order}
 use Rattle.rows.specs.inside.Arrays.{ranked}
 use Rattle.rows.specs.inside.Numbers.{rowsOf, rowsIn, positionsFor, Below}

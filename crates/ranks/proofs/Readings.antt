@@ -7,13 +7,13 @@ use Prim.Native.Nat.{ℕ, _+_, _-_, _*_, _≤_}
 use native.Mathlib.Omega.{arith}
 use lib.ListN.{length, getD, take, drop, length-drop}
 use lib.Seq.{take-all}
-use Rattle.rows.specs.Rows.{maxTasks, fieldCount, inRange, allRows}
-use Rattle.rows.specs.inside.Numbers.{rowsOf}
-use Rattle.rows.specs.declared.Row.{Row}
-use Rattle.tables.specs.declared.Reading.{Reading}
+use Rattle.rows.specs.Rows.{maxTasks, inRange, allRows}
+use Rattle.rows.specs.inside.Numbers.{fieldCount, rowsOf}
+use Rattle.rows.specs.Rows.{Row}
+use Rattle.readers.specs.declared.Reading.{Reading}
 use Rattle.tables.specs.TableLines.{TableRead, readTable, maxBoard}
-use Rattle.tables.specs.inside.Numbers.{headCount}
-use Rattle.tables.specs.inside.Readings.{ReadAs}
+use Rattle.readers.specs.inside.Numbers.{headCount}
+use Rattle.readers.specs.inside.Readings.{ReadAs}
 use Rattle.tables.specs.Claims.{Accepted}
 use Rattle.tables.proofs.Readings.{read}
 use Rattle.search.specs.inside.Search.{TableRows, Lent}

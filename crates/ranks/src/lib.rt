@@ -6,7 +6,7 @@ ghost use Rattle.text.specs.Buffers.{Wrote};
 ghost use Rattle.rows.specs.Rows.{rowsFor};
 ghost use Rattle.rows.specs.inside.Arrays.{ranked};
 ghost use Rattle.rows.specs.inside.Numbers.{rowsOf};
-ghost use Rattle.tables.specs.inside.Numbers.{Room};
+ghost use Rattle.readers.specs.inside.Numbers.{Room};
 ghost use Rattle.plans.specs.Outcomes.{ifInTime, Written};
 ghost use Rattle.demands.specs.Calls.{plannerPrints, reviewerPrints};
 ghost use Rattle.demands.specs.Demands.{PlanSays, ReviewSays};
@@ -17,18 +17,19 @@ pub use plan_orders::buffer;
 use plan_orders::plan_order;
 use plan_orders::printed;
 pub use plans::Answer;
+use readers::BOARD;
+use readers::FEW_NUMBERS;
+use readers::HEAD;
+use readers::MOST_NUMBERS;
+use readers::SOME_NUMBERS;
+use readers::fits_in;
+use readers::read_table;
 use rows::FIELDS;
 use rows::MAX_TASKS;
 use rows::Order;
 use rows::order_at;
 use rows::positions_for;
 use search::choose;
-use tables::BOARD;
-use tables::FEW_NUMBERS;
-use tables::HEAD;
-use tables::MOST_NUMBERS;
-use tables::is_short;
-use tables::read_table;
 
 // The plan of n rows in an order of their tasks.
 fn plan_tasks(out: &mut [u8], board: u16, rows: &[u64], n: usize, order: Order) -> Answer
@@ -68,9 +69,13 @@ fn plan_text(text: &[u8], out: &mut [u8], numbers: &mut [u64]) -> Answer
 pub fn write_plan(text: &[u8], out: &mut [u8]) -> Answer
     ensures { λ r. ⌜ PlanSays (now (text .entry)) (now (out .entry)) (now (out .exit)) r ⌝ }
 {
-    if is_short(text) {
+    if fits_in(text, FEW_NUMBERS) {
         let mut few = [0u64; FEW_NUMBERS];
         return plan_text(text, out, &mut few);
+    }
+    if fits_in(text, SOME_NUMBERS) {
+        let mut some = [0u64; SOME_NUMBERS];
+        return plan_text(text, out, &mut some);
     }
     let mut numbers = [0u64; MOST_NUMBERS];
     plan_text(text, out, &mut numbers)
@@ -97,9 +102,13 @@ fn review_text(text: &[u8], out: &mut [u8], numbers: &mut [u64]) -> Answer
 pub fn review_order(text: &[u8], out: &mut [u8]) -> Answer
     ensures { λ r. ⌜ ReviewSays (now (text .entry)) (now (out .entry)) (now (out .exit)) r ⌝ }
 {
-    if is_short(text) {
+    if fits_in(text, FEW_NUMBERS) {
         let mut few = [0u64; FEW_NUMBERS];
         return review_text(text, out, &mut few);
+    }
+    if fits_in(text, SOME_NUMBERS) {
+        let mut some = [0u64; SOME_NUMBERS];
+        return review_text(text, out, &mut some);
     }
     let mut numbers = [0u64; MOST_NUMBERS];
     review_text(text, out, &mut numbers)

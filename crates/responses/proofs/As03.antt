@@ -11,9 +11,10 @@ use native.Mathlib.Omega.{arith}
 use borrow.Author.Tests.{ltb-true, ltb-false, eqb-true, eqb-false, leb-true, leb-false, lt-ltb, le-ltb}
 use lib.Dec.{eqb, ltb, leb}
 use lib.IntN.{ℤ, pos, negsuc, subℕ}
+use lib.ListN.{length}
 use lib.Signed.{leZ}
 use Rattle.rows.specs.Rows.{timesInRange, allRows}
-use Rattle.rows.specs.declared.Row.{Row}
+use Rattle.rows.specs.Rows.{Row}
 use Rattle.rows.proofs.Limits.{times}
 use Rattle.responses.specs.declared.Figures.{Figures}
 use Rattle.responses.specs.Extremes.{largest}
@@ -22,7 +23,8 @@ use Rattle.basics.specs.Basics.{pick}
 use Rattle.basics.proofs.Tests.{test-of}
 use Rattle.responses.specs.Figures.{bestLoad, bestIn}
 use Rattle.responses.specs.Figures as F
-use Rattle.responses.proofs.Margins.{not-below-zero}
+use Rattle.curves.proofs.Floors.{sub-sign}
+use Rattle.responses.proofs.Conditions.{line-margin}
 use Rattle.responses.proofs.FixedPoints.{demand-mono, least-is, least-none, largest-is}
 use Rattle.responses.specs.Claims.{plainLoad, NoneHolds, NoSwitch}
 use Rattle.responses.proofs.Switches.{cost-is}
@@ -170,13 +172,20 @@ module _ (t : Row) (rs below : List Row) (own : t .hold ≤ 1) (none : NoneHolds
   spent-is : cost t rs ≡ 1000 * F.earliest t rs below + t .alpha * F.jitter t rs below
   spent-is = ap₂ (λ (w e : ℕ). 1000 * e + t .alpha * (w - e)) latest-is earliest-is
 
-  pub margin-is : margin t rs ≡ F.margin t rs below
-  margin-is = less-is (t .beta) (cost t rs) ∙ ap (subℕ (t .beta)) spent-is
+  -- of a row without points
+  module _ (bare : length (t .curve) ≡ 0) where
+    by-line : subℕ (t .beta) (cost t rs) ≡ F.margin t rs below
+    by-line =
+        ap (subℕ (t .beta)) spent-is
+        ∙ sym (line-margin (t .alpha) (t .beta) (F.latest t rs below) (F.earliest t rs below) (t .curve) bare)
 
-  pub stable-is : isStable t rs ≡ F.isStable t rs below
-  stable-is =
-      ap₂ (λ (w : ℕ) (b : Bool). not (eqb w 0) && b) latest-is
-      (sym (not-below-zero (t .beta) (cost t rs)) ∙ ap (λ (c : ℕ). leZ (pos 0) (subℕ (t .beta) c)) spent-is)
+    pub margin-is : margin t rs ≡ F.margin t rs below
+    margin-is = less-is (t .beta) (cost t rs) ∙ by-line
+
+    pub stable-is : isStable t rs ≡ F.isStable t rs below
+    stable-is =
+        ap₂ (λ (w : ℕ) (b : Bool). not (eqb w 0) && b) latest-is
+        (sym (sub-sign (t .beta) (cost t rs)) ∙ ap (leZ (pos 0)) by-line)
 
 -- ---- what the call promises: 03's FiguresSay, with the task's range among the rest
 abbrev Say : Bool → Bool → ℕ → ℕ → ℕ → ℤ → Bool → Figures → Type 0
@@ -206,12 +215,12 @@ said true l false w w′ e e′ m m′ s h =
     rw (g .0, g .1, g .2, g .3, g .4) (refl, refl, refl, refl, refl, refl, refl)
 
 pub figures-say : (t : Row) (rs below : List Row) → t .hold ≤ 1 → NoneHolds below → t .switch ≡ 0 → NoSwitch rs
-    → FiguresSay t rs below (F.figuresOf t rs below)
-figures-say t rs below own none free others =
+    → length (t .curve) ≡ 0 → FiguresSay t rs below (F.figuresOf t rs below)
+figures-say t rs below own none free others bare =
     said (F.inLimits t rs below) (isLate t rs) (F.isLate t rs below) (latest t rs) (F.latest t rs below)
     (earliest t rs) (F.earliest t rs below) (margin t rs) (F.margin t rs below) (isStable t rs) (λ ok.
     let h = limits-times t rs below ok in
     let w = latest-is t rs below own none free others (h .0) (h .1) in
     let e = earliest-is t rs below own none free others (h .0) (h .1) in
-    let m = margin-is t rs below own none free others (h .0) (h .1) in
-    (ap (λ (x : ℕ). eqb x 0) w, w, e, m, stable-is t rs below own none free others (h .0) (h .1)))
+    let m = margin-is t rs below own none free others (h .0) (h .1) bare in
+    (ap (λ (x : ℕ). eqb x 0) w, w, e, m, stable-is t rs below own none free others (h .0) (h .1) bare))

@@ -11,7 +11,7 @@ use lib.ListN.{length, drop}
 use Rattle.basics.proofs.Tests.{le-or-lt}
 use Rattle.basics.proofs.Numbers.{larger-left, larger-right, larger-either, larger-most}
 use Rattle.rows.specs.Rows.{maxTicks, inRange, allRows, rowAt}
-use Rattle.rows.specs.declared.Row.{Row}
+use Rattle.rows.specs.Rows.{Row}
 use Rattle.rows.proofs.Limits.{limits, head-passes, tail-passes}
 use Rattle.responses.specs.Figures.{largestHold, blocking}
 use Rattle.responses.specs.Claims.{Blocks, NoneHolds}

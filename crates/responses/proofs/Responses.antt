@@ -13,7 +13,7 @@ use lib.IntN.{ℤ, pos}
 use lib.Signed.{leZ}
 use lib.ListN.{length}
 use Rattle.rows.specs.Rows.{cost, timesInRange, inRange, allRows}
-use Rattle.rows.specs.declared.Row.{Row}
+use Rattle.rows.specs.Rows.{Row}
 use Rattle.basics.specs.Basics.{pick}
 use Rattle.basics.proofs.Tests.{test-of, and-left, and-right, and-both, le-or-lt}
 use Rattle.rows.proofs.Limits.{times, in-range-times, head-passes, tail-passes, all-times}
@@ -21,9 +21,9 @@ use Rattle.responses.specs.Interference.{ceiling, leastFixed, largestFix
 use Rattle.responses.specs.Figures.{worstLoad, bestLoad, worstIn, bestIn, blocking, latest, isLate, earliest}
 use Rattle.responses.specs.Figures.{isStable, marginAt, margin, lateFigures, figuresAt, figuresUnder}
 use Rattle.responses.specs.Figures.{leastHold, mayHold, maxOthers, inLimits}
-use Rattle.responses.specs.Claims.{spent, Figured, plainLoad, WithoutEither, Demand-2}
+use Rattle.responses.specs.Claims.{Figured, plainLoad, WithoutEither, Demand-2}
 use Rattle.responses.proofs.Sums.{rounds-up}
-use Rattle.responses.proofs.Margins.{sub-is, not-below-zero}
+use Rattle.responses.proofs.Conditions.{by-condition, own-curve}
 use Rattle.responses.proofs.Blocking.{blocks, no-blocking}
 use Rattle.responses.proofs.Switches.{best-in-worst, by-numbers, without-switch, switch-grows}
 use Rattle.responses.proofs.FixedPoints.{least-fixed, least-least, largest-fixed, largest-above}
@@ -101,23 +101,8 @@ figured t above below ht ha = record {
       rw (earliest-formula t above below s) (largest-above (t .best) (latest t above below) (map bestLoad above) e f l);
   earliest-held = earliest-best t above below;
   jitter-is = λ h. omega (arith, known (in-time h) .earliest-latest);
-  margin-is = sym (sub-is (t .beta) (spent t above below));
-  stable-only = λ h. (
-    not-true late (and-left (not late) enough h),
-    leb-true (spent t above below) (t .beta)
-        (sym (not-below-zero (t .beta) (spent t above below)) ∙ and-right (not late) enough h),
-  );
-  stable-if = λ h l.
-      and-both (not late) enough (ap not h)
-      (not-below-zero (t .beta) (spent t above below) ∙ le-leb (spent t above below) (t .beta) l);
 }
   where
-    late : Bool
-    late = isLate t above below
-
-    enough : Bool
-    enough = leZ (pos 0) (margin t above below)
-
     in-time : isLate t above below ≡ false → 1 ≤ latest t above below
     in-time = not-late t above below
 
@@ -142,6 +127,8 @@ demand-2 = record {
   without-switch = without-switch;
   without-either = without-either;
   switch-grows = switch-grows;
+  by-condition = by-condition;
+  own-curve = own-curve;
 }
 
 -- ---- a row's figures as one answer

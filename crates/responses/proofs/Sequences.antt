@@ -15,7 +15,7 @@ use lib.ListN.{length}
 use Rattle.basics.specs.Basics.{pick, larger}
 use Rattle.basics.proofs.Numbers.{larger-swap}
 use Rattle.rows.specs.Rows.{cost, inRange, allRows, rowAt}
-use Rattle.rows.specs.declared.Row.{Row}
+use Rattle.rows.specs.Rows.{Row}
 use Rattle.responses.specs.declared.Figures.{Figures}
 use Rattle.responses.specs.Extremes.{smallest, largest}
 use Rattle.responses.specs.Interference.{ceiling, Load, interference}

@@ -13,16 +13,16 @@ use lib.Signed.{leZ}
 use Rattle.basics.specs.Basics.{pick, larger}
 use Rattle.basics.proofs.Tests.{test-of, le-or-lt, and-left, and-right, and-both}
 use Rattle.rows.specs.Rows as R
-use Rattle.rows.specs.Rows.{cost, withSwitch, timesInRange, allRows}
-use Rattle.rows.specs.declared.Row.{Row}
-use Rattle.rows.proofs.Limits.{times, head-passes, tail-passes}
+use Rattle.rows.specs.Rows.{cost, withSwitch, inRange, timesInRange, allRows}
+use Rattle.rows.specs.Rows.{Row}
+use Rattle.rows.proofs.Limits.{limits, times, in-range-times, head-passes, tail-passes}
 use Rattle.responses.specs.Interference.{ceiling, Load, interference, leastFixed, largestFixed}
 use Rattle.responses.specs.Figures.{worstLoad, bestLoad, worstIn, bestIn, largestHold, blocking, latest, isLate}
-use Rattle.responses.specs.Figures.{mayHold, earliest, margin, isStable}
+use Rattle.responses.specs.Figures.{mayHold, earliest, marginAt, margin, isStable}
 use Rattle.responses.specs.Claims.{switchedLoad, ByNumbers, plainLoad, NoSwitch, AsRequest2, WithoutSwitch}
 use Rattle.responses.specs.Claims.{switched, Grows, SwitchUpTo, SwitchGrows}
 use Rattle.responses.proofs.Blocking.{blocking-is}
-use Rattle.responses.proofs.Margins.{not-below-zero}
+use Rattle.responses.proofs.Conditions.{eased}
 use Rattle.responses.proofs.Sums.{Periods, interference-sum, in-proportion}
 use Rattle.responses.proofs.FixedPoints.{fixed-below, demand-mono, least-fixed, least-least, largest-fixed}
 use Rattle.responses.proofs.FixedPoints.{largest-above}
@@ -130,8 +130,11 @@ none-past best base w x rs ok some less is past solves =
         let fewer : suc w * suc y ≤ y * w = rw (one-less y, one-less w) at l in
         omega (arith, fewer, mul-comm y w)
 
-module _ (t : Row) (above below : List Row) (s : ℕ) (ht : timesInRange t ≡ true)
+module _ (t : Row) (above below : List Row) (s : ℕ) (in-range : inRange t ≡ true)
     (ha : allRows timesInRange above ≡ true) (own : t .switch ≤ s) (others : SwitchUpTo s above) where
+  ht : timesInRange t ≡ true
+  ht = in-range-times t in-range
+
   some : 1 ≤ cost t
   some = let l = times t ht in omega (arith, l .best-some, l .best-cost)
 
@@ -223,7 +226,7 @@ module _ (t : Row) (above below : List Row) (s : ℕ) (ht : timesInRange t ≡ t
       late : Bool
       late = isLate (withSwitch s t) (switched s above) (switched s below)
 
-      -- the same E and no greater W take no more from beta
+      -- at the same E no greater W is no less inside the condition
       stable-then : isStable (withSwitch s t) (switched s above) (switched s below) ≡ true
           → isStable t above below ≡ true
       stable-then h =
@@ -234,14 +237,12 @@ module _ (t : Row) (above below : List Row) (s : ℕ) (ht : timesInRange t ≡ t
           let timely = eqb-false after 0 (not-true late (and-left (not late) inside h)) in
           let l = no-less (omega (arith, timely)) in
           let same : e ≡ e′ = same-earliest (omega (arith, timely)) in
-          let spent : 1000 * e′ + t .alpha * (after - e′) ≤ t .beta =
-          leb-true _ (t .beta) (sym (not-below-zero (t .beta) (1000 * e′ + t .alpha * (after - e′)))
-          ∙ and-right (not late) inside h) in
-          let less : t .alpha * (w - e) ≤ t .alpha * (after - e′) = mul-le-mul-left (t .alpha) (omega (arith, l .1, same)) in
+          let least : w ≤ after = l .1 in
+          let here : leZ (pos 0) (marginAt t after e) ≡ true =
+          ap (λ (x : ℕ). leZ (pos 0) (marginAt t after x)) same ∙ and-right (not late) inside h in
           and-both (not (isLate t above below)) (leZ (pos 0) (margin t above below))
           (ap not (ne-eqb w 0 (λ z. omega (arith, z, l .0))))
-          (not-below-zero (t .beta) (1000 * e + t .alpha * (w - e))
-          ∙ le-leb (1000 * e + t .alpha * (w - e)) (t .beta) (omega (arith, spent, less, same)))
+          (eased (t .curve) (t .alpha) (t .beta) w after e (limits t in-range .curve) least here)
 
 pub switch-grows : SwitchGrows
-switch-grows t above below s ht ha own others = grows t above below s ht ha own others
+switch-grows t above below s ok ha own others = grows t above below s ok ha own others

@@ -1,21 +1,25 @@
 -- What is claimed of the figures: they are those of the published formulas (demand 2), the rows above and below count
--- as sets, those below by their blocking time alone; the switch counts beside each `worst` and nowhere else, and W never
--- falls when it grows; where it is 0 they are those before it, and where no job may hold the processor past a tick
--- either, document 01's.
+-- as sets, those below by their blocking time alone; a task is stable by its own curve, or by its line where it has
+-- none; the switch counts beside each `worst` and nowhere else, and W never falls when it grows; where it is 0 they are
+-- those before it, and where no job may hold the processor past a tick either, document 01's.
 use mathlib.Core.Path.{_≡_}
 use mathlib.Core.Bool.{true, false}
-use mathlib.Core.List.{List, map, Perm}
+use mathlib.Core.List.{List, [], map, Perm}
 use Prim.Native.Nat.{ℕ, _+_, _*_, _≤_, _<_}
 use lib.ListN.{length}
 use lib.IntN.{pos, _-ℤ_}
 use Rattle.basics.specs.Basics.{pick}
-use Rattle.rows.specs.Rows.{cost, rowAt, withSwitch, OneSwitch, timesInRange, allRows}
-use Rattle.rows.specs.declared.Row.{Row}
+use Rattle.curves.specs.Curves.{whole, permitted, lastDelay, curveMargin}
+use Rattle.curves.specs.Claims.{AtMost, Permits, Margined}
+use Rattle.rows.specs.Rows.{cost, rowAt, withSwitch, withCurve, OneSwitch, inRange, timesInRange, allRows}
+use Rattle.rows.specs.Rows.{Row}
+use Rattle.rows.specs.Numbers.{fieldCount, rowsOf, rowIn}
 use Rattle.responses.specs.declared.Figures.{Figures}
 use Rattle.responses.specs.Interference.{Load, load, ceiling, leastFixed, largestFixed}
+use Rattle.responses.specs.Figures.{rowsAbove, rowsBelow}
 use Rattle.responses.specs.Figures.{worstIn, bestIn, blocking, latest, isLate}
 use Rattle.responses.specs.Figures.{mayHold, earliest, jitter}
-use Rattle.responses.specs.Figures.{margin, isStable, inLimits, figuresOf}
+use Rattle.responses.specs.Figures.{margin, isStable, inLimits, noFigures, figuresOf}
 
 -- k is a / p rounded up: the fewest periods that cover a
 pub record RoundsUp (a p k : ℕ) : Type 0 where
@@ -27,10 +31,6 @@ pub record RoundsUp (a p k : ℕ) : Type 0 where
 pub record Blocks (rows : List Row) (b : ℕ) : Type 0 where
   pub covers : (i : ℕ) → i < length rows → rowAt rows i .hold ≤ b + 1
   pub reached : 1 ≤ b → (i : ℕ) × (i < length rows) × (rowAt rows i .hold ≡ b + 1)
-
--- what a margin is taken from beta
-abbrev pub spent : Row → List Row → List Row → ℕ
-spent t above below = 1000 * earliest t above below + t .alpha * jitter t above below
 
 -- the figures of a task are those of the formulas
 pub record Figured (t : Row) (above below : List Row) : Type 0 where
@@ -56,14 +56,8 @@ pub record Figured (t : Row) (above below : List Row) : Type 0 where
       → e ≤ earliest t above below
   -- that of any other is its best time
   pub earliest-held : 2 ≤ t .hold → earliest t above below ≡ t .best
-  -- jitter and margin
   pub jitter-is :
       isLate t above below ≡ false → earliest t above below + jitter t above below ≡ latest t above below
-  pub margin-is : margin t above below ≡ pos (t .beta) -ℤ pos (spent t above below)
-  -- stable: not late, and a margin of 0 or more
-  pub stable-only :
-      isStable t above below ≡ true → (isLate t above below ≡ false) × (spent t above below ≤ t .beta)
-  pub stable-if : isLate t above below ≡ false → spent t above below ≤ t .beta → isStable t above below ≡ true
 
 -- two lists of rows above, and two of rows below, give a task the same figures
 pub record SameFigures (t : Row) (above above′ below below′ : List Row) : Type 0 where
@@ -85,6 +79,51 @@ abbrev pub ByBlocking : Type 0
 ByBlocking =
     (t : Row) (above below below′ : List Row) → blocking below ≡ blocking below′
     → SameFigures t above above below below′
+
+-- ---- stable or not
+-- what the line takes: beta less this is the margin
+abbrev pub spent : Row → List Row → List Row → ℕ
+spent t above below = 1000 * earliest t above below + t .alpha * jitter t above below
+
+-- by its line: document 01's condition
+pub record ByLine (t : Row) (above below : List Row) : Type 0 where
+  pub margin-is : margin t above below ≡ pos (t .beta) -ℤ pos (spent t above below)
+  pub stable-only :
+      isStable t above below ≡ true → (isLate t above below ≡ false) × (spent t above below ≤ t .beta)
+  pub stable-if : isLate t above below ≡ false → spent t above below ≤ t .beta → isStable t above below ≡ true
+
+-- by its curve: E is at or below the last delay, and the jitter at or below what is permitted at E, as fractions and
+-- not by the rounded margin
+pub record ByCurve (t : Row) (above below : List Row) : Type 0 where
+  pub permits : Permits (t .curve)
+  pub margin-is : margin t above below ≡ curveMargin (t .curve) (latest t above below) (earliest t above below)
+  pub margined : Margined (t .curve) (latest t above below) (earliest t above below)
+  pub stable-only :
+      isStable t above below ≡ true
+      → (isLate t above below ≡ false) × (earliest t above below ≤ lastDelay (t .curve))
+      × AtMost (whole (jitter t above below)) (permitted (t .curve) (earliest t above below))
+  pub stable-if :
+      isLate t above below ≡ false → earliest t above below ≤ lastDelay (t .curve)
+      → AtMost (whole (jitter t above below)) (permitted (t .curve) (earliest t above below))
+      → isStable t above below ≡ true
+
+-- with no points its line holds, and its curve otherwise
+pub record ByCondition (t : Row) (above below : List Row) : Type 0 where
+  pub by-line : length (t .curve) ≡ 0 → ByLine t above below
+  pub by-curve : 1 ≤ length (t .curve) → ByCurve t above below
+
+-- a curve counts for its own task alone, and for nothing of it but margin and stable
+abbrev pub uncurved : List Row → List Row
+uncurved rows = map (withCurve []) rows
+
+pub record CurveCounts (t : Row) (above below : List Row) : Type 0 where
+  pub others : SameFigures t above (uncurved above) below (uncurved below)
+  pub latest-same : latest t above below ≡ latest (withCurve [] t) above below
+  pub earliest-same : earliest t above below ≡ earliest (withCurve [] t) above below
+  pub late-same : isLate t above below ≡ isLate (withCurve [] t) above below
+
+abbrev pub OwnCurve : Type 0
+OwnCurve = (t : Row) (above below : List Row) → CurveCounts t above below
 
 -- ---- W and E by the numbers of the rows: the switch stands beside each `worst`, and nowhere else
 abbrev pub switchedLoad : Row → Load
@@ -133,8 +172,8 @@ WithoutEither =
     (t : Row) (above below : List Row) → t .switch ≡ 0 → NoSwitch above
     → t .hold ≤ 1 → NoneHolds below → AsDocument01 t above below
 
--- ---- under a switch that is no less a late task stays late; of one that is not late there W does not fall and E is the
--- same, and where it is stable there, it is stable here
+-- ---- under a switch that is no less a late task stays late; of one that is not late there W does not fall and E is
+-- the same, and where it is stable there, it is stable here
 abbrev pub switched : ℕ → List Row → List Row
 switched s rows = map (withSwitch s) rows
 
@@ -156,7 +195,7 @@ SwitchUpTo s rows = (i : ℕ) → i < length rows → rowAt rows i .switch ≤ s
 
 abbrev pub SwitchGrows : Type 0
 SwitchGrows =
-    (t : Row) (above below : List Row) (s : ℕ) → timesInRange t ≡ true → allRows timesInRange above ≡ true
+    (t : Row) (above below : List Row) (s : ℕ) → inRange t ≡ true → allRows timesInRange above ≡ true
     → t .switch ≤ s → SwitchUpTo s above → Grows t above below s
 
 pub record Demand-2 : Type 0 where
@@ -168,12 +207,15 @@ pub record Demand-2 : Type 0 where
   pub without-switch : WithoutSwitch
   pub without-either : WithoutEither
   pub switch-grows : SwitchGrows
+  pub by-condition : (t : Row) (above below : List Row) → inRange t ≡ true → ByCondition t above below
+  pub own-curve : OwnCurve
 
 -- ---- what a call that answers a row's figures promises
 pub record FiguresSay (t : Row) (above below : List Row) (x : Figures) : Type 0 where
   pub answer : x ≡ figuresOf t above below
   -- demand 2, of these very rows, each with its own switch
   pub by-formulas : inLimits t above below ≡ true → Figured t above below
+  pub by-condition : inLimits t above below ≡ true → ByCondition t above below
   pub by-numbers : ByNumbers t above below
   -- under a greater switch no W falls and no E changes
   pub switch-grows :
@@ -185,3 +227,12 @@ pub record FiguresSay (t : Row) (above below : List Row) (x : Figures) : Type 0 
   pub by-blocking :
       (below′ : List Row) → blocking below ≡ blocking below′ → inLimits t above below ≡ inLimits t above below′
       → x ≡ figuresOf t above below′
+
+-- and one that takes the rows of an order as numbers, highest first: the figures of row i of n; where the numbers hold
+-- no such row, none
+pub record RowFigures (ns : List ℕ) (n i : ℕ) (x : Figures) : Type 0 where
+  pub held :
+      fieldCount * n ≤ length ns → i < n
+      → FiguresSay (rowIn ns i) (rowsAbove (rowsOf n ns) i) (rowsBelow (rowsOf n ns) i) x
+  pub not-held : length ns < fieldCount * n → x ≡ noFigures
+  pub no-such-row : n ≤ i → x ≡ noFigures

@@ -7,8 +7,9 @@ use lib.IntN.{ℤ, pos, subℕ}
 use lib.ListN.{length, take, drop}
 use lib.Signed.{leZ}
 use Rattle.basics.specs.Basics.{pick, larger}
+use Rattle.curves.specs.Curves.{Point, curveMargin}
 use Rattle.rows.specs.Rows.{maxTasks, cost, inRange, allRows}
-use Rattle.rows.specs.declared.Row.{Row}
+use Rattle.rows.specs.Rows.{Row}
 use Rattle.responses.specs.declared.Figures.{Figures}
 use Rattle.responses.specs.Interference.{Load, load, interference, leastFixed, largestFixed}
 
@@ -66,14 +67,23 @@ earliest t above below =
 abbrev pub jitter : Row → List Row → List Row → ℕ
 jitter t above below = latest t above below - earliest t above below
 
--- how far responses w and e of a task are inside its stability line
+-- how far responses w and e are inside the stability line of alpha and beta (the linear stability condition)
+abbrev pub lineMargin : ℕ → ℕ → ℕ → ℕ → ℤ
+lineMargin alpha beta w e = subℕ beta (1000 * e + alpha * (w - e))
+
+-- inside a curve, or with no points the line
+abbrev pub marginBy : List Point → ℕ → ℕ → ℕ → ℕ → ℤ
+marginBy [] alpha beta w e = lineMargin alpha beta w e
+marginBy (p ∷ ps) alpha beta w e = curveMargin (p ∷ ps) w e
+
+-- inside the stability condition of a task
 abbrev pub marginAt : Row → ℕ → ℕ → ℤ
-marginAt t w e = subℕ (t .beta) (1000 * e + t .alpha * (w - e))
+marginAt t w e = marginBy (t .curve) (t .alpha) (t .beta) w e
 
 abbrev pub margin : Row → List Row → List Row → ℤ
 margin t above below = marginAt t (latest t above below) (earliest t above below)
 
--- stable: not late, and the linear stability condition holds
+-- stable: not late, and the stability condition holds
 abbrev pub isStable : Row → List Row → List Row → Bool
 isStable t above below = not (isLate t above below) && leZ (pos 0) (margin t above below)
 

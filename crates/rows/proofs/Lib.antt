@@ -1,5 +1,4 @@
--- What a row in range says; the tasks of some rows; rows as numbers; lists in arrays; what walks over a lent slice of
--- rows share.
+-- What a row in range says; the tasks of some rows; rows as numbers; lists in arrays; what walks share.
 pub mod Limits
 pub mod Tasks
 pub mod RowNumbers

@@ -9,10 +9,11 @@ use lib.ListN.{length, getD, take, drop}
 use borrow.Author.Tests.{leb-true, le-leb}
 use Rattle.basics.specs.Basics.{within}
 use Rattle.basics.proofs.Tests.{and-left, and-right, and-both, Within, within-true}
-use Rattle.rows.specs.declared.Row.{Row}
+use Rattle.rows.specs.Rows.{Row}
 use Rattle.rows.specs.Rows.{minTask, maxTask, minTicks, maxTicks, minAlpha, maxAlpha, minBeta, maxBeta}
 use Rattle.rows.specs.Rows.{minHold, maxHold, minSwitch, maxSwitch}
-use Rattle.rows.specs.Rows.{cost, inRange, timesInRange, allRows, noRow}
+use Rattle.rows.specs.Rows.{cost, numbersInRange, inRange, timesInRange, allRows, noRow}
+use Rattle.curves.specs.Curves.{wellFormed}
 
 -- ---- every limit
 pub record Limits (r : Row) : Type 0 where
@@ -27,9 +28,11 @@ pub record Limits (r : Row) : Type 0 where
   pub cost-period : cost r ≤ r .period
   pub best-worst : r .best ≤ r .worst
   pub hold-worst : r .hold ≤ r .worst
+  pub curve : wellFormed (r .curve) ≡ true
 
 pub limits : (r : Row) → inRange r ≡ true → Limits r
-limits r h₁₁ =
+limits r h =
+    let h₁₁ = and-left (numbersInRange r) (wellFormed (r .curve)) h in
     let t₁ = within minTask maxTask (r .task) in
     let t₂ = within minTicks maxTicks (r .period) in
     let t₃ = within minTicks maxTicks (r .worst) in
@@ -64,6 +67,7 @@ limits r h₁₁ =
           leb-true (r .best) (r .worst) (and-right (t₁ && t₂ && t₃ && t₄ && t₅ && t₆ && t₇ && t₈ && t₉) t₁₀ h₁₀);
       hold-worst =
           leb-true (r .hold) (r .worst) (and-right (t₁ && t₂ && t₃ && t₄ && t₅ && t₆ && t₇ && t₈ && t₉ && t₁₀) t₁₁ h₁₁);
+      curve = and-right (numbersInRange r) (wellFormed (r .curve)) h;
     }
 
 pub in-range : (r : Row) → Limits r → inRange r ≡ true
@@ -88,6 +92,7 @@ in-range r h =
       le-leb _ _ (h .cost-period),
       le-leb _ _ (h .best-worst),
       le-leb _ _ (h .hold-worst),
+      h .curve,
     )
 
 -- ---- the times: a job takes from the best to the cost, and fits its period

@@ -10,7 +10,7 @@ use lib.ListN.{length, getD, take, drop, length-map}
 use lib.Seq.{length-take-le, take-append-seam}
 use borrow.Author.Tests.{eqb-true}
 use Rattle.basics.proofs.Tests.{never, and-left, and-right, and-both, or-cases, Within}
-use Rattle.rows.specs.declared.Row.{Row}
+use Rattle.rows.specs.Rows.{Row}
 use Rattle.rows.specs.Rows.{minTask, maxTask, noRow, inRange, allRows, tasksOf, hasTask, positionOf}
 use Rattle.rows.specs.Rows.{rowFor, rowsFor, rowAt, allTasks}
 use Rattle.rows.specs.inside.Numbers.{rowsAt, positionsFor, Below, TaskNumbers}

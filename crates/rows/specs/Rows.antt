@@ -2,11 +2,11 @@
 use mathlib.Core.Path.{_≡_}
 use mathlib.Core.Bool.{Bool, true, false, _&&_}
 use mathlib.Core.List.{List, [], _∷_}
-use Prim.Native.Nat.{ℕ, suc, _+_, _<_}
+use Prim.Native.Nat.{ℕ, suc, _+_, _*_, _<_}
 use lib.Dec.{eqb, leb}
-use lib.ListN.{length, getD}
+use lib.ListN.{length, getD, drop}
 use Rattle.basics.specs.Basics.{within, isIn, distinct}
-use Rattle.rows.specs.declared.Row.{Row}
+use Rattle.curves.specs.Curves.{Point, pointsFrom, wellFormed}
 
 -- task numbers
 abbrev pub minTask : ℕ
@@ -61,9 +61,24 @@ maxTasks = 16
 abbrev pub maxBuffer : ℕ
 maxBuffer = 65536
 
--- a row of eight numbers, those of its lines and the switch of its table; what stands past the rows that count
-abbrev pub row : ℕ → ℕ → ℕ → ℕ → ℕ → ℕ → ℕ → ℕ → Row
-row t p w b a e h s = record {
+-- ---- a task's row. Times are in ticks, alpha in thousandths, beta in thousandths of a tick. A job of it may keep the
+-- processor for a stretch of at most `hold` ticks, and its board spends `switch` ticks when it first gets it. Where it
+-- has a curve, that is its stability condition, and else the line of alpha and beta
+pub record Row : Type 0 where
+  pub task : ℕ
+  pub period : ℕ
+  pub worst : ℕ
+  pub best : ℕ
+  pub alpha : ℕ
+  pub beta : ℕ
+  pub hold : ℕ
+  pub switch : ℕ
+  pub curve : List Point
+
+-- a row of eight numbers, those of its lines and the switch of its table, with a curve and without one; what stands
+-- past the rows that count
+abbrev pub rowWith : List Point → ℕ → ℕ → ℕ → ℕ → ℕ → ℕ → ℕ → ℕ → Row
+rowWith c t p w b a e h s = record {
   task = t;
   period = p;
   worst = w;
@@ -72,12 +87,16 @@ row t p w b a e h s = record {
   beta = e;
   hold = h;
   switch = s;
+  curve = c;
 }
+
+abbrev pub row : ℕ → ℕ → ℕ → ℕ → ℕ → ℕ → ℕ → ℕ → Row
+row = rowWith []
 
 abbrev pub noRow : Row
 noRow = row 0 0 0 0 0 0 0 0
 
--- ---- a row as its numbers: where each stands among them
+-- ---- a row as the numbers of its lines: where each stands among them
 abbrev pub taskAt : ℕ
 taskAt = 0
 
@@ -99,21 +118,32 @@ betaAt = 5
 abbrev pub holdAt : ℕ
 holdAt = 6
 
-abbrev pub switchAt : ℕ
-switchAt = 7
+-- how many points its curve has; behind it each point's delay and its allow
+abbrev pub pointsAt : ℕ
+pointsAt = 7
 
-abbrev pub fieldCount : ℕ
-fieldCount = suc switchAt
+abbrev pub firstPointAt : ℕ
+firstPointAt = suc pointsAt
 
--- the row that its numbers make
-abbrev pub rowOf : List ℕ → Row
-rowOf vs =
-    row (getD vs taskAt 0) (getD vs periodAt 0) (getD vs worstAt 0) (getD vs bestAt 0) (getD vs alphaAt 0)
-    (getD vs betaAt 0) (getD vs holdAt 0) (getD vs switchAt 0)
+-- how many lines a row of so many points has
+abbrev pub linesFor : ℕ → ℕ
+linesFor points = firstPointAt + 2 * points
 
--- a row under another switch
+-- the row that the numbers of its lines make, under a switch
+abbrev pub rowOf : ℕ → List ℕ → Row
+rowOf s vs =
+    rowWith (pointsFrom (getD vs pointsAt 0) (drop firstPointAt vs))
+    (getD vs taskAt 0) (getD vs periodAt 0) (getD vs worstAt 0) (getD vs bestAt 0) (getD vs alphaAt 0)
+    (getD vs betaAt 0) (getD vs holdAt 0) s
+
+-- a row under another switch, and with another curve
 abbrev pub withSwitch : ℕ → Row → Row
-withSwitch s r = row (r .task) (r .period) (r .worst) (r .best) (r .alpha) (r .beta) (r .hold) s
+withSwitch s r =
+    rowWith (r .curve) (r .task) (r .period) (r .worst) (r .best) (r .alpha) (r .beta) (r .hold) s
+
+abbrev pub withCurve : List Point → Row → Row
+withCurve c r =
+    rowWith c (r .task) (r .period) (r .worst) (r .best) (r .alpha) (r .beta) (r .hold) (r .switch)
 
 -- ---- some rows
 -- row i of a table
@@ -132,8 +162,8 @@ unfoldable pub cost : Row → ℕ
 cost r = fullCost (r .worst) (r .switch)
 
 -- each number is within its limits, cost ≤ period, best ≤ worst, and hold ≤ worst
-abbrev pub inRange : Row → Bool
-inRange r =
+abbrev pub numbersInRange : Row → Bool
+numbersInRange r =
     within minTask maxTask (r .task)
     && within minTicks maxTicks (r .period)
     && within minTicks maxTicks (r .worst)
@@ -145,6 +175,10 @@ inRange r =
     && leb (cost r) (r .period)
     && leb (r .best) (r .worst)
     && leb (r .hold) (r .worst)
+
+-- and its curve is well formed
+abbrev pub inRange : Row → Bool
+inRange r = numbersInRange r && wellFormed (r .curve)
 
 -- the times alone: 1 ≤ best ≤ cost ≤ period, and the period within its limit
 abbrev pub timesInRange : Row → Bool

@@ -1,4 +1,4 @@
 -- What functions promise each other: nothing here is needed to believe what the public calls promise.
-pub mod Constructor
 pub mod Arrays
 pub mod Numbers
+pub mod Records

@@ -1,16 +1,21 @@
+// A task's row: its limits, and rows and orders as numbers. What a row is stands in specs/Rows.antt.
 ghost use mathlib.Core.Path.{_≡_};
 ghost use Prim.Native.Nat.{_^_, _<_};
 ghost use lib.Dec.{leb};
-ghost use Rattle.rows.specs.Rows.{fullCost, cost, inRange, row, noRow};
-ghost use Rattle.rows.specs.inside.Constructor.{checked};
+ghost use Rattle.rows.specs.Rows.{fullCost, numbersInRange, row};
+ghost use Rattle.rows.specs.inside.Records.{noRecord, recorded, checked};
 use basics::within;
+use curves::well_formed;
 pub use numbers::ALPHA;
 pub use numbers::BEST;
 pub use numbers::BETA;
+pub use numbers::CURVE;
 pub use numbers::FIELDS;
+pub use numbers::FIRST_POINT;
 pub use numbers::HOLD;
 pub use numbers::NUMBERS;
 pub use numbers::PERIOD;
+pub use numbers::POINTS;
 pub use numbers::SWITCH;
 pub use numbers::TASK;
 pub use numbers::WORST;
@@ -19,10 +24,10 @@ pub use numbers::has_task;
 pub use numbers::hold_at;
 pub use numbers::in_range_at;
 pub use numbers::is_among;
+pub use numbers::number_at;
 pub use numbers::order_at;
 pub use numbers::positions_for;
 pub use numbers::put_rows;
-pub use numbers::row_at;
 
 // numbers.rt: rows and orders as numbers.
 mod numbers;
@@ -30,8 +35,9 @@ mod numbers;
 // The most rows of a table. This and `maxTasks` in specs/Rows.antt are the two to change: every room follows from them.
 pub const MAX_TASKS: usize = 16;
 
-// A task's row. Times are in ticks, alpha in thousandths, beta in thousandths of a tick. A job of it may keep the
-// processor for a stretch of at most `hold` ticks, and its board spends `switch` ticks when it first gets it.
+// A task's row, as a record. Times are in ticks, alpha in thousandths, beta in thousandths of a tick. A job of it may keep
+// the processor for a stretch of at most `hold` ticks, and its board spends `switch` ticks when it first gets it. Its
+// curve has so many points, whose numbers stand by turns.
 pub struct Row {
     pub task: u32,
     pub period: u32,
@@ -41,18 +47,20 @@ pub struct Row {
     pub beta: u64,
     pub hold: u32,
     pub switch: u32,
-}
-
-// An order, highest rank first: at most MAX_TASKS task numbers and a count.
-pub struct Order {
-    pub tasks: [u16; MAX_TASKS],
-    pub count: usize,
+    pub points: u64,
+    pub curve: [u64; CURVE],
 }
 
 // What the constructor answers: whether the numbers keep the limits, and the row that they make, or else no row.
 pub struct Checked {
     pub in_range: bool,
     pub row: Row,
+}
+
+// An order, highest rank first: at most MAX_TASKS task numbers and a count.
+pub struct Order {
+    pub tasks: [u16; MAX_TASKS],
+    pub count: usize,
 }
 
 impl Row {
@@ -101,7 +109,7 @@ impl Row {
         hold: u64,
         switch: u64,
     ) -> bool
-        ensures { λ r. ⌜ r ≡ inRange (row task period worst best alpha beta hold switch) ⌝ }
+        ensures { λ r. ⌜ r ≡ numbersInRange (row task period worst best alpha beta hold switch) ⌝ }
     {
         within(Row::TASK_MIN, Row::TASK_MAX, task)
             & within(Row::TICKS_MIN, Row::TICKS_MAX, period)
@@ -116,7 +124,7 @@ impl Row {
             & (hold <= worst)
     }
 
-    // The row of eight numbers, if they keep its limits.
+    // The row of some numbers and a curve, if they keep its limits.
     pub fn new(
         task: u64,
         period: u64,
@@ -126,10 +134,13 @@ impl Row {
         beta: u64,
         hold: u64,
         switch: u64,
+        points: u64,
+        curve: [u64; CURVE],
     ) -> Checked
-        ensures { λ r. ⌜ r ≡ checked (row task period worst best alpha beta hold switch) ⌝ }
+        ensures { λ r. ⌜ r ≡ checked (recorded task period worst best alpha beta hold switch points curve) ⌝ }
     {
-        if !Row::keeps(task, period, worst, best, alpha, beta, hold, switch) {
+        let kept = Row::keeps(task, period, worst, best, alpha, beta, hold, switch);
+        if !(kept & well_formed(&curve, points)) {
             return Checked {
                 in_range: false,
                 row: no_row(),
@@ -144,34 +155,13 @@ impl Row {
             beta,
             hold: hold as u32,
             switch: switch as u32,
+            points,
+            curve,
         };
         Checked {
             in_range: true,
             row,
         }
-    }
-
-    // The most ticks that a job of the row takes.
-    pub fn cost(self) -> u64
-        ensures { λ r. ⌜ r ≡ cost self ⌝ }
-    {
-        full_cost(self.worst as u64, self.switch as u64)
-    }
-
-    // Whether the row keeps its limits.
-    pub fn in_range(self) -> bool
-        ensures { λ r. ⌜ r ≡ inRange self ⌝ }
-    {
-        Row::keeps(
-            self.task as u64,
-            self.period as u64,
-            self.worst as u64,
-            self.best as u64,
-            self.alpha as u64,
-            self.beta,
-            self.hold as u64,
-            self.switch as u64,
-        )
     }
 }
 
@@ -184,8 +174,8 @@ fn full_cost(worst: u64, switch: u64) -> u64
 }
 
 // What stands past the rows that count.
-pub fn no_row() -> Row
-    ensures { λ r. ⌜ r ≡ noRow ⌝ }
+fn no_row() -> Row
+    ensures { λ r. ⌜ r ≡ noRecord ⌝ }
 {
     Row {
         task: 0,
@@ -196,5 +186,7 @@ pub fn no_row() -> Row
         beta: 0,
         hold: 0,
         switch: 0,
+        points: 0,
+        curve: [0; CURVE],
     }
 }

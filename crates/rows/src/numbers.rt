@@ -1,20 +1,24 @@
-// Rows and orders as numbers: those of a row stand one after another, and row after row.
+// Rows and orders as numbers: of a row those of its lines come first, with room for the most points, and then the
+// switch; and row follows row.
 ghost use mathlib.Core.Path.{_≡_};
-ghost use mathlib.Core.Bool.{true};
 ghost use mathlib.Core.List.{_++_};
-ghost use Prim.Native.Nat.{suc, _+_, _*_, _≤_};
+ghost use Prim.Native.Nat.{suc, _+_, _*_, _≤_, _<_};
 ghost use lib.ListN.{length, take, drop};
 ghost use Rattle.basics.specs.Basics.{isIn};
-ghost use Rattle.rows.specs.Rows.{maxTicks, maxTasks, fieldCount, cost, inRange, tasksOf, hasTask, positionOf};
+ghost use Rattle.curves.specs.Curves.{maxPoints, wellFormed};
+ghost use Rattle.rows.specs.Rows.{maxTicks, maxTasks, cost, inRange, tasksOf, hasTask, positionOf};
 ghost use Rattle.rows.specs.inside.Arrays.{ranking};
-ghost use Rattle.rows.specs.inside.Numbers.{rowIn, rowsOf, RowPut, RowsPut, positionsFor};
+ghost use Rattle.rows.specs.inside.Numbers.{lineCount, fieldCount, lineIn, switchIn, rowIn, rowsOf, positionsFor};
 ghost use Rattle.rows.specs.inside.Numbers.{between, TaskNumbers};
+ghost use Rattle.rows.specs.inside.Records.{asRow, asRows, numbersRoom, CurvePut, RowPut, RowsPut};
 use super::MAX_TASKS;
 use super::Order;
 use super::Row;
 use super::full_cost;
+use curves::MAX_POINTS;
+use curves::well_formed;
 
-// Where each number stands in its row, and how many there are.
+// Where the number of each line stands among those of its row.
 pub const TASK: usize = 0;
 
 pub const PERIOD: usize = 1;
@@ -29,29 +33,45 @@ pub const BETA: usize = 5;
 
 pub const HOLD: usize = 6;
 
-pub const SWITCH: usize = 7;
+pub const POINTS: usize = 7;
+
+pub const FIRST_POINT: usize = 8;
+
+// The numbers of the most points.
+pub const CURVE: usize = 2 * MAX_POINTS;
+
+// The most lines of a row; where its switch stands, behind their numbers; and how many numbers a row has room for.
+pub const SWITCH: usize = FIRST_POINT + CURVE;
 
 pub const FIELDS: usize = SWITCH + 1;
 
 // Room for the numbers of a table's rows.
 pub const NUMBERS: usize = FIELDS * MAX_TASKS;
 
-// Row i of the numbers.
-pub fn row_at(numbers: &[u64], i: usize) -> Row
-    requires { ⌜ (fieldCount * suc i ≤ length (now numbers)) × (inRange (rowIn (now numbers) i) ≡ true) ⌝ }
-    ensures { λ r. ⌜ r ≡ rowIn (now (numbers .entry)) i ⌝ }
+// The number of a line of row i.
+pub fn number_at(numbers: &[u64], i: usize, position: usize) -> u64
+    requires { ⌜ (fieldCount * suc i ≤ length (now numbers)) × (position < lineCount) ⌝ }
+    ensures { λ r. ⌜ r ≡ lineIn (now (numbers .entry)) i position ⌝ }
 {
-    let at = FIELDS * i;
-    Row {
-        task: numbers[at + TASK] as u32,
-        period: numbers[at + PERIOD] as u32,
-        worst: numbers[at + WORST] as u32,
-        best: numbers[at + BEST] as u32,
-        alpha: numbers[at + ALPHA] as u32,
-        beta: numbers[at + BETA],
-        hold: numbers[at + HOLD] as u32,
-        switch: numbers[at + SWITCH] as u32,
-    }
+    numbers[FIELDS * i + position]
+}
+
+// The switch of row i.
+fn switch_at(numbers: &[u64], i: usize) -> u64
+    requires { ⌜ fieldCount * suc i ≤ length (now numbers) ⌝ }
+    ensures { λ r. ⌜ r ≡ switchIn (now (numbers .entry)) i ⌝ }
+{
+    numbers[FIELDS * i + SWITCH]
+}
+
+// Whether the curve of row i is well formed.
+fn curve_keeps(numbers: &[u64], i: usize) -> bool
+    requires { ⌜ fieldCount * suc i ≤ length (now numbers) ⌝ }
+    ensures { λ r. ⌜ r ≡ wellFormed (rowIn (now (numbers .entry)) i .curve) ⌝ }
+{
+    let points = number_at(numbers, i, POINTS);
+    let first = FIELDS * i + FIRST_POINT;
+    well_formed(&numbers[first..], points)
 }
 
 // Whether row i is in range.
@@ -59,18 +79,17 @@ pub fn in_range_at(numbers: &[u64], i: usize) -> bool
     requires { ⌜ fieldCount * suc i ≤ length (now numbers) ⌝ }
     ensures { λ r. ⌜ r ≡ inRange (rowIn (now (numbers .entry)) i) ⌝ }
 {
-    let at = FIELDS * i;
-    let checked = Row::new(
-        numbers[at + TASK],
-        numbers[at + PERIOD],
-        numbers[at + WORST],
-        numbers[at + BEST],
-        numbers[at + ALPHA],
-        numbers[at + BETA],
-        numbers[at + HOLD],
-        numbers[at + SWITCH],
+    let kept = Row::keeps(
+        number_at(numbers, i, TASK),
+        number_at(numbers, i, PERIOD),
+        number_at(numbers, i, WORST),
+        number_at(numbers, i, BEST),
+        number_at(numbers, i, ALPHA),
+        number_at(numbers, i, BETA),
+        number_at(numbers, i, HOLD),
+        switch_at(numbers, i),
     );
-    checked.in_range
+    kept & curve_keeps(numbers, i)
 }
 
 // The most ticks that a job of row i takes.
@@ -78,8 +97,7 @@ pub fn cost_at(numbers: &[u64], i: usize) -> u64
     requires { ⌜ (fieldCount * suc i ≤ length (now numbers)) × (cost (rowIn (now numbers) i) ≤ maxTicks) ⌝ }
     ensures { λ r. ⌜ r ≡ cost (rowIn (now (numbers .entry)) i) ⌝ }
 {
-    let at = FIELDS * i;
-    full_cost(numbers[at + WORST], numbers[at + SWITCH])
+    full_cost(number_at(numbers, i, WORST), switch_at(numbers, i))
 }
 
 // The most ticks for which a job of row i may keep the processor.
@@ -87,12 +105,22 @@ pub fn hold_at(numbers: &[u64], i: usize) -> u64
     requires { ⌜ fieldCount * suc i ≤ length (now numbers) ⌝ }
     ensures { λ r. ⌜ r ≡ rowIn (now (numbers .entry)) i .hold ⌝ }
 {
-    numbers[FIELDS * i + HOLD]
+    number_at(numbers, i, HOLD)
+}
+
+// The numbers of a curve are put at an index.
+fn put_curve(numbers: &mut [u64; NUMBERS], at: usize, curve: [u64; CURVE])
+    requires { ⌜ at + 2 * maxPoints ≤ numbersRoom ⌝ }
+    ensures { λ _. ⌜ CurvePut (now (numbers .entry)) at curve (2 * maxPoints) (now (numbers .exit)) ⌝ }
+{
+    for k in 0..CURVE {
+        numbers[at + k] = curve[k];
+    }
 }
 
 // Row i is put among the numbers, if there is room for it.
 fn put_row(numbers: &mut [u64; NUMBERS], i: usize, row: Row)
-    ensures { λ _. ⌜ RowPut (now (numbers .entry)) i row (now (numbers .exit)) ⌝ }
+    ensures { λ _. ⌜ RowPut (now (numbers .entry)) i (asRow row) (now (numbers .exit)) ⌝ }
 {
     if i < MAX_TASKS {
         let at = FIELDS * i;
@@ -103,13 +131,16 @@ fn put_row(numbers: &mut [u64; NUMBERS], i: usize, row: Row)
         numbers[at + ALPHA] = row.alpha as u64;
         numbers[at + BETA] = row.beta;
         numbers[at + HOLD] = row.hold as u64;
+        numbers[at + POINTS] = row.points;
         numbers[at + SWITCH] = row.switch as u64;
+        let curve = row.curve;
+        put_curve(numbers, at + FIRST_POINT, curve);
     }
 }
 
 // The rows are put among the numbers, one after another: all of them if there is room for all.
 pub fn put_rows(rows: &[Row], numbers: &mut [u64; NUMBERS])
-    ensures { λ _. ⌜ RowsPut (now (rows .entry)) (now (numbers .entry)) (now (numbers .exit)) ⌝ }
+    ensures { λ _. ⌜ RowsPut (asRows (now (rows .entry))) (now (numbers .entry)) (now (numbers .exit)) ⌝ }
 {
     let mut i = 0;
     while i < rows.len() {
@@ -126,7 +157,7 @@ fn position_of(task: u16, rows: &[u64], n: usize) -> usize
     let sought = task as u64;
     let mut i = 0;
     while i < n {
-        if sought == rows[FIELDS * i + TASK] {
+        if sought == number_at(rows, i, TASK) {
             return i;
         }
         i += 1;

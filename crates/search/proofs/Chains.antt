@@ -8,10 +8,10 @@ use native.Mathlib.Decide.{ℕ-discrete}
 use native.Mathlib.Omega.{arith}
 use lib.ListN.{length, getD, set, drop, replicate, length-append}
 use lib.Pow.{pow-pos}
-use Rattle.rows.specs.declared.Row.{Row}
-use Rattle.rows.specs.Rows.{maxTasks, fieldCount, inRange, rowAt}
+use Rattle.rows.specs.Rows.{Row}
+use Rattle.rows.specs.Rows.{maxTasks, inRange, rowAt}
 use Rattle.rows.specs.inside.Arrays.{ranking}
-use Rattle.rows.specs.inside.Numbers.{rowsOf, rowIn}
+use Rattle.rows.specs.inside.Numbers.{fieldCount, rowsOf, rowIn}
 use Rattle.rows.proofs.Tasks.{tasks-last}
 use Rattle.rows.proofs.Arrays.{blank-left, front-next}
 use Rattle.rows.proofs.RowNumbers.{rows-length, rows-at}
@@ -50,15 +50,15 @@ module _ (ns sets : List ℕ) where
 
   -- the lowest row's task goes below those of the rest, next in the array
   pub chain-lowest :
-      (m k : ℕ) (tasks filled : List ℕ) (r : Row) →
+      (m k : ℕ) (tasks filled : List ℕ) (task : ℕ) →
       0 < k →
       k ≤ length tasks →
       let i = getD sets m 0 in
-      r ≡ rowIn ns i →
+      task ≡ rowIn ns i .task →
       filled ≡ chainTasks ns sets (k - 1) (m - 2 ^ i) ++ drop (k - 1) tasks →
-      set filled (k - 1) (r .task) ≡ chainTasks ns sets k m ++ drop k tasks
-  chain-lowest m zero tasks filled r l few is h = absurd (omega arith)
-  chain-lowest m (suc k) tasks filled r l few is h =
+      set filled (k - 1) task ≡ chainTasks ns sets k m ++ drop k tasks
+  chain-lowest m zero tasks filled task l few is h = absurd (omega arith)
+  chain-lowest m (suc k) tasks filled task l few is h =
       let e : suc k - 1 ≡ k = omega arith in
       let i = getD sets m 0 in
       let above = chainTasks ns sets k (m - 2 ^ i) in

@@ -14,7 +14,7 @@ use lib.ListN.{length, take, length-append}
 use lib.Seq.{take-all}
 use Rattle.basics.proofs.Tests.{and-both}
 use Rattle.rows.specs.Rows.{allRows, rowAt}
-use Rattle.rows.specs.declared.Row.{Row}
+use Rattle.rows.specs.Rows.{Row}
 use Rattle.rows.proofs.Limits.{head-passes, tail-passes}
 use Rattle.analysis.specs.inside.Columns.{withTimes, Filled}
 use Rattle.analysis.proofs.Filling.{filled-none, filled-over, filled-last}

@@ -6,8 +6,8 @@ use mathlib.Core.List.{List}
 use Prim.Native.Nat.{ℕ, suc, _*_, _^_, _≤_, _<_}
 use native.Mathlib.Omega.{arith}
 use lib.ListN.{length}
-use Rattle.rows.specs.Rows.{fieldCount, inRange, timesInRange}
-use Rattle.rows.specs.inside.Numbers.{rowsOf, rowIn}
+use Rattle.rows.specs.Rows.{inRange, timesInRange}
+use Rattle.rows.specs.inside.Numbers.{fieldCount, rowsOf, rowIn}
 use Rattle.rows.proofs.Limits.{in-range-times}
 use Rattle.rows.proofs.RowNumbers.{rows-length, row-passes}
 use Rattle.search.specs.inside.Sets.{unknown}

@@ -7,7 +7,7 @@ use lib.ListN.{length}
 use Rattle.basics.specs.Basics.{larger}
 use Rattle.basics.proofs.Numbers.{larger-swap}
 use Rattle.rows.specs.Rows.{rowAt}
-use Rattle.rows.specs.declared.Row.{Row}
+use Rattle.rows.specs.Rows.{Row}
 use Rattle.responses.specs.Figures.{largestHold}
 use Rattle.orders.specs.Orders.{Taken, here, later}
 use Rattle.search.specs.inside.Sets.{others}

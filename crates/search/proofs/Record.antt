@@ -13,7 +13,7 @@ use lib.ListN.{getD, set, length, length-set, replicate, length-replicate, getD-
 use lib.Pow.{pow-mono}
 use lib.Seq.{getD-set-same, getD-set-other}
 use Rattle.rows.specs.Rows.{maxBuffer}
-use Rattle.rows.specs.declared.Row.{Row}
+use Rattle.rows.specs.Rows.{Row}
 use Rattle.orders.specs.Orders.{theOrder}
 use Rattle.search.specs.inside.Sets as S
 use Rattle.search.specs.inside.Sets.{hasBit, isSome, unknown, noOrder}

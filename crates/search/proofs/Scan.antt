@@ -11,7 +11,7 @@ use borrow.Author.Tests.{eq-eqb, ne-eqb, eqb-true}
 use lib.ListN.{length, take, drop, length-append}
 use lib.Seq.{drop-cons, drop-length}
 use Rattle.rows.specs.Rows.{noRow, rowAt}
-use Rattle.rows.specs.declared.Row.{Row}
+use Rattle.rows.specs.Rows.{Row}
 use Rattle.basics.proofs.Tests.{and-left, and-right}
 use Rattle.orders.specs.Orders as O
 use Rattle.orders.specs.Orders.{here, Possible, first, tried, theOrder}

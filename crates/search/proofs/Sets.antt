@@ -12,7 +12,7 @@ use lib.Dec.{eqb}
 use lib.ListN.{length, take, drop}
 use lib.Pow.{shr-shr, pow-pos}
 use Rattle.rows.specs.Rows.{rowAt}
-use Rattle.rows.specs.declared.Row.{Row}
+use Rattle.rows.specs.Rows.{Row}
 use Rattle.orders.specs.Orders.{Taken, here, later}
 use Rattle.search.specs.inside.Sets.{keep, withBit, members, others}
 

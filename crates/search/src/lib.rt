@@ -6,6 +6,7 @@ ghost use lib.ListN.{length, drop};
 ghost use Rattle.rows.specs.Rows.{maxTasks};
 ghost use Rattle.rows.specs.inside.Arrays.{ranking};
 ghost use Rattle.rows.specs.inside.Numbers.{rowsOf};
+ghost use Rattle.rows.specs.inside.Records.{asRows};
 ghost use Rattle.responses.specs.Figures.{largestHold, blocking};
 ghost use Rattle.search.specs.inside.Sets.{others, fits, Fresh, Settled};
 ghost use Rattle.orders.specs.Stability.{stable};
@@ -19,9 +20,10 @@ use rows::MAX_TASKS;
 use rows::NUMBERS;
 use rows::Order;
 use rows::Row;
+use rows::TASK;
 use rows::hold_at;
+use rows::number_at;
 use rows::put_rows;
-use rows::row_at;
 
 // Numbers of tasks for which a record of sets of their own is kept: the longest is for the most tasks.
 const FEW_TASKS: usize = 6;
@@ -78,8 +80,7 @@ fn stable_under(
     ensures { λ r. ⌜ r ≡ fits stable (rowsOf n (now (rows .entry))) m i ⌝ }
 {
     let count = gather(rows, n, m - power(i), columns);
-    let row = row_at(rows, i);
-    let figures = figures_under(row, blocked, columns, n, count);
+    let figures = figures_under(rows, i, blocked, columns, n, count);
     figures.stable
 }
 
@@ -180,8 +181,7 @@ fn rebuild(rows: &[u64], n: usize, m: usize, sets: &[u8], tasks: &mut [u16])
         let i = sets[m] as usize;
         let above = n - 1;
         rebuild(rows, above, m - power(i), sets, tasks);
-        let row = row_at(rows, i);
-        tasks[above] = row.task as u16;
+        tasks[above] = number_at(rows, i, TASK) as u16;
     }
 }
 
@@ -217,8 +217,8 @@ fn order_with(rows: &[u64], n: usize, sets: &mut [u8], columns: &mut [u64]) -> C
     }
 }
 
-// The order of n rows by the rule, with the longer records of sets. They are in a frame of their own, whose pages a table
-// of few tasks does not touch: in the caller's frame they made a table of one task an eighth slower.
+// The order of n rows by the rule, with the longer records of sets. They are in a frame of their own, whose pages a
+// table of few tasks does not touch: in the caller's frame they made a table of one task an eighth slower.
 fn choose_long(rows: &[u64], n: usize) -> Choice
     requires { ⌜ Lent n (now rows) ⌝ }
     ensures { λ r. ⌜ Chooses (rowsOf n (now (rows .entry))) r ⌝ }
@@ -271,8 +271,8 @@ fn order_in(numbers: &[u64; NUMBERS], n: usize) -> Choice
 
 // The order of a table's rows by the rule.
 pub fn order_of(rows: &[Row]) -> Choice
-    requires { ⌜ TableRows (now rows) ⌝ }
-    ensures { λ r. ⌜ Chooses (now (rows .entry)) r ⌝ }
+    requires { ⌜ TableRows (asRows (now rows)) ⌝ }
+    ensures { λ r. ⌜ Chooses (asRows (now (rows .entry))) r ⌝ }
 {
     let n = rows.len();
     let mut numbers = [0u64; NUMBERS];

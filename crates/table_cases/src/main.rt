@@ -1,16 +1,22 @@
 // Reads stored texts as tables and prints what each reads as: the refusal's number and its line, or 0 and 0, then the
-// board, the numbers of each row, and the ranks. docs/src/table_cases.py makes the texts and what must be printed.
+// board, the numbers of each row's lines and its switch, and the ranks. docs/src/table_cases.py makes the texts and what
+// must be printed.
 ghost use mathlib.Core.Path.{_≡_};
-ghost use Prim.Native.Nat.{_≤_};
+ghost use Prim.Native.Nat.{_+_, _≤_};
 ghost use lib.ListN.{length};
 ghost use Rattle.basics.specs.Basics.{pick};
-ghost use Rattle.tables.specs.inside.Numbers.{Room};
+ghost use Rattle.rows.specs.inside.Numbers.{lineCount, fieldCount};
+ghost use Rattle.readers.specs.inside.Numbers.{Room, rowStart};
+use curves::POINTS_MAX;
+use readers::FEW_NUMBERS;
+use readers::HEAD;
+use readers::MOST_NUMBERS;
+use readers::fits_in;
+use readers::read_table;
 use rows::FIELDS;
-use tables::FEW_NUMBERS;
-use tables::HEAD;
-use tables::MOST_NUMBERS;
-use tables::is_short;
-use tables::read_table;
+use rows::FIRST_POINT;
+use rows::POINTS;
+use rows::SWITCH;
 use text::Line;
 
 const STDIN: i32 = 0;
@@ -32,14 +38,46 @@ fn print_next(n: u64) {
     io::print_decimal(STDOUT, n);
 }
 
-// The board, the numbers of each row, and the ranks.
-fn print_table(numbers: &[u64], end: usize)
-    requires { ⌜ (1 ≤ length (now numbers)) × (end ≤ length (now numbers)) ⌝ }
+// The numbers from an index up to another.
+fn print_numbers(numbers: &[u64], start: usize, end: usize)
+    requires { ⌜ end ≤ length (now numbers) ⌝ }
 {
-    print_next(numbers[0]);
-    for i in HEAD..end {
+    for i in start..end {
         print_next(numbers[i]);
     }
+}
+
+// How many lines a row has whose line `points` has a number: no more than the most.
+fn row_lines(points: u64) -> usize
+    ensures { λ r. ⌜ r ≤ lineCount ⌝ }
+{
+    if POINTS_MAX < points {
+        return FIRST_POINT;
+    }
+    FIRST_POINT + 2 * points as usize
+}
+
+// The numbers of a row's lines and its switch, from an index on.
+fn print_row(numbers: &[u64], start: usize)
+    requires { ⌜ start + fieldCount ≤ length (now numbers) ⌝ }
+{
+    let lines = row_lines(numbers[start + POINTS]);
+    print_numbers(numbers, start, start + lines);
+    print_next(numbers[start + SWITCH]);
+}
+
+// The board, the numbers of each row, and the ranks.
+fn print_table(numbers: &[u64], rows: usize, ranks: usize)
+    requires { ⌜ rowStart rows + ranks ≤ length (now numbers) ⌝ }
+{
+    print_next(numbers[0]);
+    let mut i = 0;
+    while i < rows {
+        print_row(numbers, HEAD + FIELDS * i);
+        i += 1;
+    }
+    let start = HEAD + FIELDS * rows;
+    print_numbers(numbers, start, start + ranks);
 }
 
 // How many rank lines a table has.
@@ -58,14 +96,14 @@ fn print_read(text: &[u8], ranked: bool, numbers: &mut [u64])
     print_next(reading.line as u64);
     if reading.refused == 0 {
         let ranks = rank_lines(ranked, reading.count);
-        print_table(numbers, HEAD + FIELDS * reading.count + ranks);
+        print_table(numbers, reading.count, ranks);
     }
     io::write_all(STDOUT, b"\n");
 }
 
 // A short text is read into few numbers.
 fn print_reading(text: &[u8], ranked: bool) {
-    if is_short(text) {
+    if fits_in(text, FEW_NUMBERS) {
         let mut few = [0u64; FEW_NUMBERS];
         print_read(text, ranked, &mut few);
     } else {

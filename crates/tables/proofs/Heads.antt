@@ -10,7 +10,6 @@ use native.Mathlib.Omega.{arith}
 use lib.Dec.{eqb}
 use lib.IntN.{ℤ}
 use lib.ListN.{length, length-append}
-use lib.Seq.{getD-at}
 use borrow.Author.Tests.{eqb-true, eq-eqb}
 use Rattle.basics.specs.Basics.{pick}
 use Rattle.basics.proofs.Tests.{test-of}
@@ -18,10 +17,10 @@ use Rattle.text.specs.Text.{bytes, decimal, signed, keyLine}
 use Rattle.grammars.specs.Forms.{size}
 use Rattle.grammars.specs.Reasons.{Passes, Reaches, begin, line}
 use Rattle.grammars.proofs.Naturals.{natural-written}
-use Rattle.rows.specs.Rows.{minSwitch, maxSwitch, minTasks, maxTasks, switchAt, rowOf, rowAt, allRows}
-use Rattle.rows.specs.declared.Row.{Row}
+use Rattle.rows.specs.Rows.{minSwitch, maxSwitch, minTasks, maxTasks, rowOf, rowAt, allRows}
+use Rattle.rows.specs.Rows.{Row}
 use Rattle.rows.proofs.Limits.{append-passes, at-passes}
-use Rattle.tables.specs.TableLines.{minBoard, maxBoard}
+use Rattle.tables.specs.TableLines.{minBoard, maxBoard, isWhole}
 use Rattle.tables.specs.TableLines.{Stage, at-board, at-tasks, at-switch, at-field, at-rank, at-end}
 use Rattle.tables.specs.TableLines.{ranksStage, rowsStage, after, table}
 use Rattle.tables.specs.Claims.{Tells, HeadSays}
@@ -80,10 +79,10 @@ module _ (ranked : Bool) (text : List ℕ) where
       rows-behind n b (size z) [] rest (rw (zero-add n) ((rest, head), refl))
   next (at-field n b s rs vs) key z here rest h p is =
       let more = vs ++ (size z ∷ []) in
-      let row = rowOf (more ++ (s ∷ [])) in
-      elim (test-of (eqb (length more) switchAt)) [
+      let row = rowOf s more in
+      elim (test-of (isWhole more)) [
         | inl t ↦
-            let own = eq-eqb (row .switch) s (getD-at more s [] 0 switchAt (eqb-true (length more) switchAt t)) in
+            let own = eq-eqb s s refl in
             let as-many : length rs + suc n ≡ length (rs ++ (row ∷ [])) + n = omega (arith, length-append rs (row ∷ [])) in
             rw t (rows-behind n b s (rs ++ (row ∷ [])) rest
             (rw as-many at (h .0), append-passes (under s) rs (row ∷ []) (h .1) (rw own)))

@@ -6,12 +6,44 @@ use lib.ListN.{length}
 use Rattle.basics.specs.Basics.{isIn}
 use Rattle.text.specs.Text.{lineFeed}
 use Rattle.grammars.specs.Grammars.{Plain}
-use Rattle.tables.specs.TableLines.{rowLineAt, at-board, at-tasks, at-switch, at-field, at-rank, at-end, table}
-use Rattle.tables.proofs.RowLines.{at-each}
+use Rattle.rows.specs.Rows.{firstPointAt}
+use Rattle.tables.specs.TableLines.{RowLine, rowLineAt, at-board, at-tasks, at-switch, at-field, at-rank, at-end, table}
+use Rattle.tables.proofs.RowLines.{at-each, each-point}
 
 key-plain : (i : ℕ) → isIn lineFeed (rowLineAt i .key) ≡ false
 key-plain i =
-    at-each (λ l. isIn lineFeed (l .key) ≡ false) refl (refl, (refl, (refl, (refl, (refl, (refl, (refl, tt))))))) i
+    let F : RowLine → Type 0 = λ l. isIn lineFeed (l .key) ≡ false in
+    at-each F refl (
+      refl,
+      (
+        refl,
+        (
+          refl,
+          (
+            refl,
+            (
+              refl,
+              (
+                refl,
+                (
+                  refl,
+                  (
+                    refl,
+                    (
+                      refl,
+                      (
+                        refl,
+                        each-point F (λ at. refl) (λ at. refl) firstPointAt 7,
+                      ),
+                    ),
+                  ),
+                ),
+              ),
+            ),
+          ),
+        ),
+      ),
+    ) i
 
 pub table-plain : (ranked : Bool) → Plain (table ranked)
 table-plain ranked at-board = refl

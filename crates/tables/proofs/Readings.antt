@@ -11,7 +11,7 @@ use Rattle.grammars.specs.Claims.{Decides}
 use Rattle.grammars.proofs.Steps.{no-line}
 use Rattle.grammars.proofs.Decision.{decides, refused-some}
 use Rattle.grammars.proofs.Invariants.{holds}
-use Rattle.rows.specs.declared.Row.{Row}
+use Rattle.rows.specs.Rows.{Row}
 use Rattle.tables.specs.TableLines.{Stage, at-board, at-tasks, at-switch, at-field, at-rank, at-end}
 use Rattle.tables.specs.TableLines.{expected, table, TableRead, turnedDown, tableOf, onVerdict, readTable}
 use Rattle.tables.specs.Claims.{Accepted, Tells, Fails, Read}

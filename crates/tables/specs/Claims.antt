@@ -8,8 +8,8 @@ use Prim.Native.String.{String}
 use lib.ListN.{length}
 use Rattle.text.specs.Text.{bytes, decimal, keyLine}
 use Rattle.grammars.specs.Claims.{AsWritten, Reason}
-use Rattle.rows.specs.Rows.{minTasks, maxTasks, switchAt, OneSwitch, inRange, allRows, distinctRows, isPossible}
-use Rattle.rows.specs.declared.Row.{Row}
+use Rattle.curves.specs.Curves.{Point, maxPoints}
+use Rattle.rows.specs.Rows.{Row, minTasks, maxTasks, linesFor, OneSwitch, inRange, allRows, distinctRows, isPossible}
 use Rattle.tables.specs.TableLines.{minBoard, maxBoard, rowLines, at-board, at-end, table}
 use Rattle.tables.specs.TableLines.{TableRead, tableOf, turnedDown, readTable}
 
@@ -32,15 +32,27 @@ Tells ranked text board rows tasks = AsWritten (table ranked) at-board text (at-
 abbrev pub Fails : Bool → List ℕ → ℕ → ℕ → Type 0
 Fails ranked text n k = Reason (table ranked) at-board text n k
 
+-- the refusals of a table, and of one with rank lines
+abbrev pub tableRefusals : List ℕ
+tableRefusals = 1 ∷ 2 ∷ 3 ∷ 4 ∷ 5 ∷ 11 ∷ []
+
+abbrev pub rankedRefusals : List ℕ
+rankedRefusals = tableRefusals ++ (6 ∷ [])
+
 -- ---- a table's own text
--- a line before what follows it; the lines of a row, of some rows, of some ranks, and of a table
+-- a line before what follows it; the lines of some points, of a row, of some rows, of some ranks, and of a table
 abbrev pub lineOf : String → ℕ → List ℕ → List ℕ
 lineOf key v rest = keyLine (bytes key) (decimal v) ++ rest
+
+abbrev pub pointsText : List Point → List ℕ → List ℕ
+pointsText [] rest = rest
+pointsText (p ∷ ps) rest = lineOf "delay=" (p .delay) (lineOf "allow=" (p .allow) (pointsText ps rest))
 
 abbrev pub rowText : Row → List ℕ → List ℕ
 rowText r rest =
     lineOf "task=" (r .task) (lineOf "period=" (r .period) (lineOf "worst=" (r .worst)
-    (lineOf "best=" (r .best) (lineOf "alpha=" (r .alpha) (lineOf "beta=" (r .beta) (lineOf "hold=" (r .hold) rest))))))
+    (lineOf "best=" (r .best) (lineOf "alpha=" (r .alpha) (lineOf "beta=" (r .beta) (lineOf "hold=" (r .hold)
+    (lineOf "points=" (length (r .curve)) (pointsText (r .curve) rest))))))))
 
 abbrev pub rowsText : List Row → List ℕ → List ℕ
 rowsText [] rest = rest
@@ -69,8 +81,8 @@ ReadsBack ranked =
 
 -- every text is accepted as it is written, or refused for its reason
 pub record Read (ranked : Bool) (text : List ℕ) : Type 0 where
-  -- a row has as many numbers as its lines, and the switch
-  pub each-line : length rowLines ≡ switchAt
+  -- there are lines for the most points
+  pub each-line : length rowLines ≡ linesFor maxPoints
   pub sound : readTable ranked text .refused ≡ 0 → Accepted ranked (readTable ranked text)
   pub as-written :
       readTable ranked text .refused ≡ 0

@@ -2,8 +2,8 @@
 -- what it leaves to be read. This is the one description of a table.
 use mathlib.Core.Bool.{Bool, _&&_, not}
 use mathlib.Core.List.{List, [], _∷_, _++_}
-use Prim.Native.Nat.{ℕ, zero, suc}
-use lib.Dec.{eqb, ltb}
+use Prim.Native.Nat.{ℕ, zero, suc, _-_}
+use lib.Dec.{eqb, leb, ltb}
 use lib.ListN.{length, getD}
 use Rattle.basics.specs.Basics.{pick, isIn}
 use Rattle.text.specs.Text.{bytes}
@@ -11,8 +11,8 @@ use Rattle.grammars.specs.Forms.{natural, size}
 use Rattle.grammars.specs.Grammars.{Expected, the-end, a-line, Grammar, Verdict, accepted, refused, read}
 use Rattle.rows.specs.Rows.{minTask, maxTask, minTicks, maxTicks, minAlpha, maxAlpha, minBeta, maxBeta}
 use Rattle.rows.specs.Rows.{minHold, maxHold, minSwitch, maxSwitch, minTasks, maxTasks, fullCost}
-use Rattle.rows.specs.Rows.{periodAt, worstAt, switchAt, rowOf, hasTask}
-use Rattle.rows.specs.declared.Row.{Row}
+use Rattle.rows.specs.Rows.{Row, periodAt, worstAt, pointsAt, firstPointAt, linesFor, rowOf, hasTask}
+use Rattle.curves.specs.Curves.{minPoints, maxPoints, minDelay, maxDelay, minAllow, maxAllow}
 
 -- board numbers
 abbrev pub minBoard : ℕ
@@ -34,6 +34,10 @@ repeated = 5
 abbrev pub impossible : ℕ
 impossible = 6
 
+-- a delay that is not above the one before it, an allow that is above the one before it
+abbrev pub disorderly : ℕ
+disorderly = 11
+
 -- ---- the lines of a row, in fixed order
 -- a line of a row: its key, its range, and the refusal of a number in that range, 0 for none, given the table's switch,
 -- the rows before and the row's numbers before it
@@ -46,8 +50,8 @@ pub record RowLine : Type 0 where
 abbrev pub rowLine : List ℕ → ℕ → ℕ → (ℕ → List Row → List ℕ → ℕ → ℕ) → RowLine
 rowLine key low high fault = record { key = key; low = low; high = high; fault = fault }
 
--- the tests: none; a task number that none of some rows has; a number at most another; a rank that names one of some
--- rows, and none of the ranks before it
+-- the tests: none; a task number that none of some rows has; a number at most another; a delay above the one before it;
+-- an allow not above the one before it; a rank that names one of some rows, and none of the ranks before it
 abbrev pub anyNumber : ℕ → ℕ
 anyNumber v = 0
 
@@ -57,9 +61,27 @@ newTask rs v = pick (hasTask v rs) repeated 0
 abbrev pub atMost : ℕ → ℕ → ℕ
 atMost limit v = pick (ltb limit v) exceeding 0
 
+abbrev pub laterDelay : ℕ → ℕ → ℕ
+laterDelay before v = pick (ltb before v) 0 disorderly
+
+abbrev pub lowerAllow : ℕ → ℕ → ℕ
+lowerAllow before v = pick (leb v before) 0 disorderly
+
 abbrev pub newRank : List Row → List ℕ → ℕ → ℕ
 newRank rs os v = pick (hasTask v rs && not (isIn v os)) 0 impossible
 
+-- a point's lines behind those of the point before it, whose delay stands at a position
+abbrev pub nextDelay : ℕ → RowLine
+nextDelay at = rowLine (bytes "delay=") minDelay maxDelay (λ s rs vs. laterDelay (getD vs at 0))
+
+abbrev pub nextAllow : ℕ → RowLine
+nextAllow at = rowLine (bytes "allow=") minAllow maxAllow (λ s rs vs. lowerAllow (getD vs (suc at) 0))
+
+abbrev pub nextPoints : ℕ → ℕ → List RowLine
+nextPoints at zero = []
+nextPoints at (suc n) = nextDelay at ∷ nextAllow at ∷ nextPoints (suc (suc at)) n
+
+-- a row's lines, with the most points that it can have
 abbrev pub rowLines : List RowLine
 rowLines =
     rowLine (bytes "task=") minTask maxTask (λ s rs vs. newTask rs)
@@ -69,11 +91,18 @@ rowLines =
     ∷ rowLine (bytes "alpha=") minAlpha maxAlpha (λ s rs vs. anyNumber)
     ∷ rowLine (bytes "beta=") minBeta maxBeta (λ s rs vs. anyNumber)
     ∷ rowLine (bytes "hold=") minHold maxHold (λ s rs vs. atMost (getD vs worstAt 0))
-    ∷ []
+    ∷ rowLine (bytes "points=") minPoints maxPoints (λ s rs vs. anyNumber)
+    ∷ rowLine (bytes "delay=") minDelay maxDelay (λ s rs vs. anyNumber)
+    ∷ rowLine (bytes "allow=") minAllow maxAllow (λ s rs vs. anyNumber)
+    ∷ nextPoints firstPointAt (maxPoints - 1)
 
 -- the line at a position in a row
 abbrev pub rowLineAt : ℕ → RowLine
 rowLineAt i = getD rowLines i (rowLine [] 0 0 (λ s rs vs. anyNumber))
+
+-- the numbers of a row's lines are all there: as many as the points that they say
+abbrev pub isWhole : List ℕ → Bool
+isWhole vs = eqb (length vs) (linesFor (getD vs pointsAt 0))
 
 -- ---- what has been read
 -- the tasks that are to come; the switch, the rows so far and how many are left after the one that is being read, with
@@ -114,15 +143,15 @@ fault (at-field n b s rs vs) v = rowLineAt (length vs) .fault s rs vs v
 fault (at-rank n b rs os) v = newRank rs os v
 fault (at-end b rs os) v = 0
 
--- what is to be read after a number; the switch stands behind the numbers of each row
+-- what is to be read after a number; each row has the switch
 abbrev pub after : Bool → Stage → ℕ → Stage
 after ranked at-board v = at-tasks v
 after ranked (at-tasks b) v = at-switch v b
 after ranked (at-switch n b) v = rowsStage ranked n b v []
 after ranked (at-field n b s rs vs) v =
     let more = vs ++ (v ∷ []) in
-    pick (eqb (length more) switchAt)
-    (rowsStage ranked n b s (rs ++ (rowOf (more ++ (s ∷ [])) ∷ [])))
+    pick (isWhole more)
+    (rowsStage ranked n b s (rs ++ (rowOf s more ∷ [])))
     (at-field n b s rs more)
 after ranked (at-rank n b rs os) v = ranksStage n b rs (os ++ (v ∷ []))
 after ranked (at-end b rs os) v = at-end b rs os

@@ -1,4 +1,2 @@
--- What functions promise each other.
-pub mod Numbers
-pub mod Stands
-pub mod Readings
+-- What proofs of other crates cite too: nothing here is needed to believe what the public calls promise.
+pub mod Partial

@@ -53,13 +53,18 @@ fn put_times(out: &mut [u8], at: usize, row: Row) -> usize {
     put_line(out, to, b"best=", row.best as u64)
 }
 
-// A row whose jobs hold nothing.
+// What a row has beside document 01's lines: no hold and no points.
+fn put_neutral(out: &mut [u8], at: usize) -> usize {
+    let to = put_line(out, at, b"hold=", 0);
+    put_line(out, to, b"points=", 0)
+}
+
 fn put_row(out: &mut [u8], at: usize, row: Row) -> usize {
     let to = put_line(out, at, b"task=", row.task as u64);
     let to = put_times(out, to, row);
     let to = put_line(out, to, b"alpha=", row.alpha as u64);
     let to = put_line(out, to, b"beta=", row.beta as u64);
-    put_line(out, to, b"hold=", 0)
+    put_neutral(out, to)
 }
 
 // The offset, and never past the end: so that `&out[..n]` needs no more.

@@ -1,2 +1,2 @@
 -- Laws of the tasks that are shown.
-pub mod Tasks
+pub mod Columns

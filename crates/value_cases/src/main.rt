@@ -1,19 +1,32 @@
 // The values that the search of W tries for some tasks, one after another, and the W that it finds, or that the task is
-// late. It is the planner's own search: how many values there are it says itself (`analysis::try_values`), and each is
+// late. It is the planner's own search: how many values there are it says itself (`fixed_points::try_values`), and each is
 // found by its own first value and step.
 ghost use mathlib.Core.Path.{_≡_};
 ghost use mathlib.Core.Bool.{true};
 ghost use Prim.Native.Nat.{_≤_};
-ghost use Rattle.rows.specs.Rows.{maxTicks, inRange};
-ghost use Rattle.analysis.specs.inside.Columns.{baseMax, Columns};
+ghost use Rattle.rows.specs.Rows.{maxTicks, maxSwitch};
+ghost use Rattle.fixed_points.specs.inside.Loads.{baseMax, Columns};
+ghost use Rattle.value_cases.specs.Loads.{inRange};
 use analysis::blocking_time;
-use analysis::first_value;
-use analysis::least_fixed;
-use analysis::next_value;
-use analysis::try_values;
+use fixed_points::first_value;
+use fixed_points::least_fixed;
+use fixed_points::next_value;
+use fixed_points::try_values;
 use rows::Row;
 
 const STDOUT: i32 = 1;
+
+// A task by what counts for W: its period, and the most ticks that a job of it takes.
+pub struct Load {
+    pub period: u64,
+    pub cost: u64,
+}
+
+fn in_range(task: Load) -> bool
+    ensures { λ r. ⌜ r ≡ inRange task ⌝ }
+{
+    (Row::TICKS_MIN <= task.cost) & (task.cost <= task.period) & (task.period <= Row::TICKS_MAX)
+}
 
 // The first value and those after so many steps.
 fn print_values(base: u64, limit: u64, periods: &[u64], costs: &[u64], n: usize, steps: u64)
@@ -45,25 +58,25 @@ fn print_search(base: u64, limit: u64, periods: &[u64], costs: &[u64], n: usize)
 }
 
 // The same for a task over a largest hold, below the first n of two tasks.
-fn print_between(task: Row, hold: u64, first: Row, second: Row, n: usize)
+fn print_between(task: Load, hold: u64, first: Load, second: Load, n: usize)
     requires { ⌜ (inRange task ≡ true) × (inRange first ≡ true) × (inRange second ≡ true)
         × (hold ≤ maxTicks) × (n ≤ 2) ⌝ }
 {
-    let periods = [first.period as u64, second.period as u64];
-    let costs = [first.cost(), second.cost()];
-    let own = task.cost() + blocking_time(hold);
-    print_search(own, task.period as u64, &periods, &costs, n);
+    let periods = [first.period, second.period];
+    let costs = [first.cost, second.cost];
+    let own = task.cost + blocking_time(hold);
+    print_search(own, task.period, &periods, &costs, n);
 }
 
 // A line of its own for a task. Nothing is printed of tasks out of range.
-fn show(name: &[u8], task: Row, hold: u64, first: Row, second: Row, n: usize) {
-    if !task.in_range() {
+fn show(name: &[u8], task: Load, hold: u64, first: Load, second: Load, n: usize) {
+    if !in_range(task) {
         return;
     }
-    if !first.in_range() {
+    if !in_range(first) {
         return;
     }
-    if !second.in_range() {
+    if !in_range(second) {
         return;
     }
     if Row::HOLD_MAX < hold {
@@ -77,14 +90,18 @@ fn show(name: &[u8], task: Row, hold: u64, first: Row, second: Row, n: usize) {
     print_between(task, hold, first, second, n);
 }
 
-// A task by what counts for W.
-fn task(period: u64, worst: u64, switch: u64) -> Row {
-    let checked = Row::new(1, period, worst, 1, Row::ALPHA_MIN, 0, 0, switch);
-    checked.row
+// A task of a table with some switch.
+fn task(period: u64, worst: u64, switch: u64) -> Load
+    requires { ⌜ (worst ≤ maxTicks) × (switch ≤ maxSwitch) ⌝ }
+{
+    let cost = worst + switch;
+    Load { period, cost }
 }
 
 // Document 01's task 13, with some period, over a largest hold and below the first n of tasks 11 and 12.
-fn show_13(name: &[u8], period: u64, hold: u64, switch: u64, n: usize) {
+fn show_13(name: &[u8], period: u64, hold: u64, switch: u64, n: usize)
+    requires { ⌜ switch ≤ maxSwitch ⌝ }
+{
     let upper = task(24, 6, switch);
     let lower = task(18, 2, switch);
     show(name, task(period, 19, switch), hold, upper, lower, n);

@@ -26,45 +26,12 @@ use Rattle.watch_demands.proofs.Texts.{watch-plain}
 pub runs-so : AllSo runs
 unfolding digits decimal signed keyLine numberOf lineAt formAt readFor
     cost blocking smallest largest refusalText fitted indexOf rankWith jobText runInTime watched
-runs-so = (refl, (refl, (refl, (refl, (refl, (refl, (refl, (refl, tt))))))))
+runs-so = (refl, (refl, (refl, (refl, (refl, (refl, (refl, (refl, (refl, tt)))))))))
 
 pub refusals-so : AllSo refusals
 unfolding digits decimal signed keyLine numberOf lineAt formAt readFor
     cost blocking smallest largest refusalText fitted indexOf rankWith jobText runInTime watched
-refusals-so = (
-  refl,
-  (
-    refl,
-    (
-      refl,
-      (
-        refl,
-        (
-          refl,
-          (
-            refl,
-            (
-              refl,
-              (
-                refl,
-                (
-                  refl,
-                  (
-                    refl,
-                    (
-                      refl,
-                      (refl, (refl, (refl, (refl, (refl, (refl, (refl, (refl, (refl, tt))))))))),
-                    ),
-                  ),
-                ),
-              ),
-            ),
-          ),
-        ),
-      ),
-    ),
-  ),
-)
+refusals-so = (refl, (refl, (refl, (refl, (refl, (refl, (refl, (refl, (refl, (refl, (refl, (refl, (refl, (refl, (refl, (refl, (refl, (refl, (refl, (refl, (refl, tt)))))))))))))))))))))
 
 pub watch-met : WatchMet
 unfolding digits decimal signed keyLine numberOf lineAt formAt readFor
@@ -72,7 +39,7 @@ unfolding digits decimal signed keyLine numberOf lineAt formAt readFor
 watch-met = record {
   told = decides watchText watch-plain watch-start sample .as-written _ refl;
   none-late = in-time;
-  fails = decides watchText watch-plain watch-start (runOn "ticks=0" []) .reason 3 22 refl;
+  fails = decides watchText watch-plain watch-start (runOn "ticks=0" []) .reason 3 24 refl;
   late = record { there = omega arith; late = refl; above-in-time = above };
   printed = refl;
   held-early = held;

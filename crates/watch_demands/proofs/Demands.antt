@@ -1,7 +1,7 @@
 -- The watcher's demands, for every text and every room. A text fails at one line for one reason or tells one run; that
 -- has a late rank, or its lines fit the room or not. So the outcome is one, and it is the call's.
 use mathlib.Core.Path.{_≡_, refl, sym, ap, subst, _∙_}
-use mathlib.Core.Bool.{Bool, true}
+use mathlib.Core.Bool.{Bool, true, false}
 use mathlib.Core.List.{List, [], _∷_}
 use mathlib.Core.Logic.{_⊎_, inl, inr, _↔_}
 use Prim.Native.Nat.{ℕ, zero, suc, _≤_, _<_}
@@ -9,17 +9,18 @@ use native.Mathlib.Omega.{arith}
 use lib.IntN.{ℤ}
 use lib.ListN.{length}
 use Rattle.basics.specs.Basics.{isIn}
-use Rattle.basics.proofs.Tests.{le-or-lt}
+use Rattle.basics.proofs.Tests.{le-or-lt, true-not-false, in-front}
 use Rattle.grammars.specs.Forms.{size}
 use Rattle.grammars.specs.Grammars.{Verdict, accepted, refused, read}
 use Rattle.grammars.specs.Sequences.{first, second}
 use Rattle.grammars.specs.Claims.{Decides}
-use Rattle.grammars.proofs.Decision.{decides, refused-some, refused-small}
+use Rattle.grammars.proofs.Decision.{decides, refused-as}
 use Rattle.rows.specs.Rows.{rowAt, rowsFor, cost}
-use Rattle.rows.specs.declared.Row.{Row}
-use Rattle.tables.specs.TableLines.{at-end, tableOf}
+use Rattle.rows.specs.Rows.{Row}
+use Rattle.tables.specs.TableLines.{at-end, fault, tableOf}
+use Rattle.tables.specs.Claims.{rankedRefusals}
 use Rattle.tables.specs.Claims.{Accepted}
-use Rattle.tables.proofs.Refusals.{fault-small}
+use Rattle.tables.proofs.Refusals.{fault-listed, one-of}
 use Rattle.boards.specs.Boards.{Done}
 use Rattle.boards.specs.Claims.{LastsInRange, NoneLate}
 use Rattle.boards.specs.Witnesses.{never}
@@ -28,7 +29,7 @@ use Rattle.plans.specs.Outcomes.{Outcome, writes, refuses, fitted}
 use Rattle.plans.proofs.Outcomes.{fits, fits-not, Numbered}
 use Rattle.plans.proofs.Entries.{first-late-none}
 use Rattle.demands.specs.Demands.{FirstLate}
-use Rattle.demands.proofs.Outcomes.{same-refusal, not-both, zero-or-more, nine-is, written-is, up-to-six, numbered}
+use Rattle.demands.proofs.Outcomes.{same-refusal, not-both, zero-or-more, nine-is, written-is, numbered}
 use Rattle.demands.proofs.Promises.{promised}
 use Rattle.demands.proofs.Reviewer.{none-late-first, first-of, first-is}
 use Rattle.watch_demands.specs.Jobs.{lengthOf, Indexed}
@@ -55,15 +56,13 @@ unfolding runInTime
 timely-run room order offset ls t e = rw (e, runInTime)
 
 -- ---- refusals of a text
-fault-up-to-six : (x : WatchStage) (z : ℤ) → watchText .fault x z ≤ 6
-fault-up-to-six (first s) z = fault-small s (size z)
-fault-up-to-six (second s t) z = omega arith
+own-listed : (x : WatchStage) (z : ℤ) (m : ℕ) → watchText .fault x z ≡ suc m → isIn (suc m) rankedRefusals ≡ true
+own-listed (first s) z m e = one-of rankedRefusals (fault s (size z)) m e (fault-listed s (size z))
+own-listed (second s t) z m e = absurd (omega (arith, e))
 
-number-small : (text : List ℕ) (n k : ℕ) → FailsRun text n k → (1 ≤ n) × (n ≤ 6)
-number-small text n k why = (
-  refused-some (why .condition),
-  refused-small 6 (omega arith) (fault-up-to-six (why .state)) (why .condition),
-)
+number-listed : (text : List ℕ) (n k : ℕ) → FailsRun text n k → isIn n rankedRefusals ≡ true
+number-listed text n k why =
+    refused-as (λ m. isIn m rankedRefusals ≡ true) refl refl refl (own-listed (why .state)) (why .condition)
 
 -- ---- the run that a text tells
 module _ (text : List ℕ) (b : ℕ) (rs : List Row) (os rels : List ℕ) (t : ℕ) (ls : List ℕ)
@@ -201,25 +200,29 @@ module _ (text : List ℕ) where
         ]
 
     listed : Read room → (n p : ℕ) → watched text room ≡ refuses n p → isIn n watcherRefusals ≡ true
-    listed (fails m k f is) n p e = subst (λ x. isIn x watcherRefusals ≡ true) (same-refusal (sym is ∙ e) .0) (low m f)
-      where
-        low : (m : ℕ) → FailsRun text m k → isIn m watcherRefusals ≡ true
-        low zero f = absurd (omega (arith, number-small text 0 k f .0))
-        low (suc m) f = up-to-six m (7 ∷ 9 ∷ []) (number-small text (suc m) k f .1)
+    listed (fails m k f is) n p e =
+        subst (λ x. isIn x watcherRefusals ≡ true) (same-refusal (sym is ∙ e) .0)
+        (in-front m rankedRefusals (7 ∷ 9 ∷ []) (number-listed text m k f))
     listed (tells b rs os rels t ls told is) n p e =
         elim (late-or-long b rs os rels t ls told n p (sym is ∙ e)) [ inl h ↦ rw h | inr h ↦ rw h ]
 
-    refused-exactly : Read room → (n k : ℕ) → ((watched text room ≡ refuses n k) × (n ≤ 6)) ↔ FailsRun text n k
-    refused-exactly r n k = (by r, λ f. (fails-is room n k f, number-small text n k f .1))
+    refused-exactly : Read room → (n k : ℕ)
+        → ((watched text room ≡ refuses n k) × (isIn n rankedRefusals ≡ true)) ↔ FailsRun text n k
+    refused-exactly r n k = (by r, λ f. (fails-is room n k f, number-listed text n k f))
       where
-        by : Read room → (watched text room ≡ refuses n k) × (n ≤ 6) → FailsRun text n k
+        -- neither 7 nor 9 is a text's
+        else : (m : ℕ) → isIn m rankedRefusals ≡ false → n ≡ m → isIn n rankedRefusals ≡ true → ⊥
+        else m none same here =
+            true-not-false (isIn n rankedRefusals) here (ap (λ x. isIn x rankedRefusals) same ∙ none)
+
+        by : Read room → (watched text room ≡ refuses n k) × (isIn n rankedRefusals ≡ true) → FailsRun text n k
         by (fails m j f is) e =
             let same = same-refusal (sym is ∙ e .0) in
             subst (λ x. FailsRun text x k) (same .0) (subst (FailsRun text m) (same .1) f)
         by (tells b rs os rels t ls told is) e =
             elim (late-or-long b rs os rels t ls told n k (sym is ∙ e .0)) [
-              | inl h ↦ absurd (omega (arith, h, e .1))
-              | inr h ↦ absurd (omega (arith, h, e .1))
+              | inl h ↦ absurd (else 7 refl h (e .1))
+              | inr h ↦ absurd (else 9 refl h (e .1))
             ]
 
     pub watch-demands : WatchDemands text room (watched text room)

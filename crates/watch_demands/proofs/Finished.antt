@@ -13,7 +13,7 @@ use Rattle.basics.specs.Basics.{pick}
 use Rattle.basics.proofs.Tests.{true-not-false, and-left, and-right, and-both, le-or-lt}
 use Rattle.text.specs.Text.{bytes, decimal, keyLine}
 use Rattle.rows.specs.Rows.{rowAt}
-use Rattle.rows.specs.declared.Row.{Row}
+use Rattle.rows.specs.Rows.{Row}
 use Rattle.tables.specs.Claims.{lineOf}
 use Rattle.boards.specs.Boards.{Job, Done, Board, isDone, withReleases, queueAt, ends, finishing, highest, goesOn}
 use Rattle.boards.specs.Boards.{afterTicks}

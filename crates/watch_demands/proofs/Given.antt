@@ -10,7 +10,7 @@ use lib.ListN.{length}
 use borrow.Author.Tests.{leb-true, le-leb}
 use Rattle.basics.proofs.Tests.{and-both}
 use Rattle.rows.specs.Rows.{inRange, allRows, rowAt, rowsFor, tasksOf}
-use Rattle.rows.specs.declared.Row.{Row}
+use Rattle.rows.specs.Rows.{Row}
 use Rattle.rows.proofs.Limits.{Limits, limits, at-passes}
 use Rattle.tables.specs.TableLines.{TableRead}
 use Rattle.tables.specs.Claims.{Accepted}

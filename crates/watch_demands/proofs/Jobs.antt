@@ -13,7 +13,7 @@ use borrow.Author.Tests.{eqb-true, eq-eqb, lt-ltb, le-ltb, ltb-true}
 use Rattle.basics.specs.Basics.{pick, sumTo}
 use Rattle.basics.proofs.Tests.{test-of, false-of, le-or-lt}
 use Rattle.rows.specs.Rows.{rowAt}
-use Rattle.rows.specs.declared.Row.{Row}
+use Rattle.rows.specs.Rows.{Row}
 use Rattle.boards.proofs.Sums.{Above, sum-tight}
 use Rattle.boards.proofs.Releases.{released, released-exactly, released-grows}
 use Rattle.watch_demands.specs.Jobs.{firstOf, releaseOf, ahead, indexOf, hasIndex, rankWith, Earlier}

@@ -11,7 +11,7 @@ use native.Mathlib.Nat.{le-refl}
 use lib.ListN.{length, getD, List·getD-eq-default}
 use Rattle.basics.proofs.Tests.{le-or-lt}
 use Rattle.rows.specs.Rows.{rowAt, cost}
-use Rattle.rows.specs.declared.Row.{Row}
+use Rattle.rows.specs.Rows.{Row}
 use Rattle.responses.specs.Claims.{NoneHolds}
 use Rattle.boards.specs.Boards.{Done, isDone}
 use Rattle.boards.specs.Claims.{LastsInRange, Finishes, AfterFirstReleases}

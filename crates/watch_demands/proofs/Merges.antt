@@ -13,7 +13,7 @@ use borrow.Author.Tests.{eqb-true, eqb-false, eq-eqb, ne-eqb}
 use Rattle.basics.specs.Basics.{pick, sumTo}
 use Rattle.basics.proofs.Tests.{test-of, le-or-lt}
 use Rattle.rows.specs.Rows.{rowAt}
-use Rattle.rows.specs.declared.Row.{Row}
+use Rattle.rows.specs.Rows.{Row}
 use Rattle.boards.proofs.Sums.{Above, sum-zero, sum-le}
 use Rattle.boards.proofs.Releases.{released-before, unreleased}
 use Rattle.watch_demands.specs.inside.Least.{LeastIs}

@@ -22,7 +22,7 @@ use Rattle.grammars.specs.Reasons.{Passes, Reaches, begin, line}
 use Rattle.grammars.proofs.Naturals.{natural-passes, natural-written, in-range-passes}
 use Rattle.grammars.proofs.Steps.{no-line}
 use Rattle.rows.specs.Rows.{minTicks, maxTicks, rowAt, rowsFor, cost}
-use Rattle.rows.specs.declared.Row.{Row}
+use Rattle.rows.specs.Rows.{Row}
 use Rattle.tables.specs.Claims.{lineOf}
 use Rattle.watch_demands.specs.Jobs.{rankWith}
 use Rattle.watch_demands.specs.WatchLines.{minRelease, maxRelease, minLengths, maxLengths, RunStage}

@@ -24,7 +24,7 @@ use Rattle.grammars.proofs.Invariants.{Invariant, holds}
 use Rattle.grammars.proofs.Sequences.{plain-sequence, split, lifted, joined}
 use Rattle.grammars.proofs.Steps.{no-line}
 use Rattle.rows.specs.Rows.{maxTicks, holdAt, tasksOf, hasTask, distinctRows, noRow, rowAt, rowsFor, cost, positionOf}
-use Rattle.rows.specs.declared.Row.{Row}
+use Rattle.rows.specs.Rows.{Row}
 use Rattle.tables.specs.TableLines.{Stage, at-board, at-tasks, at-switch, at-field, at-rank}
 use Rattle.tables.specs.TableLines.{at-end, TableRead, tableOf, tableAt}
 use Rattle.tables.specs.TableLines.{table}

@@ -19,10 +19,10 @@ use Rattle.grammars.specs.Reasons.{Passes, Reaches}
 use Rattle.grammars.proofs.Invariants.{Invariant}
 use Rattle.grammars.proofs.Naturals.{natural-passes}
 use Rattle.grammars.proofs.Steps.{no-line}
-use Rattle.rows.specs.Rows.{minHold, maxHold, holdAt, switchAt, rowOf, noRow, rowAt}
-use Rattle.rows.specs.declared.Row.{Row}
+use Rattle.rows.specs.Rows.{minHold, maxHold, holdAt, pointsAt, linesFor, rowOf, noRow, rowAt}
+use Rattle.rows.specs.Rows.{Row}
 use Rattle.tables.specs.TableLines.{Stage, at-board, at-tasks, at-switch, at-field, at-rank, at-end, rowLineAt}
-use Rattle.tables.specs.TableLines.{ranksStage, rowsStage, expected, after, table}
+use Rattle.tables.specs.TableLines.{isWhole, ranksStage, rowsStage, expected, after, table}
 use Rattle.tables.proofs.Keys.{table-plain}
 use Rattle.watch_demands.specs.WatchLines.{noHold, unheldLine, unheld}
 use Rattle.grammars.proofs.Fronts.{passes-as, widens}
@@ -96,7 +96,7 @@ abbrev pub Kept : Stage → Type 0
 Kept at-board = Unit {0}
 Kept (at-tasks b) = Unit {0}
 Kept (at-switch n b) = Unit {0}
-Kept (at-field n b s rs vs) = NoHolds rs
+Kept (at-field n b s rs vs) = NoHolds rs × (holdAt < length vs → getD vs holdAt 0 ≡ 0)
 Kept (at-rank n b rs os) = NoHolds rs
 Kept (at-end b rs os) = NoHolds rs
 
@@ -106,18 +106,16 @@ ranks-kept (suc n) b rs os h = h
 
 rows-kept : (n b s : ℕ) (rs : List Row) → NoHolds rs → Kept (rowsStage true n b s rs)
 rows-kept zero b s rs h = ranks-kept (length rs) b rs [] h
-rows-kept (suc n) b s rs h = h
+rows-kept (suc n) b s rs h = (h, λ l. absurd (omega arith))
 
--- one row more, whose hold is the last of its numbers
-row-kept : (rs : List Row) (vs : List ℕ) (v s : ℕ) → NoHolds rs → length vs ≡ holdAt → v ≡ 0
-    → NoHolds (rs ++ (rowOf ((vs ++ (v ∷ [])) ++ (s ∷ [])) ∷ []))
-row-kept rs vs v s h long none i l = elim (le-or-lt (length rs) i) [
+-- one row more, whose hold is 0
+row-kept : (rs : List Row) (vs : List ℕ) (s : ℕ) → NoHolds rs → getD vs holdAt 0 ≡ 0
+    → NoHolds (rs ++ (rowOf s vs ∷ []))
+row-kept rs vs s h none i l = elim (le-or-lt (length rs) i) [
   | inl b ↦ (
-      let more = vs ++ (v ∷ []) in
-      let r = rowOf (more ++ (s ∷ [])) in
+      let r = rowOf s vs in
       let at : length rs ≡ i = omega (arith, length-append rs (r ∷ [])) in
-      let of-line = List·getD-append more (s ∷ []) 0 holdAt (omega (arith, length-append vs (v ∷ []))) in
-      ap (λ (x : Row). x .hold) (row-last rs r i at) ∙ (of-line ∙ (getD-at vs v [] 0 holdAt long ∙ none)))
+      ap (λ (x : Row). x .hold) (row-last rs r i at) ∙ none)
   | inr b ↦ ap (λ (x : Row). x .hold) (List·getD-append rs _ noRow i b) ∙ h i b
 ]
   where
@@ -127,18 +125,29 @@ row-kept rs vs v s h long none i l = elim (le-or-lt (length rs) i) [
 pub kept : Invariant unheld at-board Kept
 kept = record { begins = tt; keeps = go }
   where
-    field : (n b s : ℕ) (rs : List Row) (vs : List ℕ) (key : List ℕ) (z : ℤ) → NoHolds rs
+    -- the hold of a row, once it is there
+    hold-is : (n b s : ℕ) (rs : List Row) (vs : List ℕ) (key : List ℕ) (z : ℤ)
+        → (holdAt < length vs → getD vs holdAt 0 ≡ 0) → Passes unheld (at-field n b s rs vs) key z
+        → let more = vs ++ (size z ∷ []) in holdAt < length more → getD more holdAt 0 ≡ 0
+    hold-is n b s rs vs key z h p l = elim (le-or-lt (length vs) holdAt) [
+      | inl few ↦ (
+          let long : length vs ≡ holdAt = omega (arith, few, l, length-append vs (size z ∷ [])) in
+          let none = natural-passes p (bytes "hold=") noHold noHold
+          (hold-line n b s rs vs (eq-eqb (length vs) holdAt long)) in
+          getD-at vs (size z) [] 0 holdAt long ∙ omega (arith, none .le-high))
+      | inr there ↦ List·getD-append vs (size z ∷ []) 0 holdAt there ∙ h there
+    ]
+
+    field : (n b s : ℕ) (rs : List Row) (vs : List ℕ) (key : List ℕ) (z : ℤ) → Kept (at-field n b s rs vs)
         → Passes unheld (at-field n b s rs vs) key z → Kept (after true (at-field n b s rs vs) (size z))
     field n b s rs vs key z h p =
         let more = vs ++ (size z ∷ []) in
-        elim (test-of (eqb (length more) switchAt)) [
+        let next = hold-is n b s rs vs key z (h .1) p in
+        elim (test-of (isWhole more)) [
           | inl e ↦ (
-              let whole = eqb-true (length more) switchAt e in
-              let long : length vs ≡ holdAt = omega (arith, length-append vs (size z ∷ [])) in
-              let at-hold = eq-eqb (length vs) holdAt long in
-              let none = natural-passes p (bytes "hold=") noHold noHold (hold-line n b s rs vs at-hold) in
-              rw e (rows-kept n b s _ (row-kept rs vs (size z) s h long (omega (arith, none .le-high)))))
-          | inr e ↦ rw e h
+              let long = eqb-true (length more) (linesFor (getD more pointsAt 0)) e in
+              rw e (rows-kept n b s _ (row-kept rs more s (h .0) (next (omega (arith, long))))))
+          | inr e ↦ rw e (h .0, next)
         ]
 
     go : (s : Stage) (key : List ℕ) (z : ℤ) → Kept s → Passes unheld s key z → Kept (after true s (size z))

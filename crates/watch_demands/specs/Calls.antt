@@ -4,7 +4,7 @@ use Prim.Native.Nat.{ℕ, zero, suc}
 use Rattle.grammars.specs.Grammars.{Verdict, accepted, refused, read}
 use Rattle.grammars.specs.Sequences.{first, second}
 use Rattle.rows.specs.Rows.{maxBuffer, rowsFor}
-use Rattle.rows.specs.declared.Row.{Row}
+use Rattle.rows.specs.Rows.{Row}
 use Rattle.tables.specs.TableLines.{tableAt}
 use Rattle.plans.specs.Entries.{firstLate}
 use Rattle.plans.specs.Outcomes.{Outcome, refuses, fitted, printed}
@@ -27,7 +27,7 @@ watchedAt room (second s (at-length n rels t ls)) = refuses 0 0
 watchedAt room (second s (run-end rels t ls)) =
     let a = tableAt s in runInTime room (rowsFor (a .order) (a .rows)) (offsetOf (a .rows) (a .order) rels) ls t
 
--- refusals 1 to 6: those of the text; else what its run comes to
+-- refusals 1 to 6 and 11: those of the text; else what its run comes to
 abbrev pub onWatch : ℕ → Verdict WatchStage → Outcome
 onWatch room (accepted s) = watchedAt room s
 onWatch room (refused n k) = refuses n k

@@ -14,9 +14,9 @@ use Rattle.grammars.specs.Reasons.{Reaches, Refused}
 use Rattle.grammars.specs.Sequences.{second}
 use Rattle.grammars.specs.Claims.{AsWritten, Reason, Decides}
 use Rattle.rows.specs.Rows.{holdAt, rowAt, rowsFor, cost}
-use Rattle.rows.specs.declared.Row.{Row}
+use Rattle.rows.specs.Rows.{Row}
 use Rattle.tables.specs.TableLines.{Stage, at-board, at-field, at-end, expected, table}
-use Rattle.tables.specs.Claims.{Tells, lineOf}
+use Rattle.tables.specs.Claims.{Tells, rankedRefusals, lineOf}
 use Rattle.boards.specs.Boards.{Done, isDone}
 use Rattle.boards.specs.Claims.{LastsInRange, Finishes, AfterFirstReleases, NoneLate}
 use Rattle.plans.specs.declared.Answer.{Answer}
@@ -147,13 +147,13 @@ module _ (order : List Row) (offset : ℕ → ℕ) (lengths : List ℕ) where
         → RunKept ds
 
 abbrev pub watcherRefusals : List ℕ
-watcherRefusals = 1 ∷ 2 ∷ 3 ∷ 4 ∷ 5 ∷ 6 ∷ 7 ∷ 9 ∷ []
+watcherRefusals = rankedRefusals ++ (7 ∷ 9 ∷ [])
 
 pub record WatchDemands (text : List ℕ) (room : ℕ) (w : Outcome) : Type 0 where
   -- every text is refused exactly for its reason, with its line, or accepted as it is written
   pub decides : Decides watchText watch-start text
   pub listed : (n p : ℕ) → w ≡ refuses n p → isIn n watcherRefusals ≡ true
-  pub refused : (n k : ℕ) → ((w ≡ refuses n k) × (n ≤ 6)) ↔ FailsRun text n k
+  pub refused : (n k : ℕ) → ((w ≡ refuses n k) × (isIn n rankedRefusals ≡ true)) ↔ FailsRun text n k
   pub says :
       (board : ℕ) (rows : List Row) (tasks releases : List ℕ) (ticks : ℕ) (lengths : List ℕ)
       → TellsRun text board rows tasks releases ticks lengths

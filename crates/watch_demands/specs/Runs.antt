@@ -6,7 +6,7 @@ use mathlib.Core.Logic.{_↔_}
 use Prim.Native.Nat.{ℕ, _+_, _≤_, _<_}
 use Rattle.text.specs.Text.{bytes, decimal, joined, keyLine}
 use Rattle.rows.specs.Rows.{rowAt}
-use Rattle.rows.specs.declared.Row.{Row}
+use Rattle.rows.specs.Rows.{Row}
 use Rattle.boards.specs.Boards.{Done, isDone, afterTicks}
 use Rattle.boards.specs.Claims.{Finishes}
 use Rattle.boards.specs.Witnesses.{never}

@@ -12,7 +12,7 @@ use Rattle.grammars.specs.Forms.{natural, size}
 use Rattle.grammars.specs.Grammars.{Expected, the-end, a-line, Grammar}
 use Rattle.grammars.specs.Sequences.{Sequel, first, sequence}
 use Rattle.rows.specs.Rows.{holdAt, rowAt, rowsFor, cost, tasksOf, positionOf}
-use Rattle.rows.specs.declared.Row.{Row}
+use Rattle.rows.specs.Rows.{Row}
 use Rattle.tables.specs.TableLines.{Stage, at-board, at-tasks, at-switch, at-field, at-rank, at-end, expected, table}
 use Rattle.tables.specs.TableLines.{tableAt}
 use Rattle.watch_demands.specs.Jobs.{rankWith}

@@ -12,7 +12,7 @@ use lib.Seq.{getD-set-same, getD-set-other}
 use borrow.Author.Tests.{eqb-true, eqb-false}
 use Rattle.basics.proofs.Tests.{test-of}
 use Rattle.rows.specs.Rows.{maxTicks, rowAt}
-use Rattle.rows.specs.declared.Row.{Row}
+use Rattle.rows.specs.Rows.{Row}
 use Rattle.watch_demands.specs.Jobs.{releaseOf, rankWith}
 use Rattle.watch_demands.proofs.Jobs.{rank-is}
 use Rattle.watch_demands.specs.inside.Least.{LeastIs}

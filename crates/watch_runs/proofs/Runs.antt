@@ -16,7 +16,7 @@ use Rattle.text.proofs.Decimals.{decimal-short}
 use Rattle.text.proofs.Spelling.{line-length}
 use Rattle.text.proofs.Puts.{begins, next, ends, from-start}
 use Rattle.rows.specs.Rows.{maxTicks, rowAt, cost}
-use Rattle.rows.specs.declared.Row.{Row}
+use Rattle.rows.specs.Rows.{Row}
 use Rattle.boards.specs.Boards.{Done, noJobs}
 use Rattle.boards.specs.Document01.{pendingThen, finishedThen}
 use Rattle.boards.specs.Witnesses.{never}

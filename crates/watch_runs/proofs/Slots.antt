@@ -9,7 +9,7 @@ use native.Mathlib.Nat.{le-antisymm, not-suc-le-zero}
 use lib.ListN.{length, getD, List·getD-eq-default}
 use Rattle.basics.proofs.Tests.{le-or-lt}
 use Rattle.rows.specs.Rows.{rowAt}
-use Rattle.rows.specs.declared.Row.{Row}
+use Rattle.rows.specs.Rows.{Row}
 use Rattle.watch_demands.specs.Jobs.{indexOf, rankWith}
 use Rattle.watch_demands.proofs.Jobs.{later-job, earlier-job, rank-is}
 use Rattle.watch_demands.proofs.Merges.{indexed}

@@ -13,7 +13,7 @@ use lib.Seq.{getD-set-same, getD-set-other, set-getD}
 use borrow.Author.Tests.{le-leb, lt-leb, eqb-true, eqb-false}
 use Rattle.basics.proofs.Tests.{test-of}
 use Rattle.rows.specs.Rows.{rowAt, cost}
-use Rattle.rows.specs.declared.Row.{Row}
+use Rattle.rows.specs.Rows.{Row}
 use Rattle.boards.specs.Boards.{Job, Done, releases, withReleases, highest, queueAt, worked, workedAt, finishing}
 use Rattle.boards.specs.Document01.{afterWork, finishes}
 use Rattle.boards.proofs.Document01.{work-is, finishes-is}

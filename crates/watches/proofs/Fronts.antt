@@ -32,19 +32,19 @@ use Rattle.grammars.specs.inside.Answers.{tested, onAnswer}
 use Rattle.grammars.proofs.Naturals.{step-line}
 use Rattle.grammars.proofs.Loops as Loops
 use Rattle.rows.specs.Rows.{minHold, maxHold, holdAt}
-use Rattle.rows.specs.declared.Row.{Row}
+use Rattle.rows.specs.Rows.{Row}
 use Rattle.tables.specs.TableLines.{Stage, at-board, at-end, expected, table, tableOf, rowLineAt}
 use Rattle.tables.specs.TableLines.{TableRead, readTable}
-use Rattle.tables.specs.declared.progress.Part.{Part}
-use Rattle.tables.specs.declared.progress.Part.the-variants as P
-use Rattle.tables.specs.declared.progress.Stand.{Stand}
-use Rattle.tables.specs.declared.progress.Progress.{Progress}
-use Rattle.tables.specs.inside.Numbers.{Room, rowStart, boardIn, rowsIn}
-use Rattle.tables.specs.inside.Stands.{begun, readBy, stageIn, stageOf, Stands, reader, On, TakesLine}
+use Rattle.readers.specs.declared.progress.Part.{Part}
+use Rattle.readers.specs.declared.progress.Part.the-variants as P
+use Rattle.readers.specs.declared.progress.Stand.{Stand}
+use Rattle.readers.specs.declared.progress.Progress.{Progress}
+use Rattle.readers.specs.inside.Numbers.{Room, rowStart, boardIn, rowsIn}
+use Rattle.readers.specs.inside.Stands.{begun, readBy, stageIn, stageOf, Stands, reader, On, TakesLine}
 use Rattle.tables.proofs.Readings as Tables
-use Rattle.tables.proofs.Tables.{endIn, shown-end, in-numbers}
-use Rattle.tables.proofs.Turns as Turns
-use Rattle.tables.proofs.Steps.{line-small}
+use Rattle.readers.proofs.Tables.{endIn, shown-end, in-numbers}
+use Rattle.readers.proofs.Turns as Turns
+use Rattle.readers.proofs.Steps.{line-small}
 use Rattle.watch_demands.specs.WatchLines.{noHold, unheldLine, unheld, releasesStage, runBegins}
 use Rattle.watch_demands.specs.WatchLines.{WatchStage, watchText, watch-start}
 use Rattle.watch_demands.proofs.Texts.{watch-plain, table-front, tells-table, no-holds}
@@ -323,5 +323,5 @@ module _ (text : List ℕ) where
                 ∙ ap (λ w. readFrom watchText text w (p .offset) (p .line))
                 (shows ∙ sym (ap (λ (a : TableRead). second (at-end (a .board) (a .rows) (a .order))
                 (releasesStage (length (a .rows)) [])) is));
-            soon = omega (arith, small .1);
+            soon = omega (arith, small);
           }

@@ -14,7 +14,7 @@ use borrow.Author.Tests.{eqb-true, eqb-false}
 use Rattle.basics.proofs.Tests.{test-of}
 use Rattle.rows.specs.Rows.{minTasks, maxTasks, maxTicks, inRange, timesInRange, allRows, rowAt, rowsFor, cost}
 use Rattle.rows.specs.Rows as Rows
-use Rattle.rows.specs.declared.Row.{Row}
+use Rattle.rows.specs.Rows.{Row}
 use Rattle.rows.specs.declared.Order.{Order}
 use Rattle.rows.specs.inside.Arrays.{ranking, ranked}
 use Rattle.rows.specs.inside.Numbers.{rowsIn, positionsFor, Below}
@@ -24,10 +24,10 @@ use Rattle.rows.proofs.RowNumbers.{between-at, between-length}
 use Rattle.rows.proofs.Tasks.{positions-are, positions-length}
 use Rattle.tables.specs.TableLines.{readTable}
 use Rattle.tables.specs.Claims.{Accepted}
-use Rattle.tables.specs.inside.Numbers.{rowStart}
-use Rattle.tables.specs.inside.Numbers as TableNumbers
+use Rattle.readers.specs.inside.Numbers.{rowStart}
+use Rattle.readers.specs.inside.Numbers as TableNumbers
 use Rattle.tables.proofs.Readings as Tables
-use Rattle.tables.proofs.Tables.{ranks-counted}
+use Rattle.readers.proofs.Tables.{ranks-counted}
 use Rattle.responses.specs.Claims.{NoneHolds}
 use Rattle.analysis.specs.inside.Columns.{Fillable, Filled}
 use Rattle.plan_orders.specs.inside.Ranks.{Ordered}

@@ -26,7 +26,7 @@ use Rattle.grammars.proofs.Answers.{NoNumber, no-test}
 use Rattle.grammars.proofs.Naturals.{step-end, number-within, no-number-at-end}
 use Rattle.grammars.proofs.Steps.{read-steps}
 use Rattle.rows.specs.Rows.{minTicks, maxTicks, rowAt, cost}
-use Rattle.rows.specs.declared.Row.{Row}
+use Rattle.rows.specs.Rows.{Row}
 use Rattle.plans.specs.declared.Answer.{Answer}
 use Rattle.plans.specs.Outcomes.{refuses, result, Written}
 use Rattle.plans.proofs.Outcomes.{refused as stays}

@@ -1,13 +1,13 @@
 // The table at the front of a text to watch: read as the reviewer's, but that no task holds the processor.
 ghost use mathlib.Core.Path.{_≡_};
 ghost use mathlib.Core.Bool.{false};
-ghost use Rattle.tables.specs.inside.Numbers.{Room};
+ghost use Rattle.readers.specs.inside.Numbers.{Room};
 ghost use Rattle.watches.specs.inside.Fronts.{isEnd, atHold, isOver, OnFront, TakesUnheld, ReadsFront};
+use readers::Part;
+use readers::Progress;
+use readers::Stand;
+use readers::take_line;
 use rows::HOLD;
-use tables::Part;
-use tables::Progress;
-use tables::Stand;
-use tables::take_line;
 use text::Line;
 use text::line_at;
 

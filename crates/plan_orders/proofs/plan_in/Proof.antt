@@ -6,7 +6,7 @@ use borrow.Author.Needs.{needs}
 use denote.Ref.{now}
 use lib.ListN.{length, take}
 use Rattle.rows.specs.inside.Numbers.{rowsIn}
-use Rattle.rows.specs.declared.Row.{Row}
+use Rattle.rows.specs.Rows.{Row}
 use Rattle.analysis.proofs.Filling.{rows-long}
 use Rattle.plan_orders.proofs.Given.{plan-long, given-is}
 use Rattle.plan_orders.proofs.plan_in.Statement.{statement}

@@ -4,7 +4,7 @@ use native.Mathlib.Omega.{arith}
 use borrow.Author.Needs.{needs}
 use lib.ListN.{take}
 use Rattle.rows.specs.inside.Numbers.{rowsIn}
-use Rattle.rows.specs.declared.Row.{Row}
+use Rattle.rows.specs.Rows.{Row}
 use Rattle.rows.proofs.Limits.{all-times}
 use Rattle.analysis.proofs.Filling.{rows-long}
 use Rattle.plans.proofs.Lengths.{head-length}

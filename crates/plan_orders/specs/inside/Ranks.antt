@@ -9,8 +9,9 @@ use Rattle.text.specs.Buffers.{Wrote}
 use Rattle.text.specs.inside.Puts.{Put}
 use Rattle.rows.specs.Rows.{inRange, allRows}
 use Rattle.rows.specs.inside.Numbers.{rowsIn}
-use Rattle.rows.specs.declared.Row.{Row}
-use Rattle.analysis.specs.inside.Columns.{columnsMax, Among}
+use Rattle.rows.specs.Rows.{Row}
+use Rattle.fixed_points.specs.inside.Loads.{columnsMax}
+use Rattle.analysis.specs.inside.Columns.{Among}
 use Rattle.plans.specs.Entries.{entries, firstLate}
 use Rattle.plans.specs.Plans.{rankTexts, planText}
 use Rattle.plans.specs.Outcomes.{Outcome, refuses, fitted}

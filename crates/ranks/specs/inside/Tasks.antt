@@ -4,9 +4,9 @@ use mathlib.Core.Bool.{true}
 use mathlib.Core.List.{List}
 use Prim.Native.Nat.{ℕ, _*_, _≤_}
 use lib.ListN.{length}
-use Rattle.rows.specs.Rows.{maxTasks, fieldCount, inRange, allRows, allTasks}
+use Rattle.rows.specs.Rows.{maxTasks, inRange, allRows, allTasks}
 use Rattle.rows.specs.inside.Arrays.{ranked}
-use Rattle.rows.specs.inside.Numbers.{rowsOf}
+use Rattle.rows.specs.inside.Numbers.{fieldCount, rowsOf}
 use Rattle.rows.specs.declared.Order.{Order}
 
 -- the order has as many tasks as there are rows, each of one of them

@@ -12,7 +12,7 @@ use borrow.Author.Needs.{needs}
 use borrow.Fn.Kinds.{In}
 use borrow.Fn.PlainCycle.{Measures, is, falls, and}
 use Rattle.basics.specs.Basics.{larger}
-use Rattle.rows.specs.declared.Row.{Row}
+use Rattle.rows.specs.Rows.{Row}
 use Rattle.rows.specs.inside.Numbers.{rowsOf}
 use Rattle.rows.proofs.RowNumbers.{rows-length, rows-at}
 use Rattle.orders.specs.Orders.{theOrder}

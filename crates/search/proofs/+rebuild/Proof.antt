@@ -1,5 +1,5 @@
 -- The order rebuilt: the tasks of the set without its lowest row, then that row's. The measure is the number of rows.
-use mathlib.Core.Path.{_≡_, sym, ap, subst}
+use mathlib.Core.Path.{_≡_, sym, subst}
 use mathlib.Core.Bool.{true}
 use mathlib.Core.List.{_++_}
 use Prim.Native.Nat.{ℕ, suc, _-_, _*_, _/_, _%_, _^_, _≤_, _<_}
@@ -8,10 +8,9 @@ use lib.ListN.{length, getD, drop}
 use borrow.Author.Needs.{needs}
 use borrow.Fn.Kinds.{In}
 use borrow.Fn.PlainCycle.{Measures, is, falls, and}
-use Rattle.rows.specs.Rows.{maxTasks, fieldCount, inRange}
-use Rattle.rows.specs.declared.Row.{Row}
+use Rattle.rows.specs.Rows.{maxTasks, inRange}
 use Rattle.rows.proofs.Limits.{limits}
-use Rattle.rows.specs.inside.Numbers.{rowIn}
+use Rattle.rows.specs.inside.Numbers.{fieldCount, rowIn}
 use Rattle.search.specs.inside.Search.{Chained, chainTasks}
 use Rattle.search.proofs.Sets.{bit-le}
 use Rattle.search.proofs.Chains.{row-of, chain-lowest}
@@ -19,7 +18,7 @@ use Rattle.search.proofs.rebuild.Reads as rebuild
 use Rattle.search.proofs.rebuild.Kinds as rebuild-kinds
 use Rattle.search.proofs.+rebuild.Lts-rebuild as rebuild-lts
 use Rattle.search.proofs.power.Reads as power-reads
-use Rattle.rows.proofs.row_at.Reads as row-at-reads
+use Rattle.rows.proofs.number_at.Reads as number-at-reads
 use Rattle.search.proofs.+rebuild.{statement}
 use Rattle.search.proofs.+rebuild.Tie.{close}
 
@@ -40,8 +39,8 @@ module _ (t : ℕ) where
     power-reads.Learnt,
     rebuild-below,
     rebuild.Post,
-    row-at-reads.Asked,
-    row-at-reads.Learnt,
+    number-at-reads.Asked,
+    number-at-reads.Learnt,
   )
 
   -- the lowest row of the set, and the rest
@@ -95,17 +94,14 @@ module _ (t : ℕ) where
         ),
       )
 
-  row-at-requires : rebuild-lts.Need-row-at-requires calls rebuild-at rebuild.Post
-  row-at-requires c κs =
-      let read = c .before .before .before .before .before in
-      (row read .1, row read .2)
+  number-at-requires : rebuild-lts.Need-number-at-requires calls rebuild-at rebuild.Post
+  number-at-requires c κs = (row (c .before .before .before .before .before) .1, omega arith)
 
   cast-tasks : rebuild-lts.Need-cast-tasks calls rebuild-at rebuild.Post
   cast-tasks c =
-      let read = c .before .before .before .before .before .before .before in
+      let read = c .before .before .before .before .before .before in
       let kept = limits (rowIn (start read .args .rows .now) (i read)) (row read .2) in
-      let is = ap (λ (r : Row). r .task) (c .before .row-at .ensures) in
-      record { fits = omega (arith, kept .task .le-high, is) }
+      record { fits = omega (arith, kept .task .le-high, c .number-at .ensures) }
 
   mul-tasks : rebuild-lts.Need-mul-tasks calls rebuild-at rebuild.Post
   mul-tasks c = search needs
@@ -118,17 +114,17 @@ module _ (t : ℕ) where
 
   returns : rebuild-lts.Need-returns calls rebuild-at rebuild.Post
   returns c =
-      let read = c .before .before .before .before .before .before .before in
+      let read = c .before .before .before .before .before .before in
       let s = start read in
       let a = s .args in
       let rows = a .rows .now in
-      let o = c .before .before .before .before .rebuild in
+      let o = c .before .before .before .rebuild in
       let ts = o .last .1 .1 .1 .1 .0 in
       let k = a .n - 1 in
       let rest = subst (λ (p : ℕ). ts ≡ chainTasks rows (a .sets .now) k (a .m - p) ++ drop k (a .tasks .now))
-      (c .before .before .before .before .before .before .power .ensures) (o .ensures) in
-      chain-lowest rows (a .sets .now) (a .m) (a .n) (a .tasks .now) ts (c .before .row-at .result)
-      (read .before .if1 .taken) (s .pre .1 .0) (c .before .row-at .ensures) rest
+      (c .before .before .before .before .before .power .ensures) (o .ensures) in
+      chain-lowest rows (a .sets .now) (a .m) (a .n) (a .tasks .now) ts (c .number-at .result)
+      (read .before .if1 .taken) (s .pre .1 .0) (c .number-at .ensures) rest
 
   returns-2 : rebuild-lts.Need-returns-2 calls rebuild-at rebuild.Post
   returns-2 c =
@@ -144,7 +140,7 @@ pub +rebuild-spec : {M : Type 1} → statement M
     (power-requires t)
     (sub-rebuild t)
     (rebuild-requires t)
-    (row-at-requires t)
+    (number-at-requires t)
     (cast-tasks t)
     (mul-tasks t)
     (slice-write-tasks t)

@@ -31,8 +31,13 @@ use denote.RattleType.{RattleType}
 use denote.Ref.{MutRef, ShrRef}
 use denote.Struct.Laws as LL
 use denote.Triple.Walked.{needs}
+use lib.ListN.{length-map}
+use Rattle.curves.proofs.Lines.{few-of}
 use Rattle.rows.specs.declared.Row.{Row}
-use Rattle.rows.specs.inside.Numbers.{numbersRoom, rowsOf, RowsPut}
+use Rattle.rows.specs.Rows.{rowAt, inRange}
+use Rattle.rows.specs.inside.Numbers.{rowsOf}
+use Rattle.rows.specs.inside.Records.{asRow, asRows, numbersRoom, FewPoints, RowsPut}
+use Rattle.rows.proofs.Limits.{limits, at-passes}
 use Rattle.search.specs.declared.Choice.{Choice}
 use Rattle.search.specs.inside.Search.{TableRows, Lent, Chooses}
 use Rattle.rows.proofs.Row as T
@@ -65,13 +70,21 @@ abbrev zeroVal : Val
 zeroVal = arrayVal (replicate numbersRoom (vint w64 0))
 
 -- the rows that `put_rows` put among them, and that they are lent as
-rows-are : (ys : List Row) (ns : List ℕ) → TableRows ys → RowsPut ys zeros ns → rowsOf (length ys) ns ≡ ys
-rows-are ys ns table put = put .there (omega arith) (table .few)
+few-points : (ys : List Row) → TableRows (asRows ys) → FewPoints (asRows ys)
+few-points ys table i l =
+    let r = rowAt (asRows ys) i in
+    few-of (r .curve) (limits r (at-passes inRange (asRows ys) i (table .in-range) l) .curve)
 
-lent-rows : (ys : List Row) (ns : List ℕ) → TableRows ys → RowsPut ys zeros ns → Lent (length ys) ns
+rows-are : (ys : List Row) (ns : List ℕ) → TableRows (asRows ys) → RowsPut (asRows ys) zeros ns
+    → rowsOf (length ys) ns ≡ asRows ys
+rows-are ys ns table put =
+    subst (λ n. rowsOf n ns ≡ asRows ys) (length-map ys asRow)
+    (put .there (omega arith) (table .few) (few-points ys table))
+
+lent-rows : (ys : List Row) (ns : List ℕ) → TableRows (asRows ys) → RowsPut (asRows ys) zeros ns → Lent (length ys) ns
 lent-rows ys ns table put = record {
-  few = table .few;
-  held = omega (arith, table .few, put .long);
+  few = omega (arith, table .few, length-map ys asRow);
+  held = omega (arith, table .few, put .long, length-map ys asRow);
   table = subst TableRows (sym (rows-are ys ns table put)) table;
 }
 
@@ -138,7 +151,7 @@ module _ {M : Type 1} (𝓤 : URA M) (H : Heap 𝓤) (A : Atoms 𝓤) (W : Given
       nothing ! $ owned ! usize (Is usize) (uint-makes 𝓤 H A W w64) n _ (refl, fits) $ fjoin ! $
       move ! (1 ∷ 0 ∷ []) $ fjoin ! $ done !
 
-  exits : (x : Choice) (u : Val) → Chooses (s .now) x
+  exits : (x : Choice) (u : Val) → Chooses (asRows (s .now)) x
       → ent 𝓤 (⋆ 𝓤 H A (‵ (L.the-row .own x (u ∷ [])) ∷ ‵ (flft κ q) ∷ [])) (Post u)
   exits x u e =
       qed W (‵ (L.the-row .own x (u ∷ [])) ∷ ‵ (flft κ q) ∷ []) ∵
@@ -149,7 +162,7 @@ module _ {M : Type 1} (𝓤 : URA M) (H : Heap 𝓤) (A : Atoms 𝓤) (W : Given
   module _ (C : Calls 𝓤 H) (Λ : Loops 𝓤 H) (fm : FmC 𝓤 H (W .laws) C)
       (known-put-rows : Triple 𝓤 (C #put-rows) (PutRows 𝓤 H A mem run))
       (known-order-in : Triple 𝓤 (C #order-in) (OrderIn 𝓤 H A mem run)) where
-    walk : Is (ShrSlice (named 0) κ T.the-row) s (v ∷ []) → TableRows (s .now)
+    walk : Is (ShrSlice (named 0) κ T.the-row) s (v ∷ []) → TableRows (asRows (s .now))
         → ent 𝓤 (onEntry 𝓤 H A order-of.signature (κ, tt) (q, tt) (s, tt) at)
         (WpFn 𝓤 H C Λ code.function (v ∷ []) Post)
     walk p table =
@@ -178,7 +191,7 @@ module _ {M : Type 1} (𝓤 : URA M) (H : Heap 𝓤) (A : Atoms 𝓤) (W : Given
         use3 W (raw (PutRows 𝓤 H A mem run .pre (to-put-rows l₃ α δ))) (goes-put-rows l₃ α δ) $
         calls-left ! fm put-rows.ended (put-rows.clauses 𝓤 H A mem run) known-put-rows (to-put-rows l₃ α δ)
         (‵ (flft κ q) ⊛ (‵ (flft (α ∷ []) fullShare) ⊛ ‵ ftrue)) refl
-        (λ _ ws. RowsPut (s .now) zeros (ws .1 .0)) (λ _ ws. refl)
+        (λ _ ws. RowsPut (asRows (s .now)) zeros (ws .1 .0)) (λ _ ws. refl)
         (and-then ! (load ! (from ! (stop !)) (look ! 11 refl))
         (and-then ! (load ! (from ! (stop !)) (look ! 4 refl)) (no-more !))) (λ w _ ws e is. drop ! $
         land ! (from ! (stop !)) (init ! 7 refl (nothing-lawful 𝓤 H A W .typed tt (w ∷ []) is .0)) $
@@ -212,7 +225,7 @@ module _ {M : Type 1} (𝓤 : URA M) (H : Heap 𝓤) (A : Atoms 𝓤) (W : Given
         move ! (0 ∷ 11 ∷ []) $ free1 ! $ move ! (8 ∷ 9 ∷ []) $ free1 ! $ move ! (6 ∷ 7 ∷ []) $ free1 ! $
         move ! (4 ∷ 5 ∷ []) $ free1 ! $ free0 ! $ keep ! (1 ∷ 3 ∷ []) $
         by ! (exits x u
-        (subst (λ (ys : List Row). Chooses ys x) (rows-are (s .now) (ws .1 .0) table e) e′))))))))))))))))
+        (subst (λ ys. Chooses ys x) (rows-are (s .now) (ws .1 .0) table e) e′))))))))))))))))
 
 module _ {M : Type 1} (𝓤 : URA M) (H : Heap 𝓤) (A : Atoms 𝓤) (W : Given 𝓤 H A) (mem : Memory → SProp 𝓤)
     (run : Routine → Fun 𝓤) where

@@ -7,8 +7,8 @@ use lib.ListN.{take}
 use lib.Seq.{take-all}
 use mathlib.Core.List.{List}
 use Rattle.rows.specs.Rows.{inRange}
-use Rattle.rows.specs.declared.Row.{Row}
-use Rattle.rows.specs.inside.Numbers.{rowsOf}
+use Rattle.rows.specs.Rows.{Row}
+use Rattle.rows.specs.inside.Numbers.{rowIn, rowsOf}
 use Rattle.rows.proofs.Limits.{all-times}
 use Rattle.rows.proofs.RowNumbers.{rows-at}
 use Rattle.responses.specs.declared.Figures.{Figures}
@@ -37,71 +37,51 @@ found c =
     subst (λ (k : ℕ). Gathered (table s) (s .args .m - k) (s .args .n) (g .last .1 .1 .1 .0) (g .result))
     (c .before .before .power .ensures) (g .ensures)
 
-power-requires : tie.Need-power-requires
-power-requires c κs = search needs
-
 sub-gather : tie.Need-sub-gather
 sub-gather c =
     let s = c .before .before .before in
     omega (arith, c .power .ensures, bit-le (s .args .m) (s .args .i) (s .pre .2))
 
-gather-requires : tie.Need-gather-requires
-gather-requires c κs = search needs
-
-row-at-requires : tie.Need-row-at-requires
-row-at-requires c κs =
-    let s = c .before .before .before .before .before .before .before in
-    (row-held (s .pre .0) (s .args .i) (s .pre .1), ranged (s .pre .0) (s .args .i) (s .pre .1))
-
 figures-under-requires : tie.Need-figures-under-requires
 figures-under-requires c κs =
-    let s = c .before .before .before .before .before .before .before .before .before in
-    let read = c .before in
+    let s = c .before .before .before .before .before .before .before .before in
     let above = members (rest s) (table s) in
-    let below = others (s .args .m) (table s) in
-    record {
-      in-range = ap inRange (read .row-at .ensures) ∙ ranged (s .pre .0) (s .args .i) (s .pre .1);
-      few = omega (arith, s .pre .0 .few);
-      rows = above;
-      filled = found (c .before .before .before .before) .filled;
-      times-in-range = all-times above (some-pass inRange 1 (rest s) (table s) (s .pre .0 .table .in-range));
-      below = below;
-      blocked-is = s .pre .4;
-      blocked-max = omega (
-        arith,
-        s .pre .4,
-        blocking-max below (some-pass inRange 0 (s .args .m) (table s)
-            (s .pre .0 .table .in-range)),
-      );
-    }
-
-same-length : tie.Need-same-length
-same-length c = search needs
+    let below = others (s .args .m) (table s) in (
+      row-held (s .pre .0) (s .args .i) (s .pre .1),
+      record {
+        in-range = ranged (s .pre .0) (s .args .i) (s .pre .1);
+        few = omega (arith, s .pre .0 .few);
+        rows = above;
+        filled = found (c .before .before .before) .filled;
+        times-in-range = all-times above (some-pass inRange 1 (rest s) (table s) (s .pre .0 .table .in-range));
+        below = below;
+        blocked-is = s .pre .4;
+        blocked-max = omega (
+          arith,
+          s .pre .4,
+          blocking-max below (some-pass inRange 0 (s .args .m) (table s)
+              (s .pre .0 .table .in-range)),
+        );
+      },
+    )
 
 returns : tie.Need-returns
 returns c =
-    let s = c .before .before .before .before .before .before .before .before .before .before in
-    let g = found (c .before .before .before .before .before) in
-    let count = c .before .before .before .before .before .gather .result in
-    let read = c .before .before in
+    let s = c .before .before .before .before .before .before .before .before .before in
+    let g = found (c .before .before .before .before) in
+    let count = c .before .before .before .before .gather .result in
     let above = members (rest s) (table s) in
     let below = others (s .args .m) (table s) in
+    let row = rowIn (s .args .rows .now) (s .args .i) in
     let figures = c .figures-under .ensures above below (g .filled) (s .pre .4) in
     ap (λ (f : Figures). f .stable) figures
-    ∙ stable-is (read .row-at .result) (take count above) below
-    ∙ ap (λ (rs : List Row). isStable (read .row-at .result) rs below)
-    (take-all count above (omega (arith, g .counted)))
+    ∙ stable-is row (take count above) below
+    ∙ ap (λ (rs : List Row). isStable row rs below) (take-all count above (omega (arith, g .counted)))
     ∙ ap (λ (x : Row). isStable x above below)
-    (read .row-at .ensures ∙ sym (rows-at (s .args .n) (s .args .i) (s .args .rows .now) (s .pre .1)))
+    (sym (rows-at (s .args .n) (s .args .i) (s .args .rows .now) (s .pre .1)))
 
 pub stable-under-spec : {M : Type 1} → statement M
 stable-under-spec =
     tie.close
-    (tie.spec
-    power-requires
-    sub-gather
-    gather-requires
-    row-at-requires
-    figures-under-requires
-    same-length
+    (tie.spec (λ c κs. search needs) sub-gather (λ c κs. search needs) figures-under-requires (λ c. search needs)
     returns)

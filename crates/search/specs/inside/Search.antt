@@ -5,10 +5,10 @@ use mathlib.Core.List.{List, [], _∷_, _++_}
 use mathlib.Core.Option.{Option, none, some}
 use Prim.Native.Nat.{ℕ, zero, suc, _-_, _*_, _/_, _%_, _^_, _≤_, _<_}
 use lib.ListN.{length, getD}
-use Rattle.rows.specs.Rows.{maxTasks, fieldCount, inRange, allRows, tasksOf, distinctRows}
+use Rattle.rows.specs.Rows.{maxTasks, inRange, allRows, tasksOf, distinctRows}
 use Rattle.rows.specs.inside.Arrays.{ranking}
-use Rattle.rows.specs.inside.Numbers.{rowsOf, rowIn}
-use Rattle.rows.specs.declared.Row.{Row}
+use Rattle.rows.specs.inside.Numbers.{fieldCount, rowsOf, rowIn}
+use Rattle.rows.specs.Rows.{Row}
 use Rattle.analysis.specs.inside.Columns.{Filled}
 use Rattle.orders.specs.Orders.{Chosen}
 use Rattle.search.specs.inside.Sets.{members, isSome, fits, goes, LowestIs, Says, Known, Recorded}

@@ -9,7 +9,7 @@ use Prim.Native.Nat.{ℕ, _-_, _/_, _%_, _^_, _≤_, _<_}
 use lib.Dec.{eqb}
 use lib.ListN.{length, getD}
 use Rattle.rows.specs.Rows.{maxBuffer, rowAt}
-use Rattle.rows.specs.declared.Row.{Row}
+use Rattle.rows.specs.Rows.{Row}
 use Rattle.orders.specs.Orders.{ByLowest, overSet, theOrder}
 
 abbrev pub keep : Bool → Row → List Row → List Row

@@ -6,7 +6,7 @@ use native.Mathlib.Omega.{arith}
 use lib.ListN.{length}
 use borrow.Author.Needs.{needs}
 use borrow.Author.Tests.{leb-true}
-use Rattle.tables.specs.inside.Numbers.{numberBytes, fewNumbers}
+use Rattle.readers.specs.inside.Numbers.{numberBytes}
 use Rattle.table_cases.proofs.print_reading.Statement.{statement}
 use Rattle.table_cases.proofs.print_reading.Tie as tie
 
@@ -14,8 +14,8 @@ print-read-requires : tie.Need-print-read-requires
 print-read-requires c κs =
     let s = c .before .before in
     let a = s .before .before .args in
-    let short = sym (s .is-short .ensures) ∙ c .before .if1 .taken in
-    inr (leb-true (length (a .text .now)) (numberBytes * fewNumbers) short)
+    let short = sym (s .fits-in .ensures) ∙ c .before .if1 .taken in
+    inr (leb-true (length (a .text .now)) (numberBytes * 120) short)
 
 print-read-requires-2 : tie.Need-print-read-requires-2
 print-read-requires-2 c κs = inl (omega arith)

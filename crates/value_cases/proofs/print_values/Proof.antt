@@ -4,9 +4,9 @@ use Prim.Native.Nat.{_+_, _-_, _≤_}
 use native.Mathlib.Numerals.{add-one}
 use native.Mathlib.Omega.{arith}
 use borrow.Author.Needs.{needs}
-use Rattle.analysis.specs.inside.Columns.{loads}
-use Rattle.analysis.specs.inside.Values.{nextValue, valueAt}
-use Rattle.analysis.proofs.Values.{periods-some, searching}
+use Rattle.fixed_points.specs.inside.Loads.{loads}
+use Rattle.fixed_points.specs.inside.Values.{nextValue, valueAt}
+use Rattle.fixed_points.proofs.Values.{periods-some, searching}
 use Rattle.value_cases.proofs.print_values.Statement.{statement}
 use Rattle.value_cases.proofs.print_values.Tie as tie
 

@@ -6,7 +6,7 @@ use native.Mathlib.Omega.{arith}
 use lib.ListN.{length}
 use denote.Ref.{now}
 use borrow.Author.Needs.{needs}
-use Rattle.rows.specs.declared.Row.{Row}
+use Rattle.rows.specs.Rows.{Row}
 use Rattle.plans.proofs.Outcomes.{fits, fits-not, refused}
 use Rattle.watch_demands.specs.Runs.{jobsText}
 use Rattle.watch_runs.proofs.Runs.{wrote-whole}

@@ -5,7 +5,7 @@ use mathlib.Core.List.{List}
 use Prim.Native.Nat.{ℕ, _+_, _≤_, _<_}
 use lib.ListN.{length, getD}
 use Rattle.rows.specs.Rows.{maxTicks, rowAt}
-use Rattle.rows.specs.declared.Row.{Row}
+use Rattle.rows.specs.Rows.{Row}
 use Rattle.watch_demands.specs.Jobs.{rankWith}
 use Rattle.watch_demands.specs.WatchLines.{maxRelease, maxLengths}
 use Rattle.watch_demands.specs.inside.Least.{LeastIs}

@@ -7,7 +7,7 @@ use Prim.Native.Nat.{ℕ, zero, suc, _+_, _≤_, _<_}
 use lib.ListN.{length, getD}
 use Rattle.basics.specs.Basics.{pick}
 use Rattle.rows.specs.Rows.{maxTicks, rowAt, cost}
-use Rattle.rows.specs.declared.Row.{Row}
+use Rattle.rows.specs.Rows.{Row}
 use Rattle.boards.specs.Boards.{Job, Done, withReleases}
 use Rattle.boards.specs.Document01.{afterWork, finishes}
 use Rattle.watch_demands.specs.Jobs.{releaseOf, releasedBefore, indexOf, lengthOf}

@@ -11,10 +11,10 @@ use Rattle.grammars.specs.Reasons.{Reaches}
 use Rattle.grammars.specs.Sequences.{onward}
 use Rattle.grammars.specs.inside.Readers.{Reader, Takes}
 use Rattle.rows.specs.Rows.{holdAt}
-use Rattle.tables.specs.declared.progress.Part.{Part}
-use Rattle.tables.specs.declared.progress.Part.the-variants as P
-use Rattle.tables.specs.declared.progress.Progress.{Progress}
-use Rattle.tables.specs.inside.Stands.{stageOf, On}
+use Rattle.readers.specs.declared.progress.Part.{Part}
+use Rattle.readers.specs.declared.progress.Part.the-variants as P
+use Rattle.readers.specs.declared.progress.Progress.{Progress}
+use Rattle.readers.specs.inside.Stands.{stageOf, On}
 use Rattle.watch_demands.specs.WatchLines.{unheld, runBegins, WatchStage, watchText, watch-start}
 use Rattle.watches.specs.inside.Stages.{AtReleases}
 

@@ -8,12 +8,12 @@ use lib.ListN.{length, getD, take, drop}
 use Rattle.grammars.specs.Grammars.{read, readFrom}
 use Rattle.grammars.specs.Sequences.{second}
 use Rattle.rows.specs.Rows.{maxTicks, maxTasks, rowsFor, rowAt}
-use Rattle.rows.specs.declared.Row.{Row}
+use Rattle.rows.specs.Rows.{Row}
 use Rattle.rows.specs.inside.Numbers.{rowsIn, positionsFor}
 use Rattle.tables.specs.TableLines.{at-end, TableRead, readTable}
-use Rattle.tables.specs.declared.Reading.{Reading}
-use Rattle.tables.specs.inside.Readings.{ReadAs}
-use Rattle.tables.specs.inside.Numbers.{headCount}
+use Rattle.readers.specs.declared.Reading.{Reading}
+use Rattle.readers.specs.inside.Readings.{ReadAs}
+use Rattle.readers.specs.inside.Numbers.{headCount}
 use Rattle.analysis.specs.inside.Columns.{Filled}
 use Rattle.plan_orders.specs.inside.Ranks.{Ordered}
 use Rattle.watch_demands.specs.WatchLines.{maxRelease, maxLengths, RunStage, at-ticks, releasesStage}

@@ -1,4 +1,4 @@
--- `rows::Row::keeps` meets its contract: its tests are those of `inRange`, in their order.
+-- `rows::Row::keeps` meets its contract: its tests are those of `numbersInRange`, in their order.
 use borrow.Author.Needs.{needs}
 use Rattle.rows.specs.Rows as R
 use Rattle.rows.proofs.Row.keeps.Statement.{statement}

@@ -1,56 +1,56 @@
--- `rows::Row::new` meets its contract: a row where `keeps` says so. What it says bounds each cast.
-use borrow.Author.Needs.{needs}
+-- `rows::Row::new` meets its contract: a row where its numbers keep their limits and its curve does. What that says bounds
+-- each cast.
+use mathlib.Core.Path.{_≡_, sym, ap₂, _∙_}
+use mathlib.Core.Bool.{_&&_}
 use native.Mathlib.Omega.{arith}
+use borrow.Author.Needs.{needs}
 use borrow.Author.Tests.{not-true, not-false}
-use mathlib.Core.Path.{sym, _∙_}
-use Rattle.rows.specs.Rows.{row}
+use Rattle.rows.specs.declared.Row.{Row}
+use Rattle.rows.specs.Rows as R
+use Rattle.rows.specs.Rows.{inRange}
+use Rattle.rows.specs.inside.Records.{asRow, recorded}
 use Rattle.rows.proofs.Limits.{Limits, limits}
 use Rattle.rows.proofs.Row.new.Statement.{statement}
 use Rattle.rows.proofs.Row.new.Tie as tie
 
-keeps-requires : tie.Need-keeps-requires
-keeps-requires c κs = search needs
+-- the record that the numbers make
+abbrev made : tie.Start → Row
+made s =
+    let n = s .args in
+    recorded (n .task) (n .period) (n .worst) (n .best) (n .alpha) (n .beta) (n .hold) (n .switch) (n .points) (n .t10)
+
+tested : (c : tie.After-well-formed) → (c .before .before .keeps .result && c .well-formed .result)
+    ≡ inRange (asRow (made (c .before .before .before)))
+unfolding R.cost
+tested c = ap₂ _&&_ (c .before .before .keeps .ensures) (c .well-formed .ensures)
 
 -- past the test, the numbers keep their limits
-known : (c : tie.Else1)
-    → let n = c .before .before .args in
-    Limits (row (n .task) (n .period) (n .worst) (n .best) (n .alpha) (n .beta) (n .hold) (n .switch))
-known c = limits _ (sym (c .before .keeps .ensures) ∙ not-false _ (c .if1 .left))
-
-no-row-requires : tie.Need-no-row-requires
-no-row-requires c κs = search needs
+known : (c : tie.Else1) → Limits (asRow (made (c .before .before .before .before)))
+known c = limits _ (sym (tested (c .before)) ∙ not-false _ (c .if1 .left))
 
 returns : tie.Need-returns
-returns c =
-    let k = c .before .before in
-    simp (c .no-row .ensures, sym (k .keeps .ensures) ∙ not-true _ (c .before .if1 .taken))
+returns c = simp (c .no-row .ensures, sym (tested (c .before .before)) ∙ not-true _ (c .before .if1 .taken))
 
-cast-t13 : tie.Need-cast-t13
-cast-t13 c = omega (arith, known c)
-
-cast-t14 : tie.Need-cast-t14
-cast-t14 c = omega (arith, known c)
-
-cast-t15 : tie.Need-cast-t15
-cast-t15 c = omega (arith, known c)
-
-cast-t16 : tie.Need-cast-t16
-cast-t16 c = omega (arith, known c)
-
-cast-t17 : tie.Need-cast-t17
-cast-t17 c = omega (arith, known c)
-
-cast-t18 : tie.Need-cast-t18
-cast-t18 c = omega (arith, known c)
-
-cast-t19 : tie.Need-cast-t19
-cast-t19 c = omega (arith, known c)
+cast-t20 : tie.Need-cast-t20
+cast-t20 c = omega (arith, known c)
 
 returns-2 : tie.Need-returns-2
-returns-2 c = simp (sym (c .before .keeps .ensures) ∙ not-false _ (c .if1 .left))
+returns-2 c = simp (sym (tested (c .before)) ∙ not-false _ (c .if1 .left))
 
 pub new-spec : {M : Type 1} → statement M
 new-spec =
     tie.close
-    (tie.spec keeps-requires no-row-requires returns cast-t13 cast-t14 cast-t15 cast-t16 cast-t17 cast-t18
-    cast-t19 returns-2)
+    (tie.spec
+    (λ c κs. search needs)
+    (λ c. search needs)
+    (λ c κs. search needs)
+    (λ c κs. search needs)
+    returns
+    cast-t20
+    (λ c. omega (arith, known c))
+    (λ c. omega (arith, known c))
+    (λ c. omega (arith, known c))
+    (λ c. omega (arith, known c))
+    (λ c. omega (arith, known c))
+    (λ c. omega (arith, known c))
+    returns-2)

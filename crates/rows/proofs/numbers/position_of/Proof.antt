@@ -1,5 +1,5 @@
 -- `rows::numbers::position_of` meets its contract. Invariant: no row passed has the task, so it stands among the rest.
-use mathlib.Core.Path.{_≡_, ap}
+use mathlib.Core.Path.{_≡_, ap, _∙_, sym}
 use Prim.Native.Nat.{_+_, _-_, _≤_}
 use native.Mathlib.Omega.{arith}
 use Rattle.rows.specs.Rows.{tasksOf, positionOf}
@@ -17,27 +17,19 @@ abbrev μ-loop : tie.MeasureT-loop
 
 loop-holds : tie.Need-loop-holds Inv-loop μ-loop
 loop-holds c =
-    let a = c .args in
+    let a = c .before .args in
     let all = ap (λ rs. positionOf (a .task) (tasksOf rs)) (past-all (a .n) (a .rows .now)) in
     (omega arith, omega (arith, all))
 
-mul-if1 : tie.Need-mul-if1 Inv-loop μ-loop
-mul-if1 c = omega arith
-
-add-if1 : tie.Need-add-if1 Inv-loop μ-loop
-add-if1 c = omega arith
-
-mul-if1-2 : tie.Need-mul-if1-2 Inv-loop μ-loop
-mul-if1-2 c = omega arith
-
-shared-slice-read-if1 : tie.Need-shared-slice-read-if1 Inv-loop μ-loop
-shared-slice-read-if1 c = omega arith
+number-at-requires : tie.Need-number-at-requires Inv-loop μ-loop
+number-at-requires c κs = (omega arith, omega arith)
 
 returns : tie.Need-returns Inv-loop μ-loop
 returns c =
-    let a = c .before .before .before .before .args in
+    let a = c .before .before .before .before .before .args in
     let x = c .before .before .before .loop in
-    omega (arith, x .inv .1, position-here (a .task) (a .n) (x .i) (a .rows .now) (omega arith) (c .if1 .taken))
+    let here = c .if1 .taken ∙ c .before .number-at .ensures in
+    omega (arith, x .inv .1, position-here (a .task) (a .n) (x .i) (a .rows .now) (omega arith) here)
 
 add-i : tie.Need-add-i Inv-loop μ-loop
 add-i c = omega arith
@@ -47,14 +39,15 @@ loop-less c = omega arith
 
 loop-again : tie.Need-loop-again Inv-loop μ-loop
 loop-again c =
-    let a = c .before .before .before .before .args in
+    let a = c .before .before .before .before .before .args in
     let x = c .before .before .before .loop in
-    let later = position-later (a .task) (a .n) (x .i) (a .rows .now) (omega arith) (c .if1 .left) in
+    let later = position-later (a .task) (a .n) (x .i) (a .rows .now) (omega arith)
+    (λ e. c .if1 .left (e ∙ sym (c .before .number-at .ensures))) in
     (omega arith, omega (arith, x .inv .1, later))
 
 returns-2 : tie.Need-returns-2 Inv-loop μ-loop
 returns-2 c =
-    let a = c .before .before .args in
+    let a = c .before .before .before .args in
     let x = c .before .loop in
     let none = ap (λ rs. positionOf (a .task) (tasksOf rs)) (past-end (a .n) (x .i) (a .rows .now) (omega arith)) in
     omega (arith, x .inv .1, none)
@@ -62,16 +55,4 @@ returns-2 c =
 pub position-of-spec : {M : Type 1} → statement M
 position-of-spec =
     tie.close
-    (tie.spec
-    Inv-loop
-    μ-loop
-    loop-holds
-    mul-if1
-    add-if1
-    mul-if1-2
-    shared-slice-read-if1
-    returns
-    add-i
-    loop-less
-    loop-again
-    returns-2)
+    (tie.spec Inv-loop μ-loop loop-holds number-at-requires returns add-i loop-less loop-again returns-2)

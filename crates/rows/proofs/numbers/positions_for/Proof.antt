@@ -7,7 +7,7 @@ use native.Mathlib.Omega.{arith}
 use borrow.Author.Needs.{needs}
 use lib.ListN.{length, getD, take, drop, set, length-set}
 use lib.Seq.{take-suc, length-take-le}
-use Rattle.rows.specs.declared.Row.{Row}
+use Rattle.rows.specs.Rows.{Row}
 use Rattle.rows.specs.Rows.{tasksOf, positionOf}
 use Rattle.rows.specs.inside.Numbers.{rowsOf, positionsFor}
 use Rattle.rows.proofs.Arrays.{front-next}

@@ -34,9 +34,12 @@ use denote.Plain.{nothing-lawful}
 use denote.Ref.{MutRef, ptr-vals, mut-tells}
 use denote.Struct.Laws as LL
 use denote.Triple.Walked.{stay-ref, goes-ref}
-use Rattle.rows.specs.Rows.{maxTasks, noRow, rowAt}
+use Rattle.rows.specs.Rows.{maxTasks, rowAt}
 use Rattle.rows.specs.declared.Row.{Row}
-use Rattle.rows.specs.inside.Numbers.{numbersRoom, rowIn, RowPut, RowsPut}
+use Rattle.rows.specs.inside.Numbers.{rowIn}
+use Rattle.rows.specs.inside.Records.{asRow, asRows, noRecord, numbersRoom, FewPoints, RowPut, RowsPut}
+use lib.ListN.{length-map, List·getD-map}
+use mathlib.Core.Path.{subst}
 use Rattle.rows.proofs.RowNumbers.{rows-are}
 use Rattle.rows.proofs.Putting.{put-next}
 use Rattle.rows.proofs.Row as T
@@ -79,7 +82,8 @@ record St (ys : List Row) (ns₀ : List ℕ) : Type 0 where
   ns : List ℕ
   within : i ≤ length ys
   long : length ns ≡ length ns₀
-  so : numbersRoom ≤ length ns₀ → (k : ℕ) → k < i → k < maxTasks → rowIn ns k ≡ rowAt ys k
+  so : numbersRoom ≤ length ns₀ → FewPoints (asRows ys) → (k : ℕ) → k < i → k < maxTasks
+      → rowIn ns k ≡ rowAt (asRows ys) k
 
 module _ (ys : List Row) (ns₀ : List ℕ) where
   abbrev Nearer : St ys ns₀ → St ys ns₀ → Type 0
@@ -89,20 +93,23 @@ module _ (ys : List Row) (ns₀ : List ℕ) where
   Nearer-wf = InvImage·wf (λ (x : St ys ns₀). length ys - x .i) (Nat·lt-wfRel .wf)
 
   -- one record more
-  abbrev next : (x : St ys ns₀) → x .i < length ys → (zs : List ℕ) → RowPut (x .ns) (x .i) (rowAt ys (x .i)) zs
-      → St ys ns₀
+  abbrev next : (x : St ys ns₀) → x .i < length ys → (zs : List ℕ)
+      → RowPut (x .ns) (x .i) (asRow (getD ys (x .i) noRecord)) zs → St ys ns₀
   next x l zs p = record {
     i = x .i + 1;
     ns = zs;
     within = add-one-le l;
     long = p .long ∙ x .long;
-    so = λ room. put-next (x .ns) zs ys (x .i) (omega (arith, room, x .long)) (x .so room) p;
+    so = λ room few. put-next (x .ns) zs (asRows ys) (x .i) (omega (arith, room, x .long)) (x .so room few)
+        (subst (λ t. RowPut (x .ns) (x .i) t zs) (sym (List·getD-map asRow ys (x .i) noRecord)) p)
+        (few (x .i) (omega (arith, l, length-map ys asRow)));
   }
 
   -- none is left
-  over : (x : St ys ns₀) → length ys ≤ x .i → RowsPut ys ns₀ (x .ns)
+  over : (x : St ys ns₀) → length ys ≤ x .i → RowsPut (asRows ys) ns₀ (x .ns)
   over x h = record {
-    there = λ room few. rows-are (x .ns) ys (λ k l. x .so room k (omega (arith, h, l)) (omega (arith, few, l)));
+    there = λ room few points. rows-are (x .ns) (asRows ys) (λ k l.
+        x .so room points k (omega (arith, h, l, length-map ys asRow)) (omega (arith, few, l)));
     long = x .long;
   }
 
@@ -170,7 +177,7 @@ module _ {M : Type 1} (𝓤 : URA M) (H : Heap 𝓤) (A : Atoms 𝓤) (W : Given
       owned ! usize (Is usize) (uint-makes 𝓤 H A W w64) i _ (refl, fits) $ fjoin ! $
       move ! (2 ∷ 0 ∷ []) $ fjoin ! $ move ! (1 ∷ 0 ∷ []) $ join ! $ frame ! $ done !
 
-  exits : (ns : List ℕ) → RowsPut ys ns₀ ns
+  exits : (ns : List ℕ) → RowsPut (asRows ys) ns₀ ns
       → ent 𝓤 (⋆ 𝓤 H A (‵ (flft κ q) ∷ ‵ (Own κ′ δ ns) ∷ ‵ (flft κ′ r) ∷ [])) (Post vunit)
   exits ns so =
       qed W (‵ (flft κ q) ∷ ‵ (Own κ′ δ ns) ∷ ‵ (flft κ′ r) ∷ []) ∵
@@ -226,11 +233,11 @@ module _ {M : Type 1} (𝓤 : URA M) (H : Heap 𝓤) (A : Atoms 𝓤) (W : Given
         (load ! (from ! (stop !)) (look ! 14 refl)) tt) (from ! (stop !)) (init ! 6 refl (tt, tt)) $
         rewrite ! 6 (λ (p′ : ℕ). ‵ (fat fullShare tyPtr l₈ 0 (vptr b p′))) (sym (place-is rowBytes o (x .i))) refl $
         elem-out ! T.the-row (Is T.the-row) (shows 𝓤 H A T.the-row) (LL.vals T.the-type T′.the-laws)
-        (LL.tells T.the-type T′.the-laws) q′ ys (x .i) noRow b o (ltb→lt _ _ less) (λ g.
+        (LL.tells T.the-type T′.the-laws) q′ ys (x .i) noRecord b o (ltb→lt _ _ less) (λ g.
         -- [the record; what it owns; the others; what shuts the slice; the numbers; their token; _9; …; _8; …]
         assigns ! (of-opd ! (load ! (from ! (hop ! (look ! 8 refl) (stop !))) (look-raw ! 0 refl))) (from ! (stop !))
         (init ! 6 refl (LL.lawful T.the-type T′.the-laws 𝓤 H A W .typed elem (mach elem ∷ []) g .0)) $
-        elem-back ! T.the-row q′ ys (x .i) noRow (mach elem ∷ []) b o (ltb→lt _ _ less) $
+        elem-back ! T.the-row q′ ys (x .i) noRecord (mach elem ∷ []) b o (ltb→lt _ _ less) $
         -- the numbers are lent again, for a lifetime α of the call
         lft-new ! tt (λ α. move ! (3 ∷ 4 ∷ []) $
         use2 W (later (some (λ (ε : GName). ‵ (Own (α ∷ []) ε (x .ns))
@@ -242,7 +249,7 @@ module _ {M : Type 1} (𝓤 : URA M) (H : Heap 𝓤) (A : Atoms 𝓤) (W : Given
         -- [what `put_row` asks; what is had of the numbers; the slice's records; what shuts it; _9; …]
         calls-left ! (fmOf 𝓤 H (W .laws) 𝓣) put-row.ended (put-row.clauses 𝓤 H A mem run) known
         (to-put-row α ε (x .ns) (x .i) elem) (‵ (flft (α ∷ []) fullShare) ⊛ ‵ ftrue) refl
-        (λ _ ws. RowPut (x .ns) (x .i) elem (ws .0)) (λ _ ws. refl)
+        (λ _ ws. RowPut (x .ns) (x .i) (asRow elem) (ws .0)) (λ _ ws. refl)
         (and-then ! (load ! (from ! (stop !)) (look ! 8 refl)) (and-then ! (load ! (from ! (stop !)) (look ! 16 refl))
         (and-then ! (load ! (from ! (stop !)) (look ! 4 refl)) (no-more !)))) (λ w _ ws put is. drop ! $
         land ! (from ! (stop !)) (init ! 11 refl (nothing-lawful 𝓤 H A W .typed tt (w ∷ []) is .0)) $
@@ -272,7 +279,7 @@ module _ {M : Type 1} (𝓤 : URA M) (H : Heap 𝓤) (A : Atoms 𝓤) (W : Given
         by ! (exits (x .ns) (over ys ns₀ x (nltb→le _ _ none))))
       where
         elem : Row
-        elem = getD ys (x .i) noRow
+        elem = getD ys (x .i) noRecord
 
         off : x .i < n → x .i * rowBytes < 2 ^ 64
         off l = offset-fits (x .i) n l (p .0 .1 .1)
@@ -311,7 +318,7 @@ module _ {M : Type 1} (𝓤 : URA M) (H : Heap 𝓤) (A : Atoms 𝓤) (W : Given
         -- [the records; what shuts; the fractured borrow; the numbers' token; the numbers; _9; …; _0; …]
         move ! (2 ∷ []) $ drop ! $ move ! (0 ∷ 1 ∷ 3 ∷ []) $
         looped 𝓣 known p q′ l₀ l₁ l₂ l₃ l₄ l₅ l₆ l₇ l₈ l₉
-        (record { i = 0; ns = ns₀; within = zero-le; long = refl; so = λ room k h. absurd (omega arith) }))))))))))))
+        (record { i = 0; ns = ns₀; within = zero-le; long = refl; so = λ room few k h. absurd (omega arith) }))))))))))))
 
 module _ {M : Type 1} (𝓤 : URA M) (H : Heap 𝓤) (A : Atoms 𝓤) (W : Given 𝓤 H A) (mem : Memory → SProp 𝓤)
     (run : Routine → Fun 𝓤) where

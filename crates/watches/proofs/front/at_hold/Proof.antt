@@ -2,7 +2,7 @@
 use mathlib.Core.Path.{_≡_, sym, ap}
 use lib.Dec.{eqb}
 use borrow.Author.Needs.{needs}
-use Rattle.tables.specs.declared.progress.Part.{Part}
+use Rattle.readers.specs.declared.progress.Part.{Part}
 use Rattle.watches.specs.inside.Fronts.{atHold}
 use Rattle.watches.proofs.front.at_hold.Statement.{statement}
 use Rattle.watches.proofs.front.at_hold.Tie as tie

@@ -1,0 +1,4 @@
+-- What functions promise each other.
+pub mod Numbers
+pub mod Stands
+pub mod Readings

@@ -1,0 +1,2 @@
+-- When a task can be shown.
+pub mod Loads
