@@ -1,6 +1,7 @@
 //! Times the proved planner against the same algorithm in plain Rust (`plain.rs`), on the same
 //! texts in one run, and looks for a slow table. With `--cfg before` it has an older library beside
-//! it. See `docs/TESTING.md`.
+//! it, from before request 7, which is given the same tables without their lines of points. See
+//! `docs/TESTING.md`.
 
 mod dice;
 // Of these files only a part is needed here.
@@ -49,13 +50,11 @@ const REVIEW: Pair = Pair { base: plain::review, timed: library::review };
 const CRANE: Pair = Pair { base: plain::crane, timed: library::crane };
 const WATCH: Pair = Pair { base: plain::watch, timed: library::watch };
 
-/// The planner before request 6 and after it, in plain Rust and, where the older one is linked, in
-/// the library.
-const SOONER: &[(&str, Pair)] = &[
-    ("plain", Pair { base: plain::plan_before, timed: plain::plan }),
-    #[cfg(before)]
-    ("library", Pair { base: library::plan_before, timed: library::plan }),
-];
+/// The planner before request 6 and after it, in plain Rust.
+const SOONER: Pair = Pair { base: plain::plan_before, timed: plain::plan };
+/// An older planner, which knows no points, and the planner.
+#[cfg(before)]
+const OLDER: Pair = Pair { base: library::plan_before, timed: library::plan };
 
 /// A text on which the two do not print the same.
 struct Different(Vec<u8>);
@@ -108,22 +107,27 @@ fn seconds(function: Function, text: &[u8], calls: u32) -> f64 {
     seconds_in_turn(function, &[text], calls)
 }
 
-/// The shortest times of several rounds, which are disturbed least; the two take turns in going
-/// first.
+/// The two on one text.
 fn measure(pair: &Pair, text: &[u8], rounds: u32) -> Result<Times, Different> {
-    if printed(pair.base, text) != printed(pair.timed, text) {
+    measure_on(pair, text, text, rounds)
+}
+
+/// The shortest times of several rounds, which are disturbed least; the two take turns in going
+/// first. Each has its own text of one table, to which both say the same.
+fn measure_on(pair: &Pair, base_text: &[u8], text: &[u8], rounds: u32) -> Result<Times, Different> {
+    if printed(pair.base, base_text) != printed(pair.timed, text) {
         return Err(Different(text.to_vec()));
     }
-    let once = seconds(pair.base, text, 1);
+    let once = seconds(pair.base, base_text, 1);
     let calls = (BATCH / once).clamp(1.0, 10_000.0) as u32;
     let mut times = Times { base: f64::INFINITY, timed: f64::INFINITY };
     for round in 0..rounds {
         if round % 2 == 0 {
-            times.base = times.base.min(seconds(pair.base, text, calls));
+            times.base = times.base.min(seconds(pair.base, base_text, calls));
         }
         times.timed = times.timed.min(seconds(pair.timed, text, calls));
         if round % 2 == 1 {
-            times.base = times.base.min(seconds(pair.base, text, calls));
+            times.base = times.base.min(seconds(pair.base, base_text, calls));
         }
     }
     Ok(times)
@@ -137,24 +141,52 @@ fn print_times(
     texts: &[Vec<Vec<u8>>],
     rounds: u32,
 ) -> Result<(), Different> {
+    print_times_on(title, ("plain", pair, <[u8]>::to_vec), texts, rounds)
+}
+
+/// The same where what is measured against has a name, and a text of its own of each table.
+fn print_times_on(
+    title: &str,
+    (name, pair, base_text): (&str, &Pair, fn(&[u8]) -> Vec<u8>),
+    texts: &[Vec<Vec<u8>>],
+    rounds: u32,
+) -> Result<(), Different> {
     println!("{title}, microseconds a call");
-    println!("  tasks      plain    library   ratio  growth");
+    println!("  tasks {name:>10}    library   ratio  growth");
     let (mut total, mut before) = (Times::default(), None);
     for (tasks, texts) in texts.iter().enumerate() {
         let mut sum = Times::default();
         for text in texts {
-            sum.add(measure(pair, text, rounds)?);
+            sum.add(measure_on(pair, &base_text(text), text, rounds)?);
         }
         let micros = 1e6 / texts.len() as f64;
         let growth = before.map_or(String::new(), |before| format!("{:.2}", sum.timed / before));
-        let (plain, library) = (sum.base * micros, sum.timed * micros);
-        println!("  {:5} {plain:10.2} {library:10.2} {:7.2} {growth:>7}", tasks + 1, sum.ratio());
+        let (base, library) = (sum.base * micros, sum.timed * micros);
+        println!("  {:5} {base:10.2} {library:10.2} {:7.2} {growth:>7}", tasks + 1, sum.ratio());
         before = Some(sum.timed);
         total.add(sum);
     }
-    let (plain, library) = (total.base * 1e3, total.timed * 1e3);
-    println!("  total: plain {plain:.3} ms, library {library:.3} ms, ratio {:.3}", total.ratio());
+    let (base, library) = (total.base * 1e3, total.timed * 1e3);
+    println!("  total: {name} {base:.3} ms, library {library:.3} ms, ratio {:.3}", total.ratio());
     Ok(())
+}
+
+/// An older planner beside the planner, which has a line more to read in each row.
+#[cfg(before)]
+fn print_older(title: &str, texts: &[Vec<Vec<u8>>], rounds: u32) -> Result<(), Different> {
+    print_times_on(title, ("older", &OLDER, without_points), texts, rounds)
+}
+
+#[cfg(not(before))]
+fn print_older(_: &str, _: &[Vec<Vec<u8>>], _: u32) -> Result<(), Different> {
+    Ok(())
+}
+
+/// The text of a table without points as it was before request 7.
+#[cfg(before)]
+fn without_points(text: &[u8]) -> Vec<u8> {
+    let lines = text.split_inclusive(|&byte| byte == b'\n');
+    lines.filter(|line| *line != b"points=0\n").flatten().copied().collect()
 }
 
 // ---- Tables -----------------------------------------------------------------------------
@@ -162,8 +194,7 @@ fn print_times(
 /// The plan's order, and the work of the search for it if `COUNTED`, as it is or as it was before
 /// request 6.
 fn chosen<const COUNTED: bool, const SOONER: bool>(table: &Table) -> (Option<Vec<usize>>, Work) {
-    let longer = |row: &Row| Row { worst: row.worst + table.switch, ..*row };
-    plain::chosen::<COUNTED, SOONER>(&table.rows.iter().map(longer).collect::<Vec<_>>())
+    plain::chosen::<COUNTED, SOONER>(&plain::table_of(table))
 }
 
 fn order(table: &Table) -> Option<Vec<usize>> {
@@ -189,6 +220,11 @@ fn switching(dice: &mut Dice, tasks: usize) -> Table {
     tables::switching(dice, family, tasks, false)
 }
 
+fn curved(dice: &mut Dice, tasks: usize) -> Table {
+    let family = dice.pick(&tables::FAMILIES);
+    tables::curved(dice, family, tasks)
+}
+
 fn slowest_drawn(dice: &mut Dice, draw: Draw, tasks: usize) -> Table {
     let mut slowest = draw(dice, tasks);
     for _ in 1..DRAWN_FOR_A_SLOW_ONE {
@@ -210,6 +246,10 @@ fn slow_holding(dice: &mut Dice, tasks: usize) -> Table {
 
 fn slow_switching(dice: &mut Dice, tasks: usize) -> Table {
     slowest_drawn(dice, switching, tasks)
+}
+
+fn slow_curved(dice: &mut Dice, tasks: usize) -> Table {
+    slowest_drawn(dice, curved, tasks)
 }
 
 type Draw = fn(&mut Dice, usize) -> Table;
@@ -300,7 +340,8 @@ fn print_cranes(dice: &mut Dice, count: usize, rounds: u32) -> Result<(), Differ
 
 /// The numbers of tasks for which it is shown what request 6 has saved.
 const SHOWN: [usize; 2] = [12, 16];
-const SAVED: &str = "planner before and after request 6: values of W tried for an order, microseconds a call";
+const SAVED: &str =
+    "planner before and after request 6: values of W tried for an order, microseconds a call";
 
 /// What request 6 has saved on some tables: the values that the search of a latest response tries
 /// while an order is looked for, and the time of a call, before and after.
@@ -312,14 +353,12 @@ fn print_saved(name: &str, tables: &[Table], rounds: u32) -> Result<(), Differen
     let before = values(|table| chosen::<true, false>(table).1);
     let after = values(|table| chosen::<true, true>(table).1);
     println!("  {name}: values tried {before:.1}, {after:.1}, ratio {:.3}", after / before);
-    for (side, pair) in SOONER {
-        let mut sum = Times::default();
-        for table in tables {
-            sum.add(measure(pair, &tables::text(table), rounds)?);
-        }
-        let (before, after) = (sum.base * 1e6 / count, sum.timed * 1e6 / count);
-        println!("    {side}: {before:.2}, {after:.2}, ratio {:.3}", sum.ratio());
+    let mut sum = Times::default();
+    for table in tables {
+        sum.add(measure(&SOONER, &tables::text(table), rounds)?);
     }
+    let (before, after) = (sum.base * 1e6 / count, sum.timed * 1e6 / count);
+    println!("    plain: {before:.2}, {after:.2}, ratio {:.3}", sum.ratio());
     Ok(())
 }
 
@@ -335,6 +374,7 @@ fn full_run(period: u64, worst: u64, best: u64) -> Vec<u8> {
         alpha: 1_000,
         beta: 0,
         hold: 0,
+        curve: Vec::new(),
     };
     let rows: Vec<Row> = (1..=MOST_TASKS as u64).map(row).collect();
     let mut text = ranked_text(&Table { board: 1, switch: 0, rows });
@@ -428,10 +468,11 @@ fn nothing(_: &[u8], _: &mut [u8]) -> Answer {
 
 /// The stack that each call needs on full boards, beside what a thread needs that does nothing.
 fn print_stack(dice: &mut Dice, count: usize) {
-    let tables: Vec<Table> = (0..count).map(|_| slow(dice, MOST_TASKS)).collect();
+    let mut tables: Vec<Table> = (0..count).map(|_| slow(dice, MOST_TASKS)).collect();
+    tables.extend((0..count).map(|_| curved(dice, MOST_TASKS)));
     let plans: Vec<Vec<u8>> = tables.iter().map(tables::text).collect();
     let reviews: Vec<Vec<u8>> = tables.iter().map(ranked_text).collect();
-    let crane = plans.concat();
+    let crane = plans[count / 2..][..count].concat();
     let most = |function, texts: &[Vec<u8>]| {
         let touched = texts.iter().map(|text| stack_touched(function, text)).max().unwrap_or(0);
         touched - stack_touched(nothing, b"")
@@ -472,14 +513,14 @@ fn some_beta(dice: &mut Dice, table: &Table, index: usize) -> u64 {
 fn step_from(dice: &mut Dice, table: &Table) -> Table {
     let mut table = table.clone();
     let (index, other) = (dice.below(table.rows.len()), dice.below(table.rows.len()));
-    let mut row = table.rows[index];
+    let mut row = table.rows[index].clone();
     match dice.below(7) {
         0 => row.period = near(dice, row.period, row.worst, 1_000_000),
         1 => row.worst = near(dice, row.worst, 1, row.period),
         2 => row.best = near(dice, row.best, 1, row.worst),
         3 => row.alpha = dice.pick(&[1_000, 2_000, 100_000]),
         4 => row.beta = some_beta(dice, &table, index),
-        5 => row = Row { task: row.task, ..table.rows[other] },
+        5 => row = Row { task: row.task, ..table.rows[other].clone() },
         _ => {}
     }
     row.best = row.best.min(row.worst);
@@ -502,11 +543,12 @@ fn creeping(tasks: usize) -> Table {
         alpha: 1_000,
         beta: 200_000_000_000,
         hold: 0,
+        curve: Vec::new(),
     };
     let (short, never) = ([1_844, 43, 7, 3, 2], 1);
     let long = std::iter::repeat_n(1_000_000, tasks - short.len() - never);
     let mut rows = long.chain(short).map(loose).collect::<Vec<_>>();
-    rows.push(Row { beta: 0, ..rows[0] });
+    rows.push(Row { beta: 0, ..rows[0].clone() });
     rows.iter_mut().zip(1..).for_each(|(row, task)| row.task = task);
     Table { board: 1, switch: 0, rows }
 }
@@ -598,6 +640,8 @@ fn run(options: &Options) -> Result<(), Different> {
         &texts_of(&typical, ranked_text),
         options.rounds,
     )?;
+    print_older("planner, typical tables", &texts_of(&typical, text), options.rounds)?;
+    print_older("planner, slow tables", &texts_of(&slow, text), options.rounds)?;
     println!("{SAVED}");
     for tasks in SHOWN {
         print_saved(&format!("{tasks} tasks, typical"), &typical[tasks - 1], options.rounds)?;
@@ -610,6 +654,7 @@ fn run(options: &Options) -> Result<(), Different> {
     print_cranes(&mut own(1), options.tables / 4 + 1, options.rounds)?;
     print_more(&mut own(2), "with holds", [holding, slow_holding], options)?;
     print_more(&mut own(4), "with a switch", [switching, slow_switching], options)?;
+    print_more(&mut own(5), "with a curve in every row", [curved, slow_curved], options)?;
     print_full_runs(options.rounds)?;
     print_stack(&mut own(3), options.tables.min(MOST_PIECES));
     if options.climb > 0 {

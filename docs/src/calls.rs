@@ -14,7 +14,13 @@ pub const CRANE_AMPLE: usize = MOST_PIECES * AMPLE;
 const GUARD: usize = 16;
 
 /// What the board to watch may refuse.
-const WATCH_REFUSALS: [usize; 8] = [1, 2, 3, 4, 5, 6, 7, 9];
+const WATCH_REFUSALS: [usize; 9] = [1, 2, 3, 4, 5, 6, 7, 9, 11];
+
+/// What the planner and the reviewer may refuse, each but for 6 and 7, or for 8.
+const TABLE_REFUSALS: [usize; 10] = [1, 2, 3, 4, 5, 6, 7, 8, 9, 11];
+
+/// One more than the largest number of a refusal.
+const NUMBERS: usize = 12;
 
 #[derive(Clone, Copy)]
 pub enum Call {
@@ -73,10 +79,10 @@ impl Call {
 /// How often each number was answered, 0 for a written text.
 #[derive(Default)]
 pub struct Tally {
-    planner: [u64; 11],
-    reviewer: [u64; 11],
-    crane: [u64; 11],
-    watch: [u64; 11],
+    planner: [u64; NUMBERS],
+    reviewer: [u64; NUMBERS],
+    crane: [u64; NUMBERS],
+    watch: [u64; NUMBERS],
 }
 
 impl Tally {
@@ -96,13 +102,14 @@ impl Tally {
 
     pub fn print(&self) {
         for (name, counts) in [("planner", &self.planner), ("reviewer", &self.reviewer)] {
-            let refusals = (1..10).map(|number| format!(", refusal {number}: {}", counts[number]));
-            println!("  {name}: plan: {}{}", counts[0], refusals.collect::<String>());
+            let refusals = TABLE_REFUSALS.map(|number| (number, counts[number]));
+            let refusals = refusals.map(|(number, count)| format!(", refusal {number}: {count}"));
+            println!("  {name}: plan: {}{}", counts[0], refusals.concat());
         }
     }
 
     pub fn print_crane(&self) {
-        let [written, .., without_room, of_too_many] = self.crane;
+        let [written, without_room, of_too_many] = [0, 9, 10].map(|number| self.crane[number]);
         println!(
             "  crane: written: {written}, refusal 9: {without_room}, refusal 10: {of_too_many}"
         );

@@ -33,12 +33,13 @@ use std::time::Instant;
 
 /// A plan longer than this is seldom tried with every buffer length.
 const SHORT_PLAN: usize = 200;
-/// How often a table's betas are lowered at most.
+/// How often a table's conditions are tightened at most.
 const MOST_SQUEEZES: u64 = 3;
 /// A table with hundreds of jobs of one task in the time of another's has so many tasks at most.
 const MOST_CROWDED: usize = 5;
 
-const USAGE: &str = "usage: compare [--texts N] [--tables N] [--boards N] [--cranes N] [--crowded N]
+const USAGE: &str =
+    "usage: compare [--texts N] [--tables N] [--boards N] [--cranes N] [--crowded N]
                [--watches N] [--seed S]
          20000 texts, 1200 tables, 100 boards, 4000 cranes, 200 crowded tables, 5000 watches and
          seed 1 where nothing else is said
@@ -131,17 +132,21 @@ fn compare_table(
     Ok(chosen)
 }
 
-/// Lowers the beta of one task of an order to its boundary or just below.
-fn lower_a_beta(dice: &mut Dice, table: &mut Table, order: &[usize]) {
+/// Brings the condition of one task of an order close to what the task has there: by a curve if it
+/// has one, else by the beta, which is then the boundary or just below.
+fn tighten_a_condition(dice: &mut Dice, table: &mut Table, order: &[usize]) {
     let rank = dice.below(order.len());
+    if !table.rows[order[rank]].curve.is_empty() {
+        return tables::set_a_curve(dice, table, order, rank, false);
+    }
     let ranked: Vec<&Row> = order.iter().map(|&index| &table.rows[index]).collect();
     let (above, below) = (&ranked[..rank], &ranked[rank + 1..]);
     let boundary = tables::boundary(table.switch, ranked[rank], above, below);
     table.rows[order[rank]].beta = boundary.map_or(0, |beta| beta - dice.between(0, 1));
 }
 
-/// The planner on a table whose betas are lowered one after another, so that ever fewer orders
-/// are stable and each table stands on a boundary; how many tables that were.
+/// The planner on a table whose conditions are tightened one after another, so that ever fewer
+/// orders are stable and each table stands on a boundary or near it; how many tables that were.
 fn squeeze(
     dice: &mut Dice,
     tally: &mut Tally,
@@ -150,7 +155,7 @@ fn squeeze(
 ) -> Result<u64, String> {
     let mut steps = 0;
     while let Some(stable) = order.filter(|_| steps < MOST_SQUEEZES) {
-        lower_a_beta(dice, &mut table, &stable);
+        tighten_a_condition(dice, &mut table, &stable);
         order = compare_plan(tally, &table)?;
         steps += 1;
     }
@@ -160,6 +165,7 @@ fn squeeze(
 fn run_tables(dice: &mut Dice, count: u64) -> Result<(), String> {
     let (mut tally, started) = (Tally::default(), Instant::now());
     let (mut accepted, mut with_switch, mut squeezed) = ([0; MOST_TASKS], 0, 0);
+    let mut curved = Curved::default();
     for done in 1..=count {
         let tasks = (done as usize - 1) % MOST_TASKS;
         let family = dice.pick(&tables::FAMILIES);
@@ -167,6 +173,7 @@ fn run_tables(dice: &mut Dice, count: u64) -> Result<(), String> {
         let order = compare_table(dice, &mut tally, &table)?;
         accepted[tasks] += order.is_some() as u64;
         with_switch += (table.switch > 0 && order.is_some()) as u64;
+        curved.count(&table, order.is_some());
         squeezed += squeeze(dice, &mut tally, table, order)?;
         progress("tables", done, count, started);
     }
@@ -175,7 +182,34 @@ fn run_tables(dice: &mut Dice, count: u64) -> Result<(), String> {
     tally.print();
     println!("  with a stable order, by number of tasks: {accepted:?}");
     println!("  of these with a switch above 0: {with_switch}");
+    curved.print();
     Ok(())
+}
+
+/// Tables with an order and without, by how many of their rows have points: none, some or all.
+#[derive(Default)]
+struct Curved {
+    ordered: [u64; 3],
+    others: [u64; 3],
+}
+
+impl Curved {
+    fn count(&mut self, table: &Table, ordered: bool) {
+        let with_points = table.rows.iter().filter(|row| !row.curve.is_empty()).count();
+        let kind = match with_points {
+            0 => 0,
+            all if all == table.rows.len() => 2,
+            _ => 1,
+        };
+        let counts = if ordered { &mut self.ordered } else { &mut self.others };
+        counts[kind] += 1;
+    }
+
+    fn print(&self) {
+        let Curved { ordered, others } = self;
+        print!("  with points in no row, in some, in all: {ordered:?} with a stable order, ");
+        println!("{others:?} without");
+    }
 }
 
 /// Tables in which hundreds of jobs of one task, each with its switch, delay another's.

@@ -15,7 +15,7 @@ const LINES: [usize; 8] = [31, 32, 33, 64, 256, 257, 288, 9_362];
 const MOST_LINES: usize = 65_540;
 
 /// Pieces of a line or two that are no tables.
-const SHORT_PIECES: [&[u8]; 14] = [
+const SHORT_PIECES: [&[u8]; 16] = [
     b"board=\n",
     b"board=\n\n",
     b"board=7\n",
@@ -30,6 +30,8 @@ const SHORT_PIECES: [&[u8]; 14] = [
     b"board=7\ntasks=1\nswitch=1001\n",
     b"board=7\ntasks=1\nswitch=0\n",
     b"board=7\nswitch=0\ntasks=1\n",
+    b"board=7\ntasks=1\nswitch=0\npoints=0\n",
+    b"board=7\ntasks=1\nswitch=0\ntask=1\nperiod=9\nworst=9\nbest=9\nalpha=1000\nbeta=0\nhold=0\n",
 ];
 
 /// Bytes ahead of the first board, with a line feed at their end and without.
@@ -195,8 +197,8 @@ fn lines(dice: &mut Dice) -> Vec<u8> {
     text
 }
 
-/// As many boards as there can be, or one more, with many tasks, betas that are no limit, no switch
-/// and no holds: the longest outputs. Seldom with the most tasks, with which the model is slow.
+/// As many boards as there can be, or one more, with many tasks, betas that are no limit, no switch,
+/// no holds and no curves: the longest outputs. Seldom with the most tasks, with which the model is slow.
 fn full(dice: &mut Dice) -> Vec<u8> {
     let tasks = match dice.below(40) {
         0 => MOST_TASKS,

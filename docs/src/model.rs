@@ -1,6 +1,6 @@
 //! The planner and the reviewer of document 01 with the holds of request 2, the sixteen tasks of
-//! request 3 and the switch of request 4, and the crane of request 1, written from those papers
-//! alone.
+//! request 3, the switch of request 4 and the curves of request 7, and the crane of request 1,
+//! written from those papers alone.
 //!
 //! Nothing here is clever, and nothing follows the product: lines are an indexed list, figures
 //! are found by walking the points where a sum can change, and orders by trying every
@@ -15,6 +15,11 @@ pub const MOST_TASKS: usize = 16;
 /// A planned table has no longer holds.
 const MOST_HOLD: u64 = 1_000_000;
 
+/// A row's curve has no more points than this, and no larger numbers.
+pub const MOST_POINTS: usize = 8;
+pub const MOST_DELAY: u64 = 1_000_000;
+pub const MOST_ALLOW: u64 = 1_000_000;
+
 /// Tables with more tasks than this are ordered by `order_by_growing`.
 const PERMUTED_AT_MOST: usize = 7;
 
@@ -26,7 +31,14 @@ pub const CRANE_TAKES: usize = 65_536;
 /// A crane's text of more pieces is refused.
 pub const MOST_PIECES: usize = 32;
 
+/// A point of a row's curve: the jitter that is permitted where the earliest response is the delay.
 #[derive(Clone, Copy, Debug, PartialEq)]
+pub struct Point {
+    pub delay: u64,
+    pub allow: u64,
+}
+
+#[derive(Clone, Debug, PartialEq)]
 pub struct Row {
     pub task: u64,
     pub period: u64,
@@ -35,6 +47,8 @@ pub struct Row {
     pub alpha: u64,
     pub beta: u64,
     pub hold: u64,
+    /// Without points the condition is the straight line of alpha and beta.
+    pub curve: Vec<Point>,
 }
 
 #[derive(Clone, Copy, Debug, PartialEq)]
@@ -120,6 +134,21 @@ pub fn refuse_if(condition: bool, number: u64, place: usize) -> Result<(), Refus
     Ok(())
 }
 
+/// The curve whose first line, that of its number of points, is at `place`; each point has two lines.
+fn curve_at(lines: &[&[u8]], place: usize) -> Result<Vec<Point>, Refusal> {
+    let points = number_at(lines, place, "points", 0, MOST_POINTS as u64)?;
+    let mut curve: Vec<Point> = Vec::new();
+    for index in 0..points as usize {
+        let (at, before) = (place + 1 + 2 * index, curve.last().copied());
+        let delay = number_at(lines, at, "delay", 0, MOST_DELAY)?;
+        refuse_if(before.is_some_and(|before| delay <= before.delay), 11, at)?;
+        let allow = number_at(lines, at + 1, "allow", 0, MOST_ALLOW)?;
+        refuse_if(before.is_some_and(|before| allow > before.allow), 11, at + 1)?;
+        curve.push(Point { delay, allow });
+    }
+    Ok(curve)
+}
+
 /// The row whose first line is at `place`, after the rows `before`.
 fn row_at(
     lines: &[&[u8]],
@@ -139,7 +168,8 @@ fn row_at(
     let beta = number_at(lines, place + 5, "beta", 0, 200_000_000_000)?;
     let hold = number_at(lines, place + 6, "hold", 0, most_hold)?;
     refuse_if(hold > worst, 4, place + 6)?;
-    Ok(Row { task, period, worst, best, alpha, beta, hold })
+    let curve = curve_at(lines, place + 7)?;
+    Ok(Row { task, period, worst, best, alpha, beta, hold, curve })
 }
 
 /// The table at the start of the text, and how many lines it takes; no hold may be above
@@ -148,12 +178,13 @@ pub fn table_at_start(lines: &[&[u8]], most_hold: u64) -> Result<(Table, usize),
     let board = number_at(lines, 1, "board", 1, 65_535)?;
     let tasks = number_at(lines, 2, "tasks", 1, MOST_TASKS as u64)? as usize;
     let switch = number_at(lines, 3, "switch", 0, 1_000)?;
-    let mut rows = Vec::new();
-    for index in 0..tasks {
-        let row = row_at(lines, 4 + 7 * index, switch, most_hold, &rows)?;
+    let (mut rows, mut taken) = (Vec::new(), 3);
+    for _ in 0..tasks {
+        let row = row_at(lines, taken + 1, switch, most_hold, &rows)?;
+        taken += 8 + 2 * row.curve.len();
         rows.push(row);
     }
-    Ok((Table { board, switch, rows }, 3 + 7 * tasks))
+    Ok((Table { board, switch, rows }, taken))
 }
 
 /// Refusal 1 at the first line too many.
@@ -250,13 +281,56 @@ pub fn earliest(row: &Row, above: &[&Row], latest: u64) -> u64 {
     }
 }
 
+/// A fraction whose lower number is above 0.
+#[derive(Clone, Copy, Debug, PartialEq)]
+struct Fraction {
+    upper: i128,
+    lower: i128,
+}
+
+/// The jitter that a curve permits at an earliest response; none past its last delay. Up to the
+/// first delay it is the first allow; between two points each has its part, which is the larger the
+/// farther away the other is.
+fn permitted(curve: &[Point], earliest: u64) -> Option<Fraction> {
+    let at = i128::from(earliest);
+    let numbers = |point: &Point| (i128::from(point.delay), i128::from(point.allow));
+    let (delay, allow) = numbers(curve.first()?);
+    if at <= delay {
+        return Some(Fraction { upper: allow, lower: 1 });
+    }
+    let pair = curve.windows(2).find(|pair| earliest <= pair[1].delay)?;
+    let ((delay, allow), (next_delay, next_allow)) = (numbers(&pair[0]), numbers(&pair[1]));
+    let upper = allow * (next_delay - at) + next_allow * (at - delay);
+    Some(Fraction { upper, lower: next_delay - delay })
+}
+
+/// The margin of a row with points: a thousand times what is permitted beyond the jitter, rounded
+/// down, or a thousand times how far the last delay is behind.
+pub fn margin_by_curve(curve: &[Point], earliest: u64, jitter: u64) -> i64 {
+    let Some(Fraction { upper, lower }) = permitted(curve, earliest) else {
+        let last = curve.last().map_or(0, |point| point.delay);
+        return 1_000 * (last as i64 - earliest as i64);
+    };
+    let beyond = 1_000 * (upper - i128::from(jitter) * lower);
+    // With a lower number above 0 this rounds towards minus infinity.
+    beyond.div_euclid(lower) as i64
+}
+
+/// The margin of a row without points.
+fn margin_by_line(row: &Row, earliest: u64, jitter: u64) -> i64 {
+    row.beta as i64 - (1_000 * earliest + row.alpha * jitter) as i64
+}
+
 /// All figures of a row between `above` and `below`, or none if it is late.
 pub fn figures(switch: u64, row: &Row, above: &[&Row], below: &[&Row]) -> Option<Figures> {
     let worst = latest(switch, row, above, below)?;
     let best = earliest(row, above, worst);
     let jitter = worst - best;
-    let cost = 1_000 * best + row.alpha * jitter;
-    Some(Figures { best, worst, jitter, margin: row.beta as i64 - cost as i64 })
+    let margin = match row.curve.as_slice() {
+        [] => margin_by_line(row, best, jitter),
+        curve => margin_by_curve(curve, best, jitter),
+    };
+    Some(Figures { best, worst, jitter, margin })
 }
 
 // ---- Orders -----------------------------------------------------------------------------
@@ -428,9 +502,9 @@ mod tests {
     use crate::dice::Dice;
 
     const TABLE: &str = "board=7\ntasks=3\nswitch=0\n\
-        task=11\nperiod=24\nworst=6\nbest=6\nalpha=1000\nbeta=8000\nhold=0\n\
-        task=12\nperiod=18\nworst=2\nbest=2\nalpha=1000\nbeta=8000\nhold=0\n\
-        task=13\nperiod=200\nworst=19\nbest=17\nalpha=3000\nbeta=57000\nhold=0\n";
+        task=11\nperiod=24\nworst=6\nbest=6\nalpha=1000\nbeta=8000\nhold=0\npoints=0\n\
+        task=12\nperiod=18\nworst=2\nbest=2\nalpha=1000\nbeta=8000\nhold=0\npoints=0\n\
+        task=13\nperiod=200\nworst=19\nbest=17\nalpha=3000\nbeta=57000\nhold=0\npoints=0\n";
 
     const PLAN: &str = "plan=1\nboard=7\ntasks=3\n\
         rank=1\ntask=12\nbest=2\nworst=2\njitter=0\nmargin=6000\n\
@@ -526,7 +600,7 @@ mod tests {
         let one = |beta, hold| {
             let text = format!(
                 "board=1\ntasks=1\nswitch=0\ntask=1\nperiod=10\nworst=10\nbest=10\n\
-                alpha=1000\nbeta={beta}\nhold={hold}\n"
+                alpha=1000\nbeta={beta}\nhold={hold}\npoints=0\n"
             );
             planned(text.as_bytes())
         };
@@ -547,7 +621,7 @@ mod tests {
         assert_eq!(planned(b"board=07\n"), refused(2, 1));
         assert_eq!(planned(b"board=7\ntasks=17\n"), refused(3, 2));
         assert!(read_table(changed(&[("worst=2", "worst=18")]).as_bytes()).is_ok());
-        assert_eq!(planned(changed(&[("worst=2", "worst=19")]).as_bytes()), refused(4, 13));
+        assert_eq!(planned(changed(&[("worst=2", "worst=19")]).as_bytes()), refused(4, 14));
         assert_eq!(printed(planned, TABLE_TAKES, b""), b"plan=0\nrefusal=1\nline=1\n");
     }
 
@@ -562,10 +636,12 @@ mod tests {
         };
         refuses("board=7", "board7", 1, 1);
         refuses("board=7\n", "board=7", 2, 1);
-        refuses("beta=57000\n", "beta=57000", 2, 23);
-        refuses("beta=57000\nhold=0\n", "beta=57000\nhold=0", 1, 24);
-        refuses("beta=57000\nhold=0\n", "beta=57000\nhold=0\n\n", 1, 25);
-        refuses("beta=57000\nhold=0\n", "beta=57000\nhold=0\nrank=11\n", 1, 25);
+        let last = "beta=57000\nhold=0\npoints=0\n";
+        refuses("beta=57000\n", "beta=57000", 2, 25);
+        refuses("beta=57000\nhold=0\n", "beta=57000\nhold=0", 2, 26);
+        refuses(last, "beta=57000\nhold=0\npoints=0", 1, 27);
+        refuses(last, "beta=57000\nhold=0\npoints=0\n\n", 1, 28);
+        refuses(last, "beta=57000\nhold=0\npoints=0\nrank=11\n", 1, 28);
         refuses("board=7", "board=", 2, 1);
         refuses("board=7", "board=+7", 2, 1);
         refuses("board=7", "board=7\r", 2, 1);
@@ -574,7 +650,7 @@ mod tests {
         refuses("board=7", "board=0", 3, 1);
         refuses("tasks=3", "tasks=0", 3, 2);
         refuses("best=6", "best=7", 4, 7);
-        refuses("task=12", "task=11", 5, 11);
+        refuses("task=12", "task=11", 5, 12);
         refuses("alpha=1000", "alpha=999", 3, 8);
         refuses("beta=8000", "beta=200000000001", 3, 9);
         refuses("worst=6", "worst=1000001", 3, 6);
@@ -583,11 +659,11 @@ mod tests {
     #[test]
     fn rank_lines_named_twice_or_unknown() {
         let review = |ranks: &str| reviewed(format!("{TABLE}{ranks}").as_bytes());
-        assert_eq!(review("rank=11\nrank=11\nrank=13\n"), refused(6, 26));
-        assert_eq!(review("rank=14\nrank=11\nrank=13\n"), refused(6, 25));
-        assert_eq!(review("rank=65536\n"), refused(3, 25));
-        assert_eq!(review("rank=11\nrank=12\n"), refused(1, 27));
-        assert_eq!(review("rank=11\nrank=12\nrank=13\nrank=13\n"), refused(1, 28));
+        assert_eq!(review("rank=11\nrank=11\nrank=13\n"), refused(6, 29));
+        assert_eq!(review("rank=14\nrank=11\nrank=13\n"), refused(6, 28));
+        assert_eq!(review("rank=65536\n"), refused(3, 28));
+        assert_eq!(review("rank=11\nrank=12\n"), refused(1, 30));
+        assert_eq!(review("rank=11\nrank=12\nrank=13\nrank=13\n"), refused(1, 31));
     }
 
     #[test]
@@ -608,7 +684,7 @@ mod tests {
     fn a_program_takes_no_more_than_its_bytes() {
         let mut input = TABLE.as_bytes().to_vec();
         input.resize(TABLE_TAKES, b'x');
-        assert_eq!(printed(planned, TABLE_TAKES, &input), b"plan=0\nrefusal=1\nline=25\n");
+        assert_eq!(printed(planned, TABLE_TAKES, &input), b"plan=0\nrefusal=1\nline=28\n");
         // A first line cut off by the limit has no line feed.
         let long = [&[b'x'; TABLE_TAKES], TABLE.as_bytes()].concat();
         assert_eq!(printed(planned, TABLE_TAKES, &long), b"plan=0\nrefusal=1\nline=1\n");
@@ -628,19 +704,33 @@ mod tests {
         Some((if row.hold < 2 { solved } else { row.best }, worst))
     }
 
+    /// No points half of the time, else some at delays around a worst time.
+    fn small_curve(dice: &mut Dice, worst: u64, period: u64) -> Vec<Point> {
+        let points = dice.pick(&[0, 0, 0, 0, 1, 2, 3, 8]);
+        let (mut delay, mut allow) = (dice.between(0, worst), dice.between(period / 2, 2 * period));
+        let mut curve = Vec::new();
+        while curve.len() < points {
+            curve.push(Point { delay, allow });
+            delay += dice.between(1, 12);
+            allow -= dice.between(0, allow.min(5));
+        }
+        curve
+    }
+
     /// A table of few ticks, half of the time without a switch.
     fn small_table(dice: &mut Dice, count: usize) -> Table {
         let switch = dice.pick(&[0, 0, 0, 1, 2, 5]);
-        let mut row = |index| {
+        let row = |index| {
             let period = dice.between(1 + switch, 60);
             let worst = dice.between(1, (period - switch).min(8));
             let best = dice.between(1, worst);
             let alpha = dice.pick(&[1000, 1500, 4000]);
             let beta = dice.between(1000, 1000 * 2 * period);
             let hold = dice.pick(&[0, 0, 1, 2, worst]).min(worst);
-            Row { task: index as u64 + 1, period, worst, best, alpha, beta, hold }
+            let curve = small_curve(dice, worst, period);
+            Row { task: index as u64 + 1, period, worst, best, alpha, beta, hold, curve }
         };
-        Table { board: 1, switch, rows: (0..count).map(&mut row).collect() }
+        Table { board: 1, switch, rows: (0..count).map(row).collect() }
     }
 
     /// The figures of the first row, so many of the next above it and the others below.
@@ -652,7 +742,7 @@ mod tests {
 
     /// The rows with the switch in their worst times: as a formula of before has them.
     fn lengthened(switch: u64, rows: &[Row]) -> Vec<Row> {
-        rows.iter().map(|row| Row { worst: row.worst + switch, ..*row }).collect()
+        rows.iter().map(|row| Row { worst: row.worst + switch, ..row.clone() }).collect()
     }
 
     /// Whether the first row is in time under some of the others; its figures are those of trying
@@ -708,9 +798,14 @@ mod tests {
 
     /// The example with holds of its rows, in the table's sequence.
     fn held(holds: [u64; 3]) -> String {
-        let holds = holds.map(|hold| format!("hold={hold}\n"));
-        let parts: Vec<&str> = TABLE.split("hold=0\n").collect();
-        parts.iter().zip(&holds).flat_map(|(part, hold)| [part, hold.as_str()]).collect()
+        put_in("hold=0\n", holds.map(|hold| format!("hold={hold}\n")))
+    }
+
+    /// The example with something else for a line that each of its rows has.
+    fn put_in(line: &str, others: [String; 3]) -> String {
+        let mut parts = TABLE.split(line);
+        let head = parts.next().unwrap().to_string();
+        others.iter().zip(parts).fold(head, |text, (other, part)| text + other + part)
     }
 
     #[test]
@@ -792,7 +887,7 @@ mod tests {
         let last = "beta=57000\nhold=0\n";
         assert!(read_table(held([6, 2, 19]).as_bytes()).is_ok());
         refuses("hold=0", "hold=7", 4, 10);
-        refuses(last, "beta=57000\nhold=20\n", 4, 24);
+        refuses(last, "beta=57000\nhold=20\n", 4, 26);
         refuses("hold=0", "hold=1000000", 4, 10);
         refuses("hold=0", "hold=1000001", 3, 10);
         refuses("hold=0", "hold=999999999999", 3, 10);
@@ -804,16 +899,16 @@ mod tests {
             refuses("hold=0", line, 1, 10);
         }
         refuses("hold=0\n", "", 1, 10);
-        refuses(last, "beta=57000\n", 1, 24);
+        refuses(last, "beta=57000\n", 1, 26);
         refuses("hold=0\n", "hold=0\nhold=0\n", 1, 11);
-        refuses(last, "beta=57000\nhold=0\nhold=0\n", 1, 25);
+        refuses(last, "beta=57000\nhold=0\nhold=0\n", 1, 27);
         refuses("beta=8000\nhold=0\n", "hold=0\nbeta=8000\n", 1, 9);
         let old = TABLE.replace("hold=0\n", "");
         assert_eq!(planned(old.as_bytes()), refused(1, 10));
         let largest = "board=1\ntasks=1\nswitch=0\ntask=1\nperiod=1000000\nworst=1000000\nbest=1\n\
             alpha=1000\nbeta=0\nhold=";
-        assert!(read_table(format!("{largest}1000000\n").as_bytes()).is_ok());
-        assert_eq!(planned(format!("{largest}1000001\n").as_bytes()), refused(3, 10));
+        assert!(read_table(format!("{largest}1000000\npoints=0\n").as_bytes()).is_ok());
+        assert_eq!(planned(format!("{largest}1000001\npoints=0\n").as_bytes()), refused(3, 10));
     }
 
     // ---- The switch ---------------------------------------------------------------------
@@ -944,13 +1039,14 @@ mod tests {
         assert!(review(5, "rank=11\nrank=12\nrank=13\n").is_ok());
         assert_eq!(review(6, "rank=11\nrank=12\nrank=13\n"), refused(7, 2));
         assert_eq!(review(6, "rank=12\nrank=11\nrank=13\n"), refused(7, 2));
-        assert_eq!(review(17, "rank=12\nrank=11\nrank=13\n"), refused(4, 13));
+        assert_eq!(review(17, "rank=12\nrank=11\nrank=13\n"), refused(4, 14));
     }
 
     /// One task whose job lasts up to the worst time and the switch.
     fn one(switch: &str, period: u64, worst: u64, best: u64, hold: u64) -> Result<Table, Refusal> {
         let head = format!("board=1\ntasks=1\nswitch={switch}\ntask=1\nperiod={period}\n");
-        let rest = format!("worst={worst}\nbest={best}\nalpha=1000\nbeta=0\nhold={hold}\n");
+        let rest =
+            format!("worst={worst}\nbest={best}\nalpha=1000\nbeta=0\nhold={hold}\npoints=0\n");
         read_table((head + &rest).as_bytes())
     }
 
@@ -971,7 +1067,7 @@ mod tests {
         assert_eq!(one("1", 1_000_000, 1_000_001, 1, 0), unread(3, 6));
         // Of the example, task 12 is at its period with a switch of 16, and 11 with 18.
         assert!(read_table(switched(16).as_bytes()).is_ok());
-        assert_eq!(planned(switched(17).as_bytes()), refused(4, 13));
+        assert_eq!(planned(switched(17).as_bytes()), refused(4, 14));
         assert_eq!(planned(switched(19).as_bytes()), refused(4, 6));
     }
 
@@ -1021,7 +1117,9 @@ mod tests {
         refuses("switch=0\ntask=11\n", "task=11\nswitch=0\n", 1, 3);
         refuses("task=11\n", "task=11\nswitch=0\n", 1, 5);
         refuses("hold=0\n", "hold=0\nswitch=0\n", 1, 11);
-        refuses("hold=0\ntask=12", "switch=0\ntask=12", 1, 10);
+        refuses("points=0\n", "points=0\nswitch=0\n", 1, 12);
+        refuses("hold=0\n", "switch=0\n", 1, 10);
+        refuses("points=0\ntask=12", "switch=0\ntask=12", 1, 11);
         let ahead = changed(&[(head, "switch=0\nboard=7\ntasks=3\n")]);
         assert_eq!(planned(ahead.as_bytes()), refused(1, 1));
         // Ahead of the first board of a crane it is a piece of its own, and the next lacks it.
@@ -1034,10 +1132,10 @@ mod tests {
         // At the end, in place of the third line and beside it, and after the ranks.
         let moved = TABLE.replace("switch=0\n", "") + "switch=0\n";
         assert_eq!(planned(moved.as_bytes()), refused(1, 3));
-        assert_eq!(planned(format!("{TABLE}switch=0\n").as_bytes()), refused(1, 25));
-        assert_eq!(reviewed(format!("{TABLE}switch=0\n").as_bytes()), refused(1, 25));
+        assert_eq!(planned(format!("{TABLE}switch=0\n").as_bytes()), refused(1, 28));
+        assert_eq!(reviewed(format!("{TABLE}switch=0\n").as_bytes()), refused(1, 28));
         let ranked = format!("{TABLE}rank=12\nrank=11\nrank=13\nswitch=0\n");
-        assert_eq!(reviewed(ranked.as_bytes()), refused(1, 28));
+        assert_eq!(reviewed(ranked.as_bytes()), refused(1, 31));
         assert_eq!(planned(b"board=7\ntasks=3\n"), refused(1, 3));
         assert_eq!(planned(b"board=7\ntasks=3\nswitch=0"), refused(1, 3));
         assert_eq!(planned(b"board=7\ntasks=3\nswitch=0\n"), refused(1, 4));
@@ -1057,6 +1155,525 @@ mod tests {
             let text = boards[one].clone() + &boards[other];
             assert_eq!(crane_says(&text), answers[one].clone() + &answers[other]);
         }
+    }
+
+    // ---- Curves -------------------------------------------------------------------------
+
+    type Pairs<'a> = &'a [(u64, u64)];
+
+    fn curve(pairs: Pairs) -> Vec<Point> {
+        pairs.iter().map(|&(delay, allow)| Point { delay, allow }).collect()
+    }
+
+    /// The lines of a curve, that of its number of points first.
+    fn lines_of_curve(pairs: Pairs) -> String {
+        let lines = |(delay, allow): &(u64, u64)| format!("delay={delay}\nallow={allow}\n");
+        let pairs_lines: String = pairs.iter().map(lines).collect();
+        format!("points={}\n{pairs_lines}", pairs.len())
+    }
+
+    /// The example with curves of its rows, in the table's sequence.
+    fn curved(curves: [Pairs; 3]) -> String {
+        put_in("points=0\n", curves.map(lines_of_curve))
+    }
+
+    #[test]
+    fn one_point() {
+        let margin = |earliest, jitter| margin_by_curve(&curve(&[(10, 4)]), earliest, jitter);
+        for earliest in [1, 9, 10] {
+            assert_eq!(margin(earliest, 0), 4_000);
+            assert_eq!(margin(earliest, 4), 0);
+            assert_eq!(margin(earliest, 5), -1_000);
+        }
+        for jitter in [0, 4, 5] {
+            assert_eq!(margin(11, jitter), -1_000);
+            assert_eq!(margin(12, jitter), -2_000);
+            assert_eq!(margin(1_000_000, jitter), -999_990_000);
+        }
+        let none = curve(&[(0, 0)]);
+        assert_eq!(margin_by_curve(&none, 1, 0), -1_000);
+        assert_eq!(margin_by_curve(&curve(&[(1, 0)]), 1, 0), 0);
+        let all = curve(&[(1_000_000, 1_000_000)]);
+        assert_eq!(margin_by_curve(&all, 1_000_000, 0), 1_000_000_000);
+    }
+
+    /// From (10, 9) to (13, 2): 20/3 at 11 and 13/3 at 12.
+    #[test]
+    fn between_two_points_it_rounds_down() {
+        let margin =
+            |earliest, jitter| margin_by_curve(&curve(&[(10, 9), (13, 2)]), earliest, jitter);
+        assert_eq!([1, 9, 10].map(|earliest| margin(earliest, 8)), [1_000; 3]);
+        assert_eq!([5, 6, 7, 8].map(|jitter| margin(11, jitter)), [1_666, 666, -334, -1_334]);
+        assert_eq!([3, 4, 5, 6].map(|jitter| margin(12, jitter)), [1_333, 333, -667, -1_667]);
+        assert_eq!([0, 2, 3].map(|jitter| margin(13, jitter)), [2_000, 0, -1_000]);
+        assert_eq!([0, 2, 3].map(|jitter| margin(14, jitter)), [-1_000; 3]);
+        assert_eq!(margin(15, 0), -2_000);
+    }
+
+    #[test]
+    fn fractions_of_a_thousandth() {
+        // A tick after (0, 1000000) a millionth is gone.
+        let shallow = curve(&[(0, 1_000_000), (1_000_000, 999_999)]);
+        assert_eq!(margin_by_curve(&shallow, 1, 999_999), 999);
+        assert_eq!(margin_by_curve(&shallow, 1, 1_000_000), -1);
+        assert_eq!(margin_by_curve(&shallow, 999_999, 999_999), 0);
+        assert_eq!(margin_by_curve(&shallow, 999_999, 1_000_000), -1_000);
+        assert_eq!(margin_by_curve(&shallow, 1_000_000, 999_999), 0);
+        // A tick less for each tick more.
+        let steep = curve(&[(0, 1_000_000), (1_000_000, 0)]);
+        for (earliest, jitter) in [(1, 999_999), (500_000, 500_000), (1_000_000, 0)] {
+            assert_eq!(margin_by_curve(&steep, earliest, jitter), 0);
+            assert_eq!(margin_by_curve(&steep, earliest, jitter + 1), -1_000);
+        }
+        assert_eq!(margin_by_curve(&steep, 1, 0), 999_999_000);
+    }
+
+    #[test]
+    fn eight_points_a_tick_apart_have_nothing_between() {
+        let allows = [90, 90, 80, 41, 40, 7, 0, 0];
+        let pairs: Vec<_> =
+            allows.into_iter().enumerate().map(|(at, a)| (at as u64 + 5, a)).collect();
+        let margin = |earliest, jitter| margin_by_curve(&curve(&pairs), earliest, jitter);
+        for (delay, allow) in &pairs {
+            assert_eq!(margin(*delay, *allow), 0, "{delay}");
+            assert_eq!(margin(*delay, allow + 1), -1_000, "{delay}");
+        }
+        assert_eq!((margin(4, 0), margin(12, 0), margin(13, 0)), (90_000, 0, -1_000));
+    }
+
+    #[test]
+    fn eight_points_apart() {
+        let pairs =
+            [(10, 80), (20, 70), (24, 70), (30, 64), (100, 50), (107, 7), (200, 1), (300, 0)];
+        let at = |earliest| margin_by_curve(&curve(&pairs), earliest, 0);
+        assert_eq!([1, 10, 11, 15, 20].map(at), [80_000, 80_000, 79_000, 75_000, 70_000]);
+        assert_eq!([21, 24, 25, 30].map(at), [70_000, 70_000, 69_000, 64_000]);
+        assert_eq!([31, 65, 99, 100].map(at), [63_800, 57_000, 50_200, 50_000]);
+        // 43 fewer in 7 ticks, 6 fewer in 93, 1 fewer in 100.
+        assert_eq!([101, 103, 106, 107].map(at), [43_857, 31_571, 13_142, 7_000]);
+        assert_eq!([108, 199, 200].map(at), [6_935, 1_064, 1_000]);
+        assert_eq!([201, 250, 299, 300, 301].map(at), [990, 500, 10, 0, -1_000]);
+    }
+
+    #[test]
+    fn equal_allows_and_allows_of_0() {
+        let level = curve(&[(3, 6), (9, 6), (90, 6)]);
+        for earliest in [1, 3, 4, 9, 10, 47, 89, 90] {
+            assert_eq!(margin_by_curve(&level, earliest, 6), 0);
+            assert_eq!(margin_by_curve(&level, earliest, 7), -1_000);
+        }
+        assert_eq!(margin_by_curve(&level, 91, 0), -1_000);
+        let falling = curve(&[(5, 3), (8, 0), (10, 0)]);
+        assert_eq!(
+            [5, 6, 7, 8, 9, 10].map(|at| margin_by_curve(&falling, at, 0)),
+            [3_000, 2_000, 1_000, 0, 0, 0]
+        );
+        assert_eq!(margin_by_curve(&falling, 10, 1), -1_000);
+        assert_eq!(margin_by_curve(&falling, 11, 0), -1_000);
+    }
+
+    /// The margin by the request's words: of the whole numbers that are not above a thousand times
+    /// what is permitted beyond the jitter the largest, found by trying. The line is taken from its
+    /// upper end down, in ticks times the ticks between the points.
+    fn margin_by_trying(curve: &[Point], earliest: u64, jitter: u64) -> i64 {
+        let (e, j) = (earliest as i64, jitter as i64);
+        let (first, last) = (curve[0], curve[curve.len() - 1]);
+        if earliest > last.delay {
+            return 1_000 * (last.delay as i64 - e);
+        }
+        if earliest <= first.delay {
+            return 1_000 * (first.allow as i64 - j);
+        }
+        let after = curve.iter().position(|point| point.delay >= earliest).unwrap();
+        let (from, to) = (curve[after - 1], curve[after]);
+        let run = (to.delay - from.delay) as i64;
+        let gone = (from.allow - to.allow) as i64 * (e - from.delay as i64);
+        let beyond = (from.allow as i64 - j) * run - gone;
+        let near = 1_000 * (from.allow as i64 - j);
+        let fits = |margin: &i64| margin * run <= 1_000 * beyond;
+        let lowest = 1_000 * (to.allow as i64 - j);
+        (lowest..=near).rev().find(fits).unwrap()
+    }
+
+    #[test]
+    fn margins_agree_with_trying() {
+        let (mut dice, mut fractions) = (Dice::new(7), 0);
+        for _ in 0..20_000 {
+            let mut curve = Vec::new();
+            while curve.is_empty() {
+                curve = small_curve(&mut dice, 8, 12);
+            }
+            let (earliest, jitter) = (dice.between(1, 60), dice.between(0, 30));
+            let margin = margin_by_curve(&curve, earliest, jitter);
+            assert_eq!(margin, margin_by_trying(&curve, earliest, jitter), "{curve:?} {earliest}");
+            fractions += (margin % 1_000 != 0) as u64;
+            // A tick of jitter is a thousand, and a longer response never gains.
+            if earliest <= curve[curve.len() - 1].delay {
+                assert_eq!(margin_by_curve(&curve, earliest, jitter + 1), margin - 1_000);
+            }
+            let later = permitted(&curve, earliest + 1);
+            if let (Some(now), Some(later)) = (permitted(&curve, earliest), later) {
+                assert!(later.upper * now.lower <= now.upper * later.lower, "{curve:?} {earliest}");
+            }
+        }
+        assert!(fractions > 2_000, "{fractions} margins are rounded");
+    }
+
+    /// Each row of the example where the plan has it: 12 with E 2 and jitter 0, 11 with 6 and 2, 13
+    /// with 25 and 10.
+    #[test]
+    fn the_example_by_its_curves() {
+        let margins = |curves: [Pairs; 3]| {
+            let text = curved(curves) + "rank=12\nrank=11\nrank=13\n";
+            let figures = String::from_utf8(reviewed(text.as_bytes()).unwrap()).unwrap();
+            let margins = figures.lines().filter_map(|line| line.strip_prefix("margin="));
+            margins.map(|margin| margin.parse().unwrap()).collect::<Vec<i64>>()
+        };
+        assert_eq!(margins([&[], &[], &[]]), [6000, 0, 2000]);
+        assert_eq!(margins([&[], &[], &[(25, 10)]]), [6000, 0, 0]);
+        assert_eq!(margins([&[], &[], &[(25, 9)]]), [6000, 0, -1000]);
+        assert_eq!(margins([&[], &[], &[(24, 99)]]), [6000, 0, -1000]);
+        assert_eq!(margins([&[], &[], &[(0, 99)]]), [6000, 0, -25000]);
+        assert_eq!(margins([&[], &[], &[(20, 13), (30, 8)]]), [6000, 0, 500]);
+        assert_eq!(margins([&[], &[], &[(20, 13), (30, 7)]]), [6000, 0, 0]);
+        assert_eq!(margins([&[], &[], &[(20, 12), (30, 7)]]), [6000, 0, -500]);
+        assert_eq!(margins([&[], &[], &[(24, 11), (27, 8)]]), [6000, 0, 0]);
+        assert_eq!(margins([&[], &[], &[(23, 11), (26, 9)]]), [6000, 0, -334]);
+        assert_eq!(margins([&[(6, 2)], &[(0, 7), (9, 1)], &[]]), [5666, 0, 2000]);
+        assert_eq!(margins([&[(5, 2)], &[(1, 0)], &[(1, 1), (100, 0)]]), [-1000, -1000, -9243]);
+    }
+
+    #[test]
+    fn orders_that_only_a_curve_permits_and_only_the_line() {
+        let plan = |curves: [Pairs; 3]| planned(curved(curves).as_bytes());
+        let order = |curves: [Pairs; 3]| tasks_of(plan(curves));
+        assert_eq!(curved([&[], &[], &[]]), TABLE);
+        // Task 13 is the lowest in each order in time.
+        assert_eq!(order([&[], &[], &[(25, 10)]]), ["12", "11", "13"]);
+        assert_eq!(plan([&[], &[], &[(25, 9)]]), refused(8, 0));
+        assert_eq!(plan([&[], &[], &[(24, 10)]]), refused(8, 0));
+        assert_eq!(plan([&[], &[], &[(20, 12), (30, 7)]]), refused(8, 0));
+        let strict = |text: String| planned(text.replace("57000", "54999").as_bytes());
+        assert_eq!(strict(curved([&[], &[], &[]])), refused(8, 0));
+        assert_eq!(tasks_of(strict(curved([&[], &[], &[(25, 10)]]))), ["12", "11", "13"]);
+        // 11 below 12 has a jitter of 2, on top none.
+        assert_eq!(order([&[(6, 2)], &[], &[]]), ["12", "11", "13"]);
+        assert_eq!(order([&[(6, 1)], &[], &[]]), ["11", "12", "13"]);
+        assert_eq!(order([&[(6, 0)], &[], &[]]), ["11", "12", "13"]);
+        assert_eq!(plan([&[(5, 9)], &[], &[]]), refused(8, 0));
+        // 12 below 11 has a jitter of 6: with less of it the two have no order.
+        assert_eq!(order([&[(6, 1)], &[(2, 6)], &[]]), ["11", "12", "13"]);
+        assert_eq!(plan([&[(6, 1)], &[(2, 5)], &[]]), refused(8, 0));
+        assert_eq!(plan([&[(6, 1)], &[(1, 6)], &[]]), refused(8, 0));
+        assert_eq!(order([&[(6, 1)], &[(1, 7), (3, 5)], &[(25, 10)]]), ["11", "12", "13"]);
+    }
+
+    #[test]
+    fn alpha_and_beta_are_read_and_not_used() {
+        let curves: [Pairs; 3] = [&[(6, 2)], &[(2, 6)], &[(20, 13), (30, 7)]];
+        let text = curved(curves);
+        let plan = planned(text.as_bytes());
+        assert!(plan.is_ok());
+        let other = text.replace("beta=8000", "beta=0").replace("beta=57000", "beta=200000000000");
+        let other = other.replace("alpha=1000", "alpha=100000");
+        assert_eq!(planned(other.as_bytes()), plan);
+        let refuses = |from: &str, to: &str, number, place| {
+            assert_eq!(planned(text.replacen(from, to, 1).as_bytes()), refused(number, place));
+        };
+        refuses("alpha=1000", "alpha=999", 3, 8);
+        refuses("alpha=1000", "alpha=100001", 3, 8);
+        refuses("beta=8000", "beta=200000000001", 3, 9);
+        refuses("beta=57000", "beta=", 2, 29);
+    }
+
+    /// W, E and late are as without points.
+    #[test]
+    fn a_curve_changes_the_margin_alone() {
+        let mut dice = Dice::new(8);
+        for round in 0..4_000 {
+            let Table { switch, rows, .. } = small_table(&mut dice, 1 + round % 6);
+            let straight = |row: &Row| Row { curve: Vec::new(), ..row.clone() };
+            let lines: Vec<Row> = rows.iter().map(straight).collect();
+            let split = dice.below(rows.len());
+            let (one, other) =
+                (figures_at(switch, &rows, split), figures_at(switch, &lines, split));
+            let times = |figures: Figures| (figures.best, figures.worst, figures.jitter);
+            assert_eq!(one.map(times), other.map(times), "{rows:?}");
+        }
+        // Late whatever the curve permits.
+        let wide: Pairs = &[(0, 1_000_000), (1_000_000, 1_000_000)];
+        let late = curved([wide, wide, wide]) + "rank=11\nrank=13\nrank=12\n";
+        assert_eq!(reviewed(late.as_bytes()), refused(7, 3));
+    }
+
+    #[test]
+    fn curves_beside_holds_and_a_switch() {
+        let curves: [Pairs; 3] = [&[(6, 2)], &[(2, 1)], &[(17, 18), (18, 17)]];
+        let ranks = "rank=12\nrank=11\nrank=13\n";
+        let figured = |text: String| {
+            let figures = reviewed((text + ranks).as_bytes()).unwrap();
+            let lines = String::from_utf8(figures).unwrap();
+            let margins = lines.lines().filter_map(|line| line.strip_prefix("margin="));
+            margins.map(str::to_string).collect::<Vec<_>>()
+        };
+        // With a hold of 2 task 13 has E 17 and jitter 18, and those above have a tick more of it.
+        let held = curved(curves).replace("57000\nhold=0", "57000\nhold=2");
+        assert_eq!(figured(held), ["0", "-1000", "0"]);
+        assert_eq!(figured(curved(curves)), ["1000", "0", "-7000"]);
+        // Under a switch of 1 the jitters are 1, 4 and 18.
+        let switched = curved(curves).replace("switch=0", "switch=1");
+        assert_eq!(figured(switched), ["0", "-2000", "-7000"]);
+    }
+
+    /// One loop of ten ticks of which no other has any, with these lines after its hold.
+    fn after_hold(lines: &str) -> String {
+        format!(
+            "board=1\ntasks=1\nswitch=0\ntask=1\nperiod=10\nworst=10\nbest=10\nalpha=1000\n\
+            beta=0\nhold=0\n{lines}"
+        )
+    }
+
+    /// That all programs refuse these lines after a hold so; the watcher is tried in `watches`.
+    fn refuses_lines(lines: &str, number: u64, place: u64) {
+        let text = after_hold(lines);
+        assert_eq!(planned(text.as_bytes()), refused(number, place), "{lines:?}");
+        assert_eq!(reviewed(text.as_bytes()), refused(number, place), "{lines:?}");
+        assert_eq!(crane_says(&text), refusal_says(number, place), "{lines:?}");
+        let after = text.clone() + TABLE;
+        if text.ends_with('\n') {
+            assert_eq!(crane_says(&after), refusal_says(number, place) + PLAN, "{lines:?}");
+        }
+    }
+
+    const EIGHT: [(u64, u64); 8] =
+        [(1, 90), (5, 80), (6, 80), (9, 60), (10, 50), (20, 30), (30, 10), (31, 0)];
+
+    #[test]
+    fn the_line_of_the_points() {
+        for points in 0..=8 {
+            let text = after_hold(&lines_of_curve(&EIGHT[..points]));
+            let curves = read_table(text.as_bytes()).map(|table| table.rows[0].curve.clone());
+            assert_eq!(curves, Ok(curve(&EIGHT[..points])));
+        }
+        for points in [9, 10, 16, 1_000_000, 999_999_999_999u64] {
+            refuses_lines(&lines_of_curve(&EIGHT).replace("=8\n", &format!("={points}\n")), 3, 11);
+        }
+        for number in
+            ["", "00", "08", "-1", "-0", "+1", "1 ", " 1", "1\r", "x", "=1", "1000000000000"]
+        {
+            refuses_lines(&format!("points={number}\n"), 2, 11);
+        }
+        for line in [
+            "Points=0",
+            "points",
+            "points0",
+            "point=0",
+            "pointss=0",
+            "points =0",
+            " points=0",
+            "",
+            "hold=0",
+            "delay=0",
+        ] {
+            refuses_lines(&format!("{line}\n"), 1, 11);
+        }
+        refuses_lines("", 1, 11);
+        refuses_lines("points=0", 1, 11);
+        refuses_lines("points=8", 1, 11);
+        let refuses = |from: &str, to: &str, number, place| {
+            let text = changed(&[(from, to)]);
+            assert_eq!(planned(text.as_bytes()), refused(number, place), "{from} {to}");
+            assert_eq!(reviewed(text.as_bytes()), refused(number, place), "{from} {to}");
+        };
+        refuses("hold=0\npoints=0\n", "points=0\nhold=0\n", 1, 10);
+        refuses("points=0\n", "points=0\npoints=0\n", 1, 12);
+        refuses("points=0\ntask=13", "task=13", 1, 19);
+        // As a table was before there were curves.
+        let old = TABLE.replace("points=0\n", "");
+        assert_eq!(planned(old.as_bytes()), refused(1, 11));
+        assert_eq!(reviewed((old + "rank=12\nrank=11\nrank=13\n").as_bytes()), refused(1, 11));
+        assert_eq!(reviewed(format!("{TABLE}points=0\n").as_bytes()), refused(1, 28));
+    }
+
+    #[test]
+    fn as_many_pairs_as_the_points_say() {
+        let pairs = |points: u64, pairs: usize| {
+            lines_of_curve(&EIGHT[..pairs]).replacen(&format!("={pairs}"), &format!("={points}"), 1)
+        };
+        for points in 0..=8 {
+            for there in 0..=8 {
+                // The first pair too many, or the first that is missing.
+                let place = 12 + 2 * points.min(there as u64);
+                if points == there as u64 {
+                    assert!(read_table(after_hold(&pairs(points, there)).as_bytes()).is_ok());
+                } else {
+                    let text = after_hold(&pairs(points, there));
+                    assert_eq!(planned(text.as_bytes()), refused(1, place));
+                    assert_eq!(reviewed((text + "rank=1\n").as_bytes()), refused(1, place));
+                }
+            }
+        }
+        // An allow that is missing, the last and not the last; a delay alone too many.
+        refuses_lines("points=1\ndelay=1\n", 1, 13);
+        refuses_lines("points=2\ndelay=1\nallow=1\ndelay=2\n", 1, 15);
+        refuses_lines("points=2\ndelay=1\ndelay=2\nallow=1\n", 1, 13);
+        let long = after_hold("points=1\ndelay=1\nallow=1\ndelay=2\n");
+        assert_eq!(planned(long.as_bytes()), refused(1, 14));
+        refuses_lines("points=1\nallow=1\ndelay=1\n", 1, 12);
+        // In the middle of a table the next row stands where a pair should, or a pair for a row.
+        let few = curved([&[(6, 2)], &[], &[]]).replace("points=1", "points=2");
+        assert_eq!(planned(few.as_bytes()), refused(1, 14));
+        let many = curved([&[(6, 2)], &[], &[]]).replace("points=1", "points=0");
+        assert_eq!(planned(many.as_bytes()), refused(1, 12));
+    }
+
+    /// The lines of eight pairs with another number on one of them; `line` counts from 0.
+    fn with_line(line: usize, number: &str) -> String {
+        let text = lines_of_curve(&EIGHT);
+        let mut lines: Vec<String> = text.lines().map(str::to_string).collect();
+        let (key, _) = lines[line].split_once('=').unwrap();
+        lines[line] = format!("{key}={number}");
+        lines.into_iter().map(|line| line + "\n").collect()
+    }
+
+    #[test]
+    fn refusal_11_on_each_line_where_it_can_be() {
+        for at in 0..8 {
+            let (delay_line, allow_line) = (1 + 2 * at, 2 + 2 * at);
+            let (delay_place, allow_place) = (delay_line as u64 + 11, allow_line as u64 + 11);
+            // 1 to 3 on each line, the first pair's among them.
+            for (line, place) in [(delay_line, delay_place), (allow_line, allow_place)] {
+                refuses_lines(&with_line(line, "1000001"), 3, place);
+                refuses_lines(&with_line(line, "999999999999"), 3, place);
+                for form in ["", "00", "01", "-1", "+1", "1 ", "1\r", "1000000000000"] {
+                    refuses_lines(&with_line(line, form), 2, place);
+                }
+                let whole = lines_of_curve(&EIGHT);
+                let lines: Vec<&str> = whole.split_inclusive('\n').collect();
+                refuses_lines(&lines[..line].concat(), 1, place);
+                let cut = lines[..=line].concat();
+                refuses_lines(cut.strip_suffix('\n').unwrap(), 1, place);
+                let other = [&lines[..line].concat(), "Delay=7\n", &lines[line + 1..].concat()];
+                refuses_lines(&other.concat(), 1, place);
+            }
+            if at == 0 {
+                continue;
+            }
+            let (delay, allow) = EIGHT[at - 1];
+            refuses_lines(&with_line(delay_line, &delay.to_string()), 11, delay_place);
+            refuses_lines(&with_line(delay_line, &(delay - 1).to_string()), 11, delay_place);
+            refuses_lines(&with_line(delay_line, "0"), 11, delay_place);
+            refuses_lines(&with_line(allow_line, &(allow + 1).to_string()), 11, allow_place);
+            refuses_lines(&with_line(allow_line, "1000000"), 11, allow_place);
+            // One more than the delay before, and just the allow before, end the curve well.
+            let mut pairs = EIGHT[..at].to_vec();
+            pairs.push((delay + 1, allow));
+            assert!(read_table(after_hold(&lines_of_curve(&pairs)).as_bytes()).is_ok());
+        }
+    }
+
+    #[test]
+    fn refusal_11_comes_after_the_first_pair_and_after_test_3() {
+        let accepts = |pairs: Pairs| {
+            assert!(read_table(after_hold(&lines_of_curve(pairs)).as_bytes()).is_ok(), "{pairs:?}");
+        };
+        let refuses = |pairs: Pairs, number, place| {
+            refuses_lines(&lines_of_curve(pairs), number, place);
+        };
+        for pair in [(0, 0), (0, 1_000_000), (1_000_000, 0), (1_000_000, 1_000_000)] {
+            accepts(&[pair]);
+        }
+        accepts(&[(0, 1_000_000), (1_000_000, 0)]);
+        accepts(&[(0, 1_000_000), (1_000_000, 1_000_000)]);
+        accepts(&[(999_999, 0), (1_000_000, 0)]);
+        refuses(&[(1_000_001, 0)], 3, 12);
+        refuses(&[(0, 1_000_001)], 3, 13);
+        refuses(&[(0, 5), (1, 1_000_001)], 3, 15);
+        refuses(&[(1_000_000, 5), (1_000_001, 5)], 3, 14);
+        refuses(&[(1_000_000, 5), (1_000_000, 5)], 11, 14);
+        refuses(&[(7, 5), (7, 5)], 11, 14);
+        refuses(&[(7, 5), (6, 9)], 11, 14);
+        refuses(&[(7, 5), (8, 6)], 11, 15);
+        // Beside the pair before it, not beside others.
+        refuses(&[(1, 9), (5, 8), (3, 7)], 11, 16);
+        refuses(&[(1, 9), (2, 5), (3, 6)], 11, 17);
+        // The first fault ends the reading.
+        refuses(&[(7, 5), (7, 1_000_001)], 11, 14);
+        refuses(&[(7, 5), (8, 6), (8, 5)], 11, 15);
+        // Each row begins anew.
+        let anew = curved([&[(900, 5), (901, 0)], &[(1, 9), (2, 8)], &[(1, 9)]]);
+        assert!(read_table(anew.as_bytes()).is_ok());
+        let second = curved([&[(1, 9), (2, 8)], &[(9, 9), (9, 8)], &[]]);
+        assert_eq!(planned(second.as_bytes()), refused(11, 26));
+        let third = curved([&[], &[(1, 9)], &[(1, 1), (2, 1), (3, 2)]]);
+        assert_eq!(planned(third.as_bytes()), refused(11, 35));
+    }
+
+    #[test]
+    fn each_row_of_a_full_table_may_have_all_points() {
+        let (table, ranks) = loops(16);
+        let curve = lines_of_curve(&EIGHT);
+        let text = table.replace("points=0\n", &curve);
+        let plan = planned(text.as_bytes());
+        // E is 1 and each jitter at most 15, so that each order is stable.
+        assert_eq!(tasks_of(plan.clone()), tasks_of(planned(table.as_bytes())));
+        assert_eq!(reviewed(format!("{text}{ranks}").as_bytes()), plan);
+        assert_eq!(reviewed(text.as_bytes()), refused(1, 388));
+        let last = "points=8\n".len() + text.rfind("points=8\n").unwrap();
+        let spoiled = text[..last].to_string() + &text[last..].replace("delay=31", "delay=30");
+        assert_eq!(planned(spoiled.as_bytes()), refused(11, 386));
+        // The longest rows there are still leave room in what the program takes.
+        let row = "task=65535\nperiod=1000000\nworst=1000000\nbest=1000000\nalpha=100000\n\
+            beta=200000000000\nhold=1000000\npoints=8\n";
+        let of_a_task =
+            row.len() + 8 * "delay=1000000\nallow=1000000\n".len() + "rank=65535\n".len();
+        let longest = "board=65535\ntasks=16\nswitch=1000\n".len() + MOST_TASKS * of_a_task;
+        assert!(longest < TABLE_TAKES, "{longest}");
+    }
+
+    /// No margin of a curve is longer than the longest of a line.
+    #[test]
+    fn the_margins_of_curves_are_short() {
+        let widest = curve(&[(0, 1_000_000), (1_000_000, 0)]);
+        assert!(margin_by_curve(&widest, 1, 0) <= 1_000_000_000);
+        assert_eq!(margin_by_curve(&curve(&[(0, 0)]), 1_000_000, 0), -1_000_000_000);
+        assert_eq!(margin_by_curve(&curve(&[(1, 0)]), 1, 999_999), -999_999_000);
+    }
+
+    #[test]
+    fn boards_of_a_crane_with_and_without_points() {
+        let curves: [Pairs; 3] = [&[], &[], &[(25, 10)]];
+        let (bent, none) = (curved(curves), curved([&[], &[], &[(25, 9)]]));
+        let wrong = curved([&[], &[(1, 1), (1, 1)], &[]]);
+        let plan = PLAN.replace("margin=2000", "margin=0");
+        let answers = [PLAN.to_string(), plan, refusal_says(8, 0), refusal_says(11, 22)];
+        let text = [TABLE, &bent, &none, &wrong, TABLE, &bent].concat();
+        assert_eq!(crane_says(&text), answers.concat() + &answers[0] + &answers[1]);
+    }
+
+    /// The stored example: a long lens, task 84, below pan, tilt and zoom. W is 60 + 2 × 18 + 2 × 16 +
+    /// 24 = 152, E is 40, since none above has a whole period in it, and the jitter 112. The line
+    /// permits (260000 − 40000) / 2500 = 88 and costs 40000 + 2500 × 112 = 320000. The curve falls from
+    /// 140 by 15 in 65 ticks, of which 25 have passed: 140 − 15 × 25 / 65 is 22 and 3/13 above 112.
+    #[test]
+    fn the_stored_lens_is_stable_by_its_curve_alone() {
+        let curve = include_str!("../../examples/long-lens.table");
+        let line = include_str!("../../examples/long-lens-line.table");
+        let bent = read_table(curve.as_bytes()).unwrap();
+        let straight = |row: &Row| Row { curve: Vec::new(), ..row.clone() };
+        let rows = bent.rows.iter().map(straight).collect();
+        assert_eq!(read_table(line.as_bytes()), Ok(Table { rows, ..bent.clone() }));
+        let figures = |table: &Table| figures_of_order(table, &[1, 0, 2, 3]).unwrap()[3];
+        let lens = figures(&bent);
+        assert_eq!(lens, Figures { best: 40, worst: 152, jitter: 112, margin: 22_230 });
+        let straight = figures(&read_table(line.as_bytes()).unwrap());
+        assert_eq!(straight, Figures { margin: -60_000, ..lens });
+        assert_eq!(tasks_of(planned(curve.as_bytes())), ["82", "81", "83", "84"]);
+        assert_eq!(planned(line.as_bytes()), refused(8, 0));
+        assert_eq!(
+            planned(curve.as_bytes()),
+            Ok(include_bytes!("../../examples/long-lens.plan").to_vec())
+        );
     }
 
     // ---- The crane ----------------------------------------------------------------------
@@ -1107,7 +1724,7 @@ mod tests {
         let unended = TABLE.strip_suffix('\n').unwrap();
         for between in ["", "\r", "\0", " ", "\u{b}", "\u{c}", "\u{2028}"] {
             let melted = format!("{unended}{between}{TABLE}");
-            assert_eq!(crane_says(&melted), refusal_says(2, 24));
+            assert_eq!(crane_says(&melted), refusal_says(2, 27));
         }
     }
 
@@ -1116,7 +1733,7 @@ mod tests {
         for line in ["board", "board7", "Board=7", " board=7", "\rboard=7", "board =7", "boards=7"]
         {
             let text = format!("{TABLE}{line}\n{TABLE}");
-            assert_eq!(crane_says(&text), refusal_says(1, 25) + PLAN);
+            assert_eq!(crane_says(&text), refusal_says(1, 28) + PLAN);
         }
     }
 
@@ -1132,7 +1749,7 @@ mod tests {
         assert_eq!(crane_says(&format!("{TABLE}board=")), format!("{PLAN}{}", refusal_says(1, 1)));
         assert_eq!(crane_says("\nboard="), refusal_says(1, 1).repeat(2));
         for end in ["b", "boa", "board"] {
-            assert_eq!(crane_says(&format!("{TABLE}{end}")), refusal_says(1, 25));
+            assert_eq!(crane_says(&format!("{TABLE}{end}")), refusal_says(1, 28));
         }
     }
 
@@ -1150,7 +1767,7 @@ mod tests {
         assert_eq!(craned(format!("{}board=", crane("", 32)).as_bytes()), refused(10, 0));
         assert_eq!(
             crane_says(&format!("{}boa", crane("", 32))),
-            PLAN.repeat(31) + &refusal_says(1, 25)
+            PLAN.repeat(31) + &refusal_says(1, 28)
         );
     }
 
@@ -1159,11 +1776,11 @@ mod tests {
         let broken = changed(&[("worst=2", "worst=19")]);
         assert_eq!(
             crane_says(&format!("{TABLE}{broken}{TABLE}")),
-            format!("{PLAN}{}{PLAN}", refusal_says(4, 13))
+            format!("{PLAN}{}{PLAN}", refusal_says(4, 14))
         );
         let unstable = changed(&[("57000", "54999")]);
         let twice = changed(&[("task=12", "task=11")]);
-        let pieces = [(unstable, 8, 0), (twice, 5, 11), (format!("{TABLE}rank=11\n"), 1, 25)];
+        let pieces = [(unstable, 8, 0), (twice, 5, 12), (format!("{TABLE}rank=11\n"), 1, 28)];
         for (piece, number, place) in pieces {
             let answer = refusal_says(number, place);
             assert_eq!(crane_says(&format!("{piece}{TABLE}")), format!("{answer}{PLAN}"));
@@ -1253,7 +1870,8 @@ mod tests {
     /// A table of so many loops, each of one tick, and the rank lines of the tasks from the last.
     fn loops(tasks: u64) -> (String, String) {
         let row = |task| {
-            format!("task={task}\nperiod=100\nworst=1\nbest=1\nalpha=1000\nbeta=100000\nhold=0\n")
+            let times = "period=100\nworst=1\nbest=1\n";
+            format!("task={task}\n{times}alpha=1000\nbeta=100000\nhold=0\npoints=0\n")
         };
         let rows: String = (1..=tasks).map(row).collect();
         let ranks = (1..=tasks).rev().map(|task| format!("rank={task}\n")).collect();
@@ -1279,10 +1897,10 @@ mod tests {
             assert_eq!(crane, PLAN.to_owned() + &refusal_says(3, 2));
         }
         let (table, ranks) = loops(16);
-        assert_eq!(planned(format!("{table}rank=1\n").as_bytes()), refused(1, 116));
-        assert_eq!(reviewed(format!("{table}{ranks}rank=1\n").as_bytes()), refused(1, 132));
+        assert_eq!(planned(format!("{table}rank=1\n").as_bytes()), refused(1, 132));
+        assert_eq!(reviewed(format!("{table}{ranks}rank=1\n").as_bytes()), refused(1, 148));
         let twice = table.replace("task=16\n", "task=1\n");
-        assert_eq!(planned(twice.as_bytes()), refused(5, 109));
+        assert_eq!(planned(twice.as_bytes()), refused(5, 124));
     }
 
     /// Every text of six parts, each part something that a cut depends on.

@@ -5,8 +5,10 @@
 //! then the lowest; the search starts from the whole set, so only sets that matter are visited.
 //! The rows below the lowest row of a set are those outside it: one blocking time for a set.
 //! Once read, a row's worst time has the switch in it, so that nothing past the reader knows of it.
+//! The points of all rows are one list beside the rows, which is looked at only for a row that has
+//! some, and is empty where no row has any.
 
-use crate::model::{Answer, Refusal, Row, MOST_PIECES, MOST_TASKS};
+use crate::model::{self, Answer, Point, Refusal, MOST_PIECES, MOST_POINTS, MOST_TASKS};
 
 /// The bytes of a plan's three first lines at the most, and of a rank's.
 const HEAD_ROOM: usize = 28;
@@ -15,6 +17,42 @@ const RANK_ROOM: usize = 79;
 const PLAN_ROOM: usize = HEAD_ROOM + MOST_TASKS * RANK_ROOM;
 const UNKNOWN: u8 = 255;
 const NONE: u8 = 254;
+
+/// A row as the search has it: which of the table's points are its own, and the rest of its numbers.
+#[derive(Clone, Copy)]
+pub struct Row {
+    task: u64,
+    period: u64,
+    worst: u64,
+    best: u64,
+    alpha: u64,
+    beta: u64,
+    hold: u64,
+    first: u32,
+    points: u32,
+}
+
+pub struct Table {
+    board: u64,
+    rows: Vec<Row>,
+    points: Vec<Point>,
+}
+
+/// A table as the reader makes it of its text, for `bench` alone.
+#[allow(dead_code)]
+pub fn table_of(table: &model::Table) -> Table {
+    let mut points = Vec::new();
+    let mut row = |row: &model::Row| {
+        let first = points.len() as u32;
+        points.extend_from_slice(&row.curve);
+        let model::Row { task, period, worst, best, alpha, beta, hold, .. } = *row;
+        let worst = worst + table.switch;
+        let points = row.curve.len() as u32;
+        Row { task, period, worst, best, alpha, beta, hold, first, points }
+    };
+    let rows = table.rows.iter().map(&mut row).collect();
+    Table { board: table.board, rows, points }
+}
 
 // ---- Reading ----------------------------------------------------------------------------
 
@@ -47,8 +85,27 @@ impl Reader<'_> {
         }
     }
 
+    /// The points of a row, put behind those of the rows before it; how many there are.
+    fn curve(&mut self, points: &mut Vec<Point>) -> Result<u32, Refusal> {
+        let count = self.number(b"points=", 0, MOST_POINTS as u64)? as u32;
+        for index in 0..count {
+            let last = points.last().filter(|_| index > 0).copied();
+            let delay = self.number(b"delay=", 0, 1_000_000)?;
+            self.refuse_if(last.is_some_and(|last| delay <= last.delay), 11)?;
+            let allow = self.number(b"allow=", 0, 1_000_000)?;
+            self.refuse_if(last.is_some_and(|last| allow > last.allow), 11)?;
+            points.push(Point { delay, allow });
+        }
+        Ok(count)
+    }
+
     /// A row with the switch in its worst time.
-    fn row(&mut self, switch: u64, before: &[Row]) -> Result<Row, Refusal> {
+    fn row(
+        &mut self,
+        switch: u64,
+        before: &[Row],
+        points: &mut Vec<Point>,
+    ) -> Result<Row, Refusal> {
         let task = self.number(b"task=", 1, 65_535)?;
         self.refuse_if(before.iter().any(|row| row.task == task), 5)?;
         let period = self.number(b"period=", 1, 1_000_000)?;
@@ -60,18 +117,20 @@ impl Reader<'_> {
         let beta = self.number(b"beta=", 0, 200_000_000_000)?;
         let hold = self.number(b"hold=", 0, self.most_hold)?;
         self.refuse_if(hold > worst, 4)?;
-        Ok(Row { task, period, worst: worst + switch, best, alpha, beta, hold })
+        let first = points.len() as u32;
+        let points = self.curve(points)?;
+        Ok(Row { task, period, worst: worst + switch, best, alpha, beta, hold, first, points })
     }
 
-    fn table(&mut self) -> Result<(u64, Vec<Row>), Refusal> {
+    fn table(&mut self) -> Result<Table, Refusal> {
         let board = self.number(b"board=", 1, 65_535)?;
         let tasks = self.number(b"tasks=", 1, MOST_TASKS as u64)?;
         let switch = self.number(b"switch=", 0, 1_000)?;
-        let mut rows = Vec::with_capacity(MOST_TASKS);
+        let (mut rows, mut points) = (Vec::with_capacity(MOST_TASKS), Vec::new());
         for _ in 0..tasks {
-            rows.push(self.row(switch, &rows)?);
+            rows.push(self.row(switch, &rows, &mut points)?);
         }
-        Ok((board, rows))
+        Ok(Table { board, rows, points })
     }
 
     fn ranks(&mut self, rows: &[Row]) -> Result<Vec<usize>, Refusal> {
@@ -215,12 +274,31 @@ impl<const COUNTED: bool, const SOONER: bool> Above<COUNTED, SOONER> {
         }
     }
 
-    /// The figures of a row that the rows below it block for so long.
-    fn figures(&mut self, row: &Row, blocked: u64) -> Option<Figures> {
+    /// The figures of a row that the rows below it block for so long, the table's points beside it.
+    fn figures(&mut self, row: &Row, blocked: u64, points: &[Point]) -> Option<Figures> {
         let worst = self.latest(row, blocked)?;
         let best = if row.hold < 2 { self.earliest(row, worst) } else { row.best };
+        if row.points > 0 {
+            let curve = &points[row.first as usize..][..row.points as usize];
+            return Some(Figures { best, worst, margin: curve_margin(curve, best, worst - best) });
+        }
         let cost = 1_000 * best + row.alpha * (worst - best);
         Some(Figures { best, worst, margin: row.beta as i64 - cost as i64 })
+    }
+}
+
+/// The margin by a curve: what the point before permits beyond the jitter, less what the line has
+/// fallen by since, which is rounded up.
+fn curve_margin(curve: &[Point], best: u64, jitter: u64) -> i64 {
+    let beyond = |allow: u64| 1_000 * (allow as i64 - jitter as i64);
+    match curve.iter().position(|point| best <= point.delay) {
+        Some(0) => beyond(curve[0].allow),
+        Some(after) => {
+            let (from, to) = (curve[after - 1], curve[after]);
+            let fallen = 1_000 * (from.allow - to.allow) * (best - from.delay);
+            beyond(from.allow) - fallen.div_ceil(to.delay - from.delay) as i64
+        }
+        None => 1_000 * (curve[curve.len() - 1].delay as i64 - best as i64),
     }
 }
 
@@ -233,6 +311,7 @@ fn blocking_time<'a>(below: impl Iterator<Item = &'a Row>) -> u64 {
 
 struct Search<'a, const COUNTED: bool, const SOONER: bool> {
     rows: &'a [Row],
+    points: &'a [Point],
     lowest: Vec<u8>,
     above: Above<COUNTED, SOONER>,
 }
@@ -261,7 +340,8 @@ impl<const COUNTED: bool, const SOONER: bool> Search<'_, COUNTED, SOONER> {
 
     fn is_stable(&mut self, index: usize, rest: usize, blocked: u64) -> bool {
         self.above.fill(self.rows, rest);
-        self.above.figures(&self.rows[index], blocked).is_some_and(|figures| figures.margin >= 0)
+        let figures = self.above.figures(&self.rows[index], blocked, self.points);
+        figures.is_some_and(|figures| figures.margin >= 0)
     }
 
     /// The order, highest rank first, read off the table of sets from the lowest up.
@@ -279,11 +359,11 @@ impl<const COUNTED: bool, const SOONER: bool> Search<'_, COUNTED, SOONER> {
 /// The order of the plan, highest rank first, and the work done to find it (0 unless `COUNTED`); the
 /// rows have the switch in their worst times.
 pub fn chosen<const COUNTED: bool, const SOONER: bool>(
-    rows: &[Row],
+    Table { rows, points, .. }: &Table,
 ) -> (Option<Vec<usize>>, Work) {
     let mut lowest = vec![UNKNOWN; 1 << rows.len()];
     lowest[0] = 0;
-    let mut search = Search { rows, lowest, above: Above::<COUNTED, SOONER>::new() };
+    let mut search = Search { rows, points, lowest, above: Above::<COUNTED, SOONER>::new() };
     let found = search.has_order((1 << rows.len()) - 1, 0);
     (found.then(|| search.order()), search.above.work)
 }
@@ -307,19 +387,19 @@ fn push_line(text: &mut Vec<u8>, key: &[u8], mut number: u64) {
 }
 
 fn plan_text<const SOONER: bool>(
-    board: u64,
-    rows: &[Row],
+    Table { board, rows, points }: &Table,
     order: &[usize],
 ) -> Result<Vec<u8>, Refusal> {
     let mut text = Vec::with_capacity(HEAD_ROOM + rows.len() * RANK_ROOM);
     push_line(&mut text, b"plan=", 1);
-    push_line(&mut text, b"board=", board);
+    push_line(&mut text, b"board=", *board);
     push_line(&mut text, b"tasks=", rows.len() as u64);
     let mut above = Above::<false, SOONER>::new();
     for (at, &index) in order.iter().enumerate() {
         let (row, rank) = (&rows[index], at as u64 + 1);
         let blocked = blocking_time(order[at + 1..].iter().map(|&index| &rows[index]));
-        let figures = above.figures(row, blocked).ok_or(Refusal { number: 7, place: rank })?;
+        let figures = above.figures(row, blocked, points);
+        let figures = figures.ok_or(Refusal { number: 7, place: rank })?;
         push_line(&mut text, b"rank=", rank);
         push_line(&mut text, b"task=", row.task);
         push_line(&mut text, b"best=", figures.best);
@@ -334,18 +414,18 @@ fn plan_text<const SOONER: bool>(
 
 fn planned<const SOONER: bool>(text: &[u8]) -> Result<Vec<u8>, Refusal> {
     let mut reader = Reader::new(text);
-    let (board, rows) = reader.table()?;
+    let table = reader.table()?;
     reader.end()?;
-    let order = chosen::<false, SOONER>(&rows).0.ok_or(Refusal { number: 8, place: 0 })?;
-    plan_text::<SOONER>(board, &rows, &order)
+    let order = chosen::<false, SOONER>(&table).0.ok_or(Refusal { number: 8, place: 0 })?;
+    plan_text::<SOONER>(&table, &order)
 }
 
 fn reviewed(text: &[u8]) -> Result<Vec<u8>, Refusal> {
     let mut reader = Reader::new(text);
-    let (board, rows) = reader.table()?;
-    let order = reader.ranks(&rows)?;
+    let table = reader.table()?;
+    let order = reader.ranks(&table.rows)?;
     reader.end()?;
-    plan_text::<true>(board, &rows, &order)
+    plan_text::<true>(&table, &order)
 }
 
 fn deliver(plan: Result<Vec<u8>, Refusal>, buffer: &mut [u8]) -> Answer {
@@ -366,7 +446,9 @@ pub fn plan(text: &[u8], buffer: &mut [u8]) -> Answer {
     deliver(planned::<true>(text), buffer)
 }
 
-/// The same with the search of a latest response as the library had it before request 6.
+/// The same with the search of a latest response as the library had it before request 6, for `bench`
+/// alone.
+#[allow(dead_code)]
 pub fn plan_before(text: &[u8], buffer: &mut [u8]) -> Answer {
     deliver(planned::<false>(text), buffer)
 }
@@ -500,14 +582,14 @@ fn run(ranks: &mut [Rank], lengths: &[u64], ticks: u64) -> Vec<u8> {
 
 fn watched(text: &[u8]) -> Result<Vec<u8>, Refusal> {
     let mut reader = Reader { most_hold: 0, ..Reader::new(text) };
-    let (board, rows) = reader.table()?;
-    let order = reader.ranks(&rows)?;
-    let mut ranks = reader.releases(&rows, &order)?;
+    let table = reader.table()?;
+    let order = reader.ranks(&table.rows)?;
+    let mut ranks = reader.releases(&table.rows, &order)?;
     let ticks = reader.number(b"ticks=", 1, 1_000_000)?;
     let lengths = reader.lengths(&ranks)?;
     reader.end()?;
     // For its refusal of a late task.
-    plan_text::<true>(board, &rows, &order)?;
+    plan_text::<true>(&table, &order)?;
     Ok(run(&mut ranks, &lengths, ticks))
 }
 

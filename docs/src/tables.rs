@@ -1,8 +1,9 @@
 //! Random tables of tasks: several families of periods, loads up to the whole processor, switches
-//! and holds of many kinds, and betas that stand exactly on a margin of 0 or one beside it.
+//! and holds of many kinds, betas that stand exactly on a margin of 0 or one beside it, and curves
+//! that pass close by a row's earliest response and jitter.
 
 use crate::dice::Dice;
-use crate::model::{self, Row, Table};
+use crate::model::{self, Figures, Point, Row, Table, MOST_ALLOW, MOST_DELAY, MOST_POINTS};
 
 const MOST_TICKS: u64 = 1_000_000;
 const MOST_BETA: u64 = 200_000_000_000;
@@ -38,6 +39,9 @@ pub const SHORT_FAMILIES: [Family; 5] = [Small, Harmonic, Coprime, Drifting, Cro
 
 /// How often a table of the crossing family is drawn until some task gains.
 const CROSSING_DRAWS: usize = 20;
+
+/// How often a curve is drawn until a row is stable by it.
+const CURVE_DRAWS: usize = 10;
 
 /// Periods of a family, the short ones longer by `more` ticks so that the switches find room.
 fn periods(dice: &mut Dice, family: Family, count: usize, more: u64) -> Vec<u64> {
@@ -127,9 +131,10 @@ fn set_holds(dice: &mut Dice, rows: &mut [Row]) {
     }
 }
 
-/// The beta at which a row's margin between `above` and `below` is 0; none if it is late there.
+/// The beta at which the margin by the line of a row between `above` and `below` is 0; none if it is
+/// late there.
 pub fn boundary(switch: u64, row: &Row, above: &[&Row], below: &[&Row]) -> Option<u64> {
-    let free = Row { beta: 0, ..*row };
+    let free = Row { beta: 0, curve: Vec::new(), ..*row };
     model::figures(switch, &free, above, below).map(|figures| figures.margin.unsigned_abs())
 }
 
@@ -147,13 +152,19 @@ fn at_least(dice: &mut Dice, boundary: Option<u64>) -> u64 {
     beta.min(MOST_BETA)
 }
 
-/// Betas at the boundaries of one order, which is then stable unless a task in it is late.
-fn set_betas_by_order(dice: &mut Dice, table: &mut Table) {
+/// An order, three times in four that of the periods.
+fn some_order(dice: &mut Dice, table: &Table) -> Vec<usize> {
     let mut order: Vec<usize> = (0..table.rows.len()).collect();
     dice.shuffle(&mut order);
     if !dice.once_in(4) {
         order.sort_by_key(|&index| table.rows[index].period);
     }
+    order
+}
+
+/// Betas at the boundaries of one order, which is then stable unless a task in it is late.
+fn set_betas_by_order(dice: &mut Dice, table: &mut Table) {
+    let order = some_order(dice, table);
     let copies = table.rows.clone();
     let ranked: Vec<&Row> = order.iter().map(|&index| &copies[index]).collect();
     for (rank, &index) in order.iter().enumerate() {
@@ -180,6 +191,183 @@ fn set_betas_by_sets(dice: &mut Dice, table: &mut Table) {
         row.beta = at_least(dice, boundary);
     }
 }
+
+// ---- Curves -----------------------------------------------------------------------------
+
+/// The points in the sequence of their delays, as many as a row may have: where two have one delay
+/// the later is left out, and no allow is above the one before.
+fn sound(mut points: Vec<Point>) -> Vec<Point> {
+    points.sort_by_key(|point| point.delay);
+    points.dedup_by_key(|point| point.delay);
+    points.truncate(MOST_POINTS);
+    let mut most = MOST_ALLOW;
+    for point in &mut points {
+        point.delay = point.delay.min(MOST_DELAY);
+        point.allow = point.allow.min(most);
+        most = point.allow;
+    }
+    points.dedup_by_key(|point| point.delay);
+    points
+}
+
+/// So many points before the first of a curve and after its last, each a step away.
+fn extended(dice: &mut Dice, mut points: Vec<Point>, before: usize, after: usize) -> Vec<Point> {
+    let step = |dice: &mut Dice| dice.pick(&[1, 1, 2, 7, 100, 100_000]) * dice.between(1, 3);
+    for _ in 0..before {
+        let Point { delay, allow } = points[0];
+        let (by, more) = (step(dice), dice.pick(&[0, 1]) * step(dice));
+        if delay >= by {
+            points.insert(0, Point { delay: delay - by, allow: (allow + more).min(MOST_ALLOW) });
+        }
+    }
+    for _ in 0..after {
+        let Point { delay, allow } = points[points.len() - 1];
+        let (by, less) = (step(dice), dice.pick(&[0, 1]) * step(dice));
+        if delay + by <= MOST_DELAY {
+            points.push(Point { delay: delay + by, allow: allow.saturating_sub(less) });
+        }
+    }
+    points
+}
+
+/// Two points, one before the earliest response and one at it or after it, whose line passes by the
+/// jitter there, exactly or within a tick.
+fn two_around(dice: &mut Dice, earliest: u64, jitter: u64) -> Vec<Point> {
+    let near = |dice: &mut Dice| dice.pick(&[1, 2, 3, 7, 10, 30, 1_000]);
+    let (before, after) = (near(dice).min(earliest), dice.pick(&[0, 1, 1]) * near(dice));
+    let most = dice.pick(&[1, 5, 20, 1_000_000]);
+    let less = dice.between(0, jitter.min(most));
+    let more = if after == 0 { dice.any_size(50) } else { less * before / after };
+    let beside = (jitter + more + dice.between(0, 2)).saturating_sub(1);
+    let right = if after == 0 { jitter } else { jitter - less };
+    vec![
+        Point { delay: earliest - before, allow: beside.max(right) },
+        Point { delay: earliest + after, allow: right },
+    ]
+}
+
+/// A curve close to what a row has: a point just there, the first delay past it, a line by it, or
+/// the last delay just before it; one time in four it permits a tick less.
+fn curve_near(dice: &mut Dice, earliest: u64, jitter: u64) -> Vec<Point> {
+    let here = |delay: u64| vec![Point { delay, allow: jitter }];
+    let (some, others) = (dice.below(4), dice.below(4));
+    let mut points = match dice.below(8) {
+        0 => extended(dice, here(earliest), some, others),
+        1 => {
+            let past = earliest + dice.any_size(1_000);
+            extended(dice, here(past), 0, others)
+        }
+        2 => {
+            let last = here(earliest - dice.between(0, 1));
+            extended(dice, last, some, 0)
+        }
+        3 => extended(dice, here(earliest), MOST_POINTS - 1, 0),
+        _ => {
+            let two = two_around(dice, earliest, jitter);
+            extended(dice, two, some, others)
+        }
+    };
+    if dice.once_in(4) {
+        points.iter_mut().for_each(|point| point.allow = point.allow.saturating_sub(1));
+    }
+    sound(points)
+}
+
+/// The same, drawn until the row is stable by it; a point just there if that takes too long.
+fn curve_that_fits(dice: &mut Dice, earliest: u64, jitter: u64) -> Vec<Point> {
+    let mut drawn = (0..CURVE_DRAWS).map(|_| curve_near(dice, earliest, jitter));
+    let fits = |curve: &Vec<Point>| model::margin_by_curve(curve, earliest, jitter) >= 0;
+    drawn.find(fits).unwrap_or_else(|| vec![Point { delay: earliest, allow: jitter }])
+}
+
+/// A curve at the limits, or any.
+pub fn any_curve(dice: &mut Dice) -> Vec<Point> {
+    let point = |delay, allow| Point { delay, allow };
+    let (delay, allow) = (dice.any_size(MOST_DELAY), dice.any_size(MOST_ALLOW));
+    match dice.below(10) {
+        0 => vec![point(0, 0)],
+        1 => vec![point(0, MOST_ALLOW)],
+        2 => vec![point(MOST_DELAY, 0)],
+        3 => vec![point(MOST_DELAY, MOST_ALLOW)],
+        4 => vec![point(0, MOST_ALLOW), point(MOST_DELAY, 0)],
+        5 => vec![point(0, allow), point(MOST_DELAY, allow)],
+        // As many as there can be, a tick apart.
+        6 => {
+            let first = delay.min(MOST_DELAY - MOST_POINTS as u64);
+            let at = |index: u64| point(first + index, allow.saturating_sub(index * index));
+            (0..MOST_POINTS as u64).map(at).collect()
+        }
+        _ => {
+            let points = dice.between(1, MOST_POINTS as u64);
+            let any = |_| point(dice.any_size(MOST_DELAY), dice.any_size(MOST_ALLOW));
+            let mut points: Vec<Point> = (0..points).map(any).collect();
+            points.sort_by_key(|point| std::cmp::Reverse(point.allow));
+            let mut delays: Vec<u64> = points.iter().map(|point| point.delay).collect();
+            delays.sort();
+            points.iter_mut().zip(delays).for_each(|(point, delay)| point.delay = delay);
+            sound(points)
+        }
+    }
+}
+
+/// A curve that permits everything.
+fn loose_curve(dice: &mut Dice) -> Vec<Point> {
+    let last = Point { delay: MOST_DELAY, allow: MOST_ALLOW };
+    let others = dice.below(MOST_POINTS);
+    let points = (0..others).map(|_| Point { delay: dice.below(999_999) as u64, ..last });
+    sound(points.chain([last]).collect())
+}
+
+/// The figures of a row in an order, all others above it or below.
+fn figures_in(table: &Table, order: &[usize], rank: usize) -> Option<Figures> {
+    let ranked: Vec<&Row> = order.iter().map(|&index| &table.rows[index]).collect();
+    model::figures(table.switch, ranked[rank], &ranked[..rank], &ranked[rank + 1..])
+}
+
+/// Gives a row a curve near to what it has in an order, one by which it is stable there if the curve
+/// is to fit; a late one gets any.
+pub fn set_a_curve(dice: &mut Dice, table: &mut Table, order: &[usize], rank: usize, fits: bool) {
+    table.rows[order[rank]].curve = match figures_in(table, order, rank) {
+        Some(Figures { best, jitter, .. }) if fits => curve_that_fits(dice, best, jitter),
+        Some(Figures { best, jitter, .. }) => curve_near(dice, best, jitter),
+        None => any_curve(dice),
+    };
+}
+
+/// Curves in one row, in some or in all, near to what the rows have in one order, which three times
+/// in four is stable by them; or, where betas are no limit, such that these are none either.
+fn set_curves(dice: &mut Dice, table: &mut Table, loose: bool) {
+    let (kind, only) = (dice.below(4), dice.below(table.rows.len()));
+    let fits = !dice.once_in(4);
+    let order = some_order(dice, table);
+    for rank in 0..order.len() {
+        let index = order[rank];
+        let chosen = match kind {
+            0 => index == only,
+            1 => true,
+            _ => dice.once_in(2),
+        };
+        if chosen && loose {
+            table.rows[index].curve = loose_curve(dice);
+        } else if chosen && !fits && dice.once_in(10) {
+            table.rows[index].curve = any_curve(dice);
+        } else if chosen {
+            set_a_curve(dice, table, &order, rank, fits);
+        }
+    }
+}
+
+/// A table of document 01 with a curve in every row, for `bench` alone; in three of four each row is
+/// stable by it in one order.
+#[allow(dead_code)]
+pub fn curved(dice: &mut Dice, family: Family, count: usize) -> Table {
+    let mut table = drawn(dice, family, count, NO_SWITCH);
+    let (order, fits) = (some_order(dice, &table), !dice.once_in(4));
+    (0..count).for_each(|rank| set_a_curve(dice, &mut table, &order, rank, fits));
+    table
+}
+
+// ---- Whole tables -----------------------------------------------------------------------
 
 /// A table's switch, and by how many ticks its short periods are longer so that there is room for
 /// the switches of all its rows.
@@ -217,6 +405,7 @@ fn loose_table(dice: &mut Dice, family: Family, count: usize, switch: Switch) ->
         alpha: alpha(dice),
         beta: MOST_BETA,
         hold: 0,
+        curve: Vec::new(),
     };
     Table { board: 1, switch: switch.ticks, rows: columns.map(row).collect() }
 }
@@ -324,22 +513,33 @@ pub fn crowded(dice: &mut Dice, count: usize) -> Table {
         row.best = best(dice, row.worst);
     }
     set_betas(dice, &mut table);
+    if dice.once_in(2) {
+        set_curves(dice, &mut table, false);
+    }
     table
 }
 
-/// A table of any board, with a switch in five of eight.
+/// A table of any board, with a switch in five of eight and with curves in half.
 pub fn any(dice: &mut Dice, family: Family, count: usize, loose: bool) -> Table {
     let draw = if dice.below(8) < 3 { holding } else { switching };
     let board = dice.any_size(65_535);
-    Table { board, ..draw(dice, family, count, loose) }
+    let mut table = Table { board, ..draw(dice, family, count, loose) };
+    if dice.once_in(2) {
+        set_curves(dice, &mut table, loose);
+    }
+    table
 }
 
 /// The table as text.
 pub fn text(Table { board, switch, rows }: &Table) -> Vec<u8> {
     let mut text = format!("board={board}\ntasks={}\nswitch={switch}\n", rows.len());
-    for Row { task, period, worst, best, alpha, beta, hold } in rows {
+    for Row { task, period, worst, best, alpha, beta, hold, curve } in rows {
         text += &format!("task={task}\nperiod={period}\nworst={worst}\n");
         text += &format!("best={best}\nalpha={alpha}\nbeta={beta}\nhold={hold}\n");
+        text += &format!("points={}\n", curve.len());
+        for Point { delay, allow } in curve {
+            text += &format!("delay={delay}\nallow={allow}\n");
+        }
     }
     text.into_bytes()
 }

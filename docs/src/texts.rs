@@ -6,22 +6,26 @@ use crate::model::{Row, Table, MOST_TASKS};
 use crate::tables::{self, FAMILIES};
 
 /// Both sides of every limit, of the digits allowed and of the machine's own numbers.
-const EDGES: &str = "0 1 2 12 13 15 16 17 999 1000 1001 65535 65536 99999 100000 100001 999999 \
+const EDGES: &str =
+    "0 1 2 7 8 9 12 13 15 16 17 999 1000 1001 65535 65536 99999 100000 100001 999999 \
     1000000 1000001 200000000000 200000000001 999999999999 1000000000000 0000000000001 4294967297 \
     18446744073709551617 00 01";
 
-const KEYS: [&str; 16] = [
-    "board", "tasks", "switch", "task", "period", "worst", "best", "alpha", "beta", "hold", "rank",
-    "Board", "Switch", "Hold", "plan", "",
+const KEYS: [&str; 21] = [
+    "board", "tasks", "switch", "task", "period", "worst", "best", "alpha", "beta", "hold",
+    "points", "delay", "allow", "rank", "Board", "Switch", "Hold", "Points", "point", "plan", "",
 ];
 
-const TAILS: [&[u8]; 11] = [
+const TAILS: [&[u8]; 14] = [
     b"\n",
     b"x",
     b"\0",
     b"rank=1\n",
     b"task=1\n",
     b"hold=0\n",
+    b"points=0\n",
+    b"delay=0\n",
+    b"allow=0\n",
     b"switch=0\n",
     b"board=7\n",
     b"rank=1",
@@ -271,6 +275,102 @@ fn damage_the_switch(dice: &mut Dice, lines: &mut Vec<Vec<u8>>) {
     }
 }
 
+// ---- Damage to curves -------------------------------------------------------------------
+
+/// What stands on the line of the points, and on those of a delay and an allow: both sides of their
+/// limits, and forms that are none.
+const POINTS: &str = "0 1 2 7 8 9 10 16 999999999999 1000000000000 00 01 08 +1 -1 -0 1. x =1";
+const TICKS: &str = "0 1 999999 1000000 1000001 999999999999 1000000000000 00 01 +1 -1 -0 1. x =1";
+
+fn lines_with(lines: &[Vec<u8>], key: &[u8]) -> Vec<usize> {
+    (0..lines.len()).filter(|&at| lines[at].starts_with(key)).collect()
+}
+
+/// The line of the points: its number, one more or fewer than there are, gone, twice, before the
+/// hold, after the pairs, or gone from all rows as in a table from before the curves.
+fn damage_the_points(dice: &mut Dice, lines: &mut Vec<Vec<u8>>, at: usize) {
+    let forms: Vec<&str> = POINTS.split(' ').collect();
+    match dice.below(10) {
+        0..=2 => lines[at] = joined(b"points", dice.pick(&forms).as_bytes()),
+        3 | 4 => {
+            let there = number_on(lines, at).unwrap_or(0);
+            let other = if dice.once_in(2) { there + 1 } else { there.saturating_sub(1) };
+            lines[at] = joined(b"points", other.to_string().as_bytes());
+        }
+        5 => drop(lines.remove(at)),
+        6 => lines.insert(at, lines[at].clone()),
+        7 => lines.swap(at, at.saturating_sub(1)),
+        8 => {
+            let line = lines.remove(at);
+            let to = at + 2 * dice.below(3);
+            lines.insert(to.min(lines.len()), line);
+        }
+        _ => lines.retain(|line| !line.starts_with(b"points=")),
+    }
+}
+
+/// The line of a delay or of an allow: beside that of the pair before it, at its limits, of another
+/// form, gone, twice, exchanged with the line before it, with the other key, or without a line feed.
+fn damage_a_point(dice: &mut Dice, lines: &mut Vec<Vec<u8>>, at: usize) {
+    let key: &[u8] = if lines[at].starts_with(b"delay=") { b"delay" } else { b"allow" };
+    let other: &[u8] = if key == b"delay" { b"allow" } else { b"delay" };
+    let forms: Vec<&str> = TICKS.split(' ').collect();
+    let before = at.checked_sub(2).and_then(|before| number_on(lines, before));
+    match (dice.below(14), before) {
+        (0..=5, Some(before)) => {
+            let beside = before.saturating_add(dice.between(0, 2)).saturating_sub(1);
+            lines[at] = joined(key, beside.to_string().as_bytes());
+        }
+        (6 | 7, _) => lines[at] = joined(key, dice.pick(&forms).as_bytes()),
+        (8, _) => drop(lines.remove(at)),
+        (9, _) => lines.insert(at, lines[at].clone()),
+        (10, _) => lines.swap(at, at - 1),
+        (11, _) => {
+            let number = number_on(lines, at).unwrap_or(0);
+            lines[at] = joined(other, number.to_string().as_bytes());
+        }
+        (12, _) => lines[at] = joined(key, dice.pick(&BLANKS)),
+        _ => drop(lines[at].pop()),
+    }
+}
+
+/// A pair: gone, twice, exchanged with the next, or one more at its end.
+fn damage_a_pair(dice: &mut Dice, lines: &mut Vec<Vec<u8>>, at: usize) {
+    let Some(pair) = lines.get(at..at + 2).map(<[_]>::to_vec) else {
+        return;
+    };
+    match dice.below(4) {
+        0 => drop(lines.drain(at..at + 2)),
+        1 if at + 4 <= lines.len() => lines[at..at + 4].rotate_left(2),
+        2 => {
+            let last = [pair[0].clone(), b"allow=0\n".to_vec()];
+            drop(lines.splice(at + 2..at + 2, last));
+        }
+        _ => drop(lines.splice(at..at, pair)),
+    }
+}
+
+/// The lines of a curve; a row without points has only the first of them.
+pub fn damage_a_curve(dice: &mut Dice, lines: &mut Vec<Vec<u8>>) {
+    let (points, delays) = (lines_with(lines, b"points="), lines_with(lines, b"delay="));
+    let kind = dice.below(4);
+    if delays.is_empty() || kind == 0 {
+        if !points.is_empty() {
+            let at = dice.pick(&points);
+            damage_the_points(dice, lines, at);
+        }
+        return;
+    }
+    let delay = dice.pick(&delays);
+    match kind {
+        1 => damage_a_pair(dice, lines, delay),
+        _ => {
+            let at = (delay + dice.below(2)).min(lines.len() - 1);
+            damage_a_point(dice, lines, at);
+        }
+    }
+}
+
 // ---- Damage to bytes --------------------------------------------------------------------
 
 fn change_a_byte(dice: &mut Dice, text: &mut [u8]) {
@@ -293,7 +393,7 @@ fn remove_a_byte(dice: &mut Dice, text: &mut Vec<u8>) {
 
 /// Damages the text in one way.
 pub fn damage(dice: &mut Dice, text: &mut Vec<u8>) {
-    match dice.below(19) {
+    match dice.below(23) {
         0 => text.truncate(dice.below(text.len() + 1)),
         1 | 2 => change_a_byte(dice, text),
         3 => insert_a_byte(dice, text),
@@ -311,6 +411,7 @@ pub fn damage(dice: &mut Dice, text: &mut Vec<u8>) {
         }),
         15 => with_lines(text, |lines| damage_a_hold(dice, lines)),
         16 | 17 => with_lines(text, |lines| damage_the_switch(dice, lines)),
+        18..=21 => with_lines(text, |lines| damage_a_curve(dice, lines)),
         _ => text.extend_from_slice(dice.pick(&TAILS)),
     }
 }

@@ -14,34 +14,57 @@ const MANY_TEXTS: u64 = 5_000;
 
 /// The lines of a text by what is expected there: refusals are counted for each. The last are the
 /// lengths, with what stands after them.
-const LINES: [&str; 7] = ["table", "hold", "rank", "release", "ticks", "lengths", "length"];
+const LINES: [&str; 10] =
+    ["table", "hold", "points", "delay", "allow", "rank", "release", "ticks", "lengths", "length"];
+const DELAY: usize = 3;
+const ALLOW: usize = 4;
 
-/// Which of these a line is, in a text whose second line has so many tasks.
-fn kind_of_line(tasks: usize, line: usize) -> usize {
-    let (table, rows) = (3 + 7 * tasks, tasks);
-    match line {
-        _ if line <= table && line > 3 && (line - 3).is_multiple_of(7) => 1,
-        _ if line <= table => 0,
-        _ if line <= table + rows => 2,
-        _ if line <= table + 2 * rows => 3,
-        _ if line == table + 2 * rows + 1 => 4,
-        _ if line == table + 2 * rows + 2 => 5,
-        _ => 6,
-    }
+/// The number on a line that has been accepted, else 0.
+fn number_on(lines: &[&[u8]], line: usize) -> usize {
+    let digits = lines.get(line - 1).and_then(|line| line.split(|&byte| byte == b'=').nth(1));
+    let digits = digits.and_then(|digits| std::str::from_utf8(digits).ok());
+    digits.and_then(|digits| digits.parse().ok()).unwrap_or(0)
 }
 
-/// The number on the second line, where it is one that has been accepted.
-fn tasks_of(text: &[u8]) -> usize {
-    let line = text.split(|&byte| byte == b'\n').nth(1).unwrap_or_default();
-    let number = line.strip_prefix(b"tasks=").and_then(|number| std::str::from_utf8(number).ok());
-    number.and_then(|number| number.parse().ok()).filter(|tasks| *tasks <= 16).unwrap_or(1)
+/// Which of these a line is, the first that is not accepted.
+fn kind_of_line(text: &[u8], line: usize) -> usize {
+    let lines: Vec<&[u8]> = text.split(|&byte| byte == b'\n').collect();
+    if line <= 3 {
+        return 0;
+    }
+    let (tasks, mut taken) = (number_on(&lines, 2), 3);
+    for _ in 0..tasks {
+        // The line of the points is the eighth of a row, and each of them has two.
+        match line - taken {
+            1..=6 => return 0,
+            7 => return 1,
+            8 => return 2,
+            _ => {}
+        }
+        taken += 8;
+        let points = number_on(&lines, taken);
+        if line <= taken + 2 * points {
+            return if (line - taken) % 2 == 1 { DELAY } else { ALLOW };
+        }
+        taken += 2 * points;
+    }
+    match line - taken {
+        past if past <= tasks => 5,
+        past if past <= 2 * tasks => 6,
+        past if past == 2 * tasks + 1 => 7,
+        past if past == 2 * tasks + 2 => 8,
+        _ => 9,
+    }
 }
 
 /// What the texts were.
 #[derive(Default)]
 struct Report {
-    /// Refusals 1, 2 and 3 by the kind of their line.
+    /// Refusals 1, 2 and 3 by the kind of their line, and 11 at a delay and at an allow.
     refused: [[u64; LINES.len()]; 3],
+    unsorted: [u64; 2],
+    /// Runs of a board with points in some row.
+    curved: u64,
     jobs: u64,
     /// Runs in which no job finishes.
     empty: u64,
@@ -61,9 +84,11 @@ struct Report {
 
 impl Report {
     fn count_refusal(&mut self, text: &[u8], Refusal { number, place }: Refusal) {
-        if (1..=3).contains(&number) {
-            let kind = kind_of_line(tasks_of(text), place as usize);
-            self.refused[number as usize - 1][kind] += 1;
+        let kind = kind_of_line(text, place.max(1) as usize);
+        match number {
+            1..=3 => self.refused[number as usize - 1][kind] += 1,
+            11 => self.unsorted[kind - DELAY] += 1,
+            _ => {}
         }
     }
 
@@ -71,6 +96,7 @@ impl Report {
         let jobs = watches::first_jobs(&watch.tasks(), watch.lengths.len());
         let printed = output.iter().filter(|&&byte| byte == b'\n').count() as u64 / 3;
         self.jobs += printed;
+        self.curved += watch.table.rows.iter().any(|row| !row.curve.is_empty()) as u64;
         self.empty += (printed == 0) as u64;
         self.shortest += (watch.ticks == 1) as u64;
         self.longest += (watch.ticks == MOST_TICKS) as u64;
@@ -87,7 +113,9 @@ impl Report {
         let counts = self.refused.iter().enumerate();
         let counts: Vec<_> = counts.map(|(at, kinds)| format!("{}: {kinds:?}", at + 1)).collect();
         println!("    {}", counts.join(", "));
-        println!("  {jobs} jobs printed; runs of 1 tick: {shortest}, of {MOST_TICKS}: {longest}");
+        println!("    11, at a delay and at an allow: {:?}", self.unsorted);
+        print!("  {jobs} jobs printed; runs of 1 tick: {shortest}, of {MOST_TICKS}: {longest}");
+        println!(", with points in some row: {}", self.curved);
         print!("  runs in which no job finishes: {empty}, with more than {WATCH_ROOM} bytes of ");
         println!("lines: {}", self.too_long);
         print!(
@@ -108,7 +136,8 @@ impl Report {
             return Err(format!("NOT MET: number {number} of the board to watch\n"));
         }
         let runs = [empty, shortest, longest, unlisted, listed, past, together, too_long];
-        if runs.contains(&&0) || self.refused.as_flattened().contains(&0) {
+        let unmet = runs.contains(&&0) || self.unsorted.contains(&0) || self.curved == 0;
+        if unmet || self.refused.as_flattened().contains(&0) {
             return Err("NOT MET: a kind of run or of line that is counted above\n".to_string());
         }
         Ok(())

@@ -12,10 +12,13 @@ use crate::watches::{MOST_LENGTHS, MOST_RELEASE, MOST_TICKS, WATCH_ROOM, WATCH_T
 const SHORT_RUN: u64 = 4_000;
 
 /// The lines that are damaged most, each with numbers on both sides of its limits.
-const LINES: [(&[u8], &[u64]); 6] = [
+const LINES: [(&[u8], &[u64]); 9] = [
     (b"hold=", &[0, 1, 1, 1, 2, 1_000_000, 1_000_001]),
+    (b"points=", &[0, 1, 2, 7, 8, 9]),
+    (b"delay=", &[0, 1, 999_999, 1_000_000, 1_000_001, 1_000_001]),
+    (b"allow=", &[0, 1, 999_999, 1_000_000, 1_000_001, 1_000_001]),
     (b"rank=", &[0, 1, 65_535, 65_536]),
-    (b"release=", &[0, 1, 999_999, 1_000_000, 1_000_001]),
+    (b"release=", &[0, 1, 999_999, 1_000_000, 1_000_001, 1_000_001, 1_000_001]),
     (b"ticks=", &[0, 1, 2, 999_999, 1_000_000, 1_000_001]),
     (b"lengths=", &[0, 1, 2_047, 2_048, 2_049]),
     (b"length=", &[0, 1, 2, 1_000_000, 1_000_001]),
@@ -73,7 +76,8 @@ const TAILS: [&[u8]; 10] = [
 
 // ---- Sound texts ------------------------------------------------------------------------
 
-/// A table without holds, mostly of few rows and short periods. Betas are of no account on a board.
+/// A table without holds, mostly of few rows and short periods. Betas and curves are of no account on
+/// a board.
 fn table(dice: &mut Dice) -> Table {
     let most = if dice.once_in(16) { MOST_TASKS } else { 4 };
     let families: &[Family] = if dice.once_in(8) { &FAMILIES } else { &SHORT_FAMILIES };
@@ -82,6 +86,9 @@ fn table(dice: &mut Dice) -> Table {
     for row in &mut table.rows {
         row.hold = 0;
         row.beta = dice.pick(&[0, row.beta]);
+        if dice.once_in(4) {
+            row.curve = tables::any_curve(dice);
+        }
     }
     table
 }
@@ -267,7 +274,7 @@ fn spoil_a_length(dice: &mut Dice, watch: &mut Watch) {
     }
 }
 
-/// Does something to a line of the new keys, of the ranks or of the holds.
+/// Does something to a line of the new keys, of the ranks, of the holds or of the curves.
 fn damage_a_line(dice: &mut Dice, lines: &mut Vec<Vec<u8>>) {
     let (key, limits) = dice.pick(&LINES);
     let places: Vec<usize> = (0..lines.len()).filter(|&at| lines[at].starts_with(key)).collect();
@@ -305,10 +312,11 @@ fn stretched(dice: &mut Dice) -> Vec<u8> {
 }
 
 fn damage(dice: &mut Dice, text: &mut Vec<u8>) {
-    match dice.below(12) {
+    match dice.below(14) {
         0..=6 => texts::with_lines(text, |lines| damage_a_line(dice, lines)),
         7 => text.extend_from_slice(dice.pick(&TAILS)),
         8 => text.truncate(dice.below(text.len() + 1)),
+        9 => texts::with_lines(text, |lines| texts::damage_a_curve(dice, lines)),
         _ => texts::damage(dice, text),
     }
 }

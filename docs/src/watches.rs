@@ -210,9 +210,9 @@ mod tests {
 
     /// Document 01's example with its plan's order, all loops released at tick 0.
     const HEAD: &str = "board=7\ntasks=3\nswitch=0\n\
-        task=11\nperiod=24\nworst=6\nbest=6\nalpha=1000\nbeta=8000\nhold=0\n\
-        task=12\nperiod=18\nworst=2\nbest=2\nalpha=1000\nbeta=8000\nhold=0\n\
-        task=13\nperiod=200\nworst=19\nbest=17\nalpha=3000\nbeta=57000\nhold=0\n\
+        task=11\nperiod=24\nworst=6\nbest=6\nalpha=1000\nbeta=8000\nhold=0\npoints=0\n\
+        task=12\nperiod=18\nworst=2\nbest=2\nalpha=1000\nbeta=8000\nhold=0\npoints=0\n\
+        task=13\nperiod=200\nworst=19\nbest=17\nalpha=3000\nbeta=57000\nhold=0\npoints=0\n\
         rank=12\nrank=11\nrank=13\nrelease=0\nrelease=0\nrelease=0\n";
 
     /// Two loops under a switch of 1: a job of 5 lasts 2 to 4 ticks, one of 6 lasts 1 or 2. In
@@ -228,8 +228,8 @@ mod tests {
     ///
     /// where a point stands at the last tick of a job: it finishes at the tick after it.
     const TWO: &str = "board=1\ntasks=2\nswitch=1\n\
-        task=5\nperiod=10\nworst=3\nbest=2\nalpha=1000\nbeta=0\nhold=0\n\
-        task=6\nperiod=4\nworst=1\nbest=1\nalpha=1000\nbeta=0\nhold=0\n\
+        task=5\nperiod=10\nworst=3\nbest=2\nalpha=1000\nbeta=0\nhold=0\npoints=0\n\
+        task=6\nperiod=4\nworst=1\nbest=1\nalpha=1000\nbeta=0\nhold=0\npoints=0\n\
         rank=6\nrank=5\nrelease=1\nrelease=3\n";
 
     const TWO_ENDS: [(u64, u64, u64); 9] = [
@@ -310,23 +310,23 @@ mod tests {
     #[test]
     fn jobs_of_one_tick_take_lengths_in_rank_order() {
         // At tick 11 the first length is of task 6, which is the later in the table.
-        assert_eq!(says(&watch(TWO, 27, &[4, 2, 1, 3, 2])), refused(3, 27));
-        assert_eq!(says(&watch(TWO, 27, &[4, 2, 1, 2, 5])), refused(3, 28));
-        assert_eq!(says(&watch(TWO, 27, &[4, 2, 1, 2, 1])), refused(3, 28));
-        assert_eq!(says(&watch(HEAD, 35, &[6, 2, 17])), refused(3, 33));
+        assert_eq!(says(&watch(TWO, 27, &[4, 2, 1, 3, 2])), refused(3, 29));
+        assert_eq!(says(&watch(TWO, 27, &[4, 2, 1, 2, 5])), refused(3, 30));
+        assert_eq!(says(&watch(TWO, 27, &[4, 2, 1, 2, 1])), refused(3, 30));
+        assert_eq!(says(&watch(HEAD, 35, &[6, 2, 17])), refused(3, 36));
         // In another order of ranks 11 comes first.
         let other = changed(HEAD, "rank=12\nrank=11\n", "rank=11\nrank=12\n");
         let jobs = [(11, 0, 6), (12, 0, 8), (12, 18, 20), (11, 24, 30), (13, 0, 33)];
         assert_eq!(says(&watch(&other, 35, &[6, 2, 17])), prints(&jobs));
-        assert_eq!(says(&watch(&other, 35, &[2, 6, 17])), refused(3, 33));
+        assert_eq!(says(&watch(&other, 35, &[2, 6, 17])), refused(3, 36));
     }
 
     #[test]
     fn lengths_go_to_jobs_past_the_last_tick_too() {
         // The eighth is of 5 at tick 21, and the run has one tick, which is idle.
         assert_eq!(says(&watch(TWO, 1, &[4, 2, 1, 2, 3, 2, 2, 4])), prints(&[]));
-        assert_eq!(says(&watch(TWO, 1, &[4, 2, 1, 2, 3, 2, 2, 5])), refused(3, 31));
-        assert_eq!(says(&watch(TWO, 1, &[4, 2, 1, 2, 3, 2, 3, 4])), refused(3, 30));
+        assert_eq!(says(&watch(TWO, 1, &[4, 2, 1, 2, 3, 2, 2, 5])), refused(3, 33));
+        assert_eq!(says(&watch(TWO, 1, &[4, 2, 1, 2, 3, 2, 3, 4])), refused(3, 32));
         // A loop that begins late has none before: a thousand jobs of 5 come first, and at the tick
         // 1,000,000 both are released.
         let late = changed(TWO, "release=1\nrelease=3", "release=0\nrelease=1000000");
@@ -335,9 +335,9 @@ mod tests {
         lengths.extend([2, 4, 4, 4]);
         assert!(says(&watch(&late, 1, &lengths)).is_ok());
         lengths[1_000] = 4;
-        assert_eq!(says(&watch(&late, 1, &lengths)), refused(3, 1_024));
+        assert_eq!(says(&watch(&late, 1, &lengths)), refused(3, 1_026));
         lengths[999] = 1;
-        assert_eq!(says(&watch(&late, 1, &lengths)), refused(3, 1_023));
+        assert_eq!(says(&watch(&late, 1, &lengths)), refused(3, 1_025));
     }
 
     #[test]
@@ -345,7 +345,7 @@ mod tests {
         let one = |release: u64, ticks: u64| {
             let start = format!(
                 "board=1\ntasks=1\nswitch=0\ntask=9\nperiod=50\nworst=1\nbest=1\nalpha=1000\n\
-                beta=0\nhold=0\nrank=9\nrelease={release}\n"
+                beta=0\nhold=0\npoints=0\nrank=9\nrelease={release}\n"
             );
             says(&watch(&start, ticks, &[]))
         };
@@ -356,15 +356,54 @@ mod tests {
         assert_eq!(one(999_999, 1_000_000), prints(&[(9, 999_999, 1_000_000)]));
         assert_eq!(one(999_999, 999_999), prints(&[]));
         assert_eq!(one(1_000_000, 1_000_000), prints(&[]));
-        assert_eq!(one(1_000_001, 1_000_000), refused(3, 12));
-        assert_eq!(one(0, 1_000_001), refused(3, 13));
-        assert_eq!(one(0, 0), refused(3, 13));
+        assert_eq!(one(1_000_001, 1_000_000), refused(3, 13));
+        assert_eq!(one(0, 1_000_001), refused(3, 14));
+        assert_eq!(one(0, 0), refused(3, 14));
     }
 
     #[test]
     fn betas_are_of_no_account() {
         let unstable = changed(HEAD, "beta=57000", "beta=0");
         assert_eq!(says(&watch(&unstable, 35, &[])), says(&watch(HEAD, 35, &[])));
+    }
+
+    /// Text of the example with a curve of task 11 in these lines, and of another of its rows.
+    fn with_curves(first: &str, last: &str) -> String {
+        let text = changed(HEAD, "points=0\ntask=12", &format!("{first}task=12"));
+        changed(&text, "57000\nhold=0\npoints=0\n", &format!("57000\nhold=0\n{last}"))
+    }
+
+    #[test]
+    fn curves_are_of_no_account_but_read() {
+        // Neither would be stable.
+        let one = "points=1\ndelay=0\nallow=0\n";
+        let two = "points=2\ndelay=3\nallow=0\ndelay=4\nallow=0\n";
+        assert_eq!(with_curves("points=0\n", "points=0\n"), HEAD);
+        let text = with_curves(one, two);
+        let plain = says(&watch(HEAD, 35, &[2, 6, 17]));
+        assert!(plain.is_ok());
+        assert_eq!(says(&watch(&text, 35, &[2, 6, 17])), plain);
+        // Two lines more before a length of 12, and four before one of 13.
+        assert_eq!(says(&watch(&text, 35, &[2, 6, 16])), refused(3, 38 + 6));
+        let refuses = |first: &str, last: &str, number, place| {
+            let text = watch(&with_curves(first, last), 35, &[]);
+            assert_eq!(says(&text), refused(number, place), "{first} {last}");
+        };
+        refuses("", two, 1, 11);
+        refuses("points=9\n", two, 3, 11);
+        refuses("points=x\n", two, 2, 11);
+        refuses("points=1\ndelay=1\n", two, 1, 13);
+        refuses("points=1\ndelay=1000001\nallow=1\n", two, 3, 12);
+        refuses("points=1\ndelay=1\nallow=1000001\n", two, 3, 13);
+        refuses(one, "points=2\ndelay=3\nallow=0\ndelay=3\nallow=0\n", 11, 32);
+        refuses(one, "points=2\ndelay=3\nallow=0\ndelay=4\nallow=1\n", 11, 33);
+        refuses(one, "points=2\ndelay=3\nallow=0\n", 1, 32);
+        refuses(one, "points=0\ndelay=3\nallow=0\n", 1, 30);
+        // A hold above 0 is said before them, a late task after them.
+        let held = changed(&watch(&text, 35, &[]), "57000\nhold=0", "57000\nhold=1");
+        assert_eq!(says(&held), refused(3, 28));
+        let late = changed(&text, "rank=12\nrank=11\nrank=13\n", "rank=11\nrank=13\nrank=12\n");
+        assert_eq!(says(&watch(&late, 35, &[])), refused(7, 3));
     }
 
     /// A table without holds and a loose order of it, at random.
@@ -409,7 +448,9 @@ mod tests {
     #[test]
     fn a_hold_above_0_is_out_of_its_range() {
         let text = watch(HEAD, 35, &[]);
-        for (row, line) in [("8000\nhold=0\ntask=12", 10), ("8000\nhold=0\ntask=13", 17)] {
+        let rows =
+            [("8000\nhold=0\npoints=0\ntask=12", 10), ("8000\nhold=0\npoints=0\ntask=13", 18)];
+        for (row, line) in rows {
             // 7 is also above the worst time of both rows.
             for (hold, number) in [("1", 3), ("7", 3), ("1000001", 3), ("01", 2), ("", 2)] {
                 let held = row.replace("hold=0", &format!("hold={hold}"));
@@ -418,7 +459,7 @@ mod tests {
             assert_eq!(says(&changed(&text, row, &row.replace("hold=0\n", ""))), refused(1, line));
         }
         let last = changed(&text, "57000\nhold=0", "57000\nhold=1");
-        assert_eq!(says(&last), refused(3, 24));
+        assert_eq!(says(&last), refused(3, 26));
     }
 
     #[test]
@@ -431,30 +472,30 @@ mod tests {
         refuses("board=7", "board=07", 2, 1);
         refuses("tasks=3", "tasks=17", 3, 2);
         refuses("switch=0", "switch=1001", 3, 3);
-        refuses("worst=2\n", "worst=19\n", 4, 13);
-        refuses("best=2\n", "best=3\n", 4, 14);
-        refuses("task=12", "task=11", 5, 11);
-        refuses("rank=11", "rank=12", 6, 26);
-        refuses("rank=12", "rank=14", 6, 25);
-        refuses("rank=12", "rank=0", 3, 25);
-        refuses("rank=12\n", "", 1, 27);
+        refuses("worst=2\n", "worst=19\n", 4, 14);
+        refuses("best=2\n", "best=3\n", 4, 15);
+        refuses("task=12", "task=11", 5, 12);
+        refuses("rank=11", "rank=12", 6, 29);
+        refuses("rank=12", "rank=14", 6, 28);
+        refuses("rank=12", "rank=0", 3, 28);
+        refuses("rank=12\n", "", 1, 30);
         // A plan's text and a review's end too soon.
         let table = text.find("rank=").unwrap();
-        assert_eq!(says(&text[..table]), refused(1, 25));
+        assert_eq!(says(&text[..table]), refused(1, 28));
         let ranked = text.find("release=").unwrap();
-        assert_eq!(says(&text[..ranked]), refused(1, 28));
+        assert_eq!(says(&text[..ranked]), refused(1, 31));
     }
 
     #[test]
     fn each_new_line_at_its_place() {
         let text = watch(HEAD, 35, &[2, 6, 17]);
         let lines: Vec<&str> = text.split_inclusive('\n').collect();
-        assert_eq!(lines.len(), 35);
+        assert_eq!(lines.len(), 38);
         let with = |place: usize, line: &str| {
             let (before, after) = (&lines[..place - 1], &lines[place..]);
             says(&[&before.concat(), line, &after.concat()].concat())
         };
-        for place in 28..=35 {
+        for place in 31..=38 {
             let (key, number) = lines[place - 1].trim_end().split_once('=').unwrap();
             for form in ["", "00", "+1", "-1", "-0", " 1", "1 ", "1\r", "x", "1000000000000"] {
                 assert_eq!(with(place, &format!("{key}={form}\n")), refused(2, place as u64));
@@ -473,15 +514,15 @@ mod tests {
             assert_eq!(says(cut.strip_suffix('\n').unwrap()), refused(1, place as u64));
         }
         // Gone, the line after it is met in its place; doubled, itself in the place of the next.
-        for (place, missing, doubled) in [(28, 30, 31), (30, 30, 31), (31, 31, 32), (32, 32, 33)] {
+        for (place, missing, doubled) in [(31, 33, 34), (33, 33, 34), (34, 34, 35), (35, 35, 36)] {
             assert_eq!(with(place, ""), refused(1, missing));
             assert_eq!(with(place, &lines[place - 1].repeat(2)), refused(1, doubled));
         }
         // Of the lengths the one of 12 is gone, and then one is met by a job that cannot last it.
-        assert_eq!(with(33, ""), refused(3, 33));
-        assert_eq!(with(35, ""), refused(1, 35));
-        assert_eq!(with(33, "length=2\nlength=2\n"), refused(3, 34));
-        assert_eq!(with(35, "length=17\nlength=17\n"), refused(1, 36));
+        assert_eq!(with(36, ""), refused(3, 36));
+        assert_eq!(with(38, ""), refused(1, 38));
+        assert_eq!(with(36, "length=2\nlength=2\n"), refused(3, 37));
+        assert_eq!(with(38, "length=17\nlength=17\n"), refused(1, 39));
     }
 
     #[test]
@@ -494,17 +535,17 @@ mod tests {
             assert!(says(&changed(&text, from, to)).is_ok(), "{to}");
         };
         let last = "release=0\nticks=35";
-        refuses(last, "release=1000001\nticks=35", 3, 30);
-        refuses("ticks=35", "ticks=0", 3, 31);
-        refuses("ticks=35", "ticks=1000001", 3, 31);
+        refuses(last, "release=1000001\nticks=35", 3, 33);
+        refuses("ticks=35", "ticks=0", 3, 34);
+        refuses("ticks=35", "ticks=1000001", 3, 34);
         accepts("ticks=35", "ticks=1");
         accepts("ticks=35", "ticks=1000000");
         // From best to worst + switch, of 13: 17 to 19.
-        refuses("length=17", "length=16", 3, 35);
+        refuses("length=17", "length=16", 3, 38);
         accepts("length=17", "length=19");
-        refuses("length=17", "length=20", 3, 35);
-        refuses("length=6", "length=5", 3, 34);
-        refuses("length=6", "length=7", 3, 34);
+        refuses("length=17", "length=20", 3, 38);
+        refuses("length=6", "length=5", 3, 37);
+        refuses("length=6", "length=7", 3, 37);
         // The switch is no part of the least.
         let switched = changed(&text, "switch=0", "switch=1");
         assert!(says(&switched).is_ok());
@@ -519,14 +560,14 @@ mod tests {
         let lengths = [2; 2_049];
         let text = watch(TWO, 10, &lengths[..2_048]);
         assert!(says(&text).is_ok());
-        assert_eq!(says(&watch(TWO, 10, &lengths)), refused(3, 23));
-        assert_eq!(says(&(text.clone() + "length=2\n")), refused(1, 2_072));
-        assert_eq!(says(text.strip_suffix("length=2\n").unwrap()), refused(1, 2_071));
-        assert_eq!(says(&changed(&text, "lengths=2048", "lengths=0")), refused(1, 24));
-        assert_eq!(says(&changed(&text, "lengths=2048", "lengths=2047")), refused(1, 2_071));
+        assert_eq!(says(&watch(TWO, 10, &lengths)), refused(3, 25));
+        assert_eq!(says(&(text.clone() + "length=2\n")), refused(1, 2_074));
+        assert_eq!(says(text.strip_suffix("length=2\n").unwrap()), refused(1, 2_073));
+        assert_eq!(says(&changed(&text, "lengths=2048", "lengths=0")), refused(1, 26));
+        assert_eq!(says(&changed(&text, "lengths=2048", "lengths=2047")), refused(1, 2_073));
         assert_eq!(
             says(&changed(&watch(TWO, 10, &[]), "lengths=0", "lengths=2049")),
-            refused(3, 23)
+            refused(3, 25)
         );
     }
 
@@ -545,9 +586,9 @@ mod tests {
         let late = changed(HEAD, "rank=12\nrank=11\nrank=13\n", "rank=11\nrank=13\nrank=12\n");
         assert_eq!(says(&watch(&late, 35, &[])), refused(7, 3));
         assert_eq!(says(&watch(&late, 1, &[6, 19, 2])), refused(7, 3));
-        assert_eq!(says(&watch(&late, 1, &[6, 20, 2])), refused(3, 34));
-        assert_eq!(says(&watch(&late, 0, &[])), refused(3, 31));
-        assert_eq!(says(&(watch(&late, 35, &[]) + "x")), refused(1, 33));
+        assert_eq!(says(&watch(&late, 1, &[6, 20, 2])), refused(3, 37));
+        assert_eq!(says(&watch(&late, 0, &[])), refused(3, 34));
+        assert_eq!(says(&(watch(&late, 35, &[]) + "x")), refused(1, 36));
         // The first from the top: below 13 the others are late too.
         let first = changed(HEAD, "rank=12\nrank=11\nrank=13\n", "rank=13\nrank=12\nrank=11\n");
         assert_eq!(says(&watch(&first, 35, &[])), refused(7, 2));
@@ -580,14 +621,14 @@ mod tests {
         assert_eq!(after(&watch(HEAD, 1, &[]), 3), ((0, 0, 0), vec![200; 3]));
         let late = changed(&text, "rank=12\nrank=11\nrank=13\n", "rank=11\nrank=13\nrank=12\n");
         assert_eq!(after(&late, 0), ((7, 3, 0), Vec::new()));
-        assert_eq!(after(&(text + "\n"), 5), ((1, 33, 0), vec![200; 5]));
+        assert_eq!(after(&(text + "\n"), 5), ((1, 36, 0), vec![200; 5]));
     }
 
     /// One loop of one tick, its number and the tick of its first release as given.
     fn alone(task: u64, release: u64, ticks: u64) -> String {
         let start = format!(
             "board=1\ntasks=1\nswitch=0\ntask={task}\nperiod=400\nworst=1\nbest=1\nalpha=1000\n\
-            beta=0\nhold=0\nrank={task}\nrelease={release}\n"
+            beta=0\nhold=0\npoints=0\nrank={task}\nrelease={release}\n"
         );
         watch(&start, ticks, &[])
     }
@@ -627,16 +668,17 @@ mod tests {
         while long.len() < WATCH_TAKES - 1 {
             long.push('1');
         }
-        assert_eq!(program(&format!("{long}\n")), b"plan=0\nrefusal=2\nline=32\n");
-        assert_eq!(program(&format!("{long}1\n")), b"plan=0\nrefusal=1\nline=32\n");
+        assert_eq!(program(&format!("{long}\n")), b"plan=0\nrefusal=2\nline=35\n");
+        assert_eq!(program(&format!("{long}1\n")), b"plan=0\nrefusal=1\nline=35\n");
     }
 
     /// The longest sound text, sixteen rows of the longest numbers and all lengths, is taken whole.
     #[test]
     fn the_longest_text_is_shorter_than_what_the_program_takes() {
         let row = "task=65535\nperiod=1000000\nworst=1000000\nbest=1000000\nalpha=100000\n\
-            beta=200000000000\nhold=0\n";
-        let of_a_task = row.len() + "rank=65535\nrelease=1000000\n".len();
+            beta=200000000000\nhold=0\npoints=8\n";
+        let points = 8 * "delay=1000000\nallow=1000000\n".len();
+        let of_a_task = row.len() + points + "rank=65535\nrelease=1000000\n".len();
         let once = "board=65535\ntasks=16\nswitch=1000\nticks=1000000\nlengths=2048\n".len();
         let longest = once + 16 * of_a_task + 2_048 * "length=1000000\n".len();
         assert!(longest < WATCH_TAKES, "{longest}");
