@@ -78,6 +78,10 @@ key-splits (x ∷ key) (y ∷ l) e =
     let same : x ≡ y = eqb-true x y (and-left (eqb x y) (begins key l) e) in
     rw same (ap (λ s. y ∷ s) (key-splits key l (and-right (eqb x y) (begins key l) e)))
 
+pub key-fits : (key l : List ℕ) → begins key l ≡ true → length key ≤ length l
+key-fits key l e =
+    omega (arith, ap length (key-splits key l e), length-append key (drop (length key) l))
+
 key-line-is : (key value rest : List ℕ) → keyLine key value ++ rest ≡ key ++ (value ++ (lineFeed ∷ rest))
 unfolding keyLine
 key-line-is key value rest = simp append-assoc

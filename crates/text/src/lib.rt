@@ -139,28 +139,20 @@ fn number_of(s: &[u8], front: Front, size: usize) -> Digits
     Digits::Value(front.value)
 }
 
-// What stands at an offset and after it: nothing, past the end.
-fn rest_of(s: &[u8], offset: usize) -> &[u8]
-    ensures { λ r. ⌜ now r ≡ drop offset (now (s .entry)) ⌝ }
-{
-    let size = s.len();
-    if size < offset {
-        return &s[size..];
-    }
-    &s[offset..]
-}
-
 // The line that begins at an offset: a key, a number in its range, and a line feed. As neither key nor digits have a
 // feed, they are passed first, and the feed is sought only behind them.
 pub fn line_at(text: &[u8], offset: usize, line: u32, key: &[u8], low: u64, high: u64) -> Line
     requires { ⌜ isIn lineFeed (now key) ≡ false ⌝ }
     ensures { λ r. ⌜ r ≡ lineAt (now (key .entry)) low high (now (text .entry)) offset line ⌝ }
 {
-    let rest = rest_of(text, offset);
+    if text.len() < offset {
+        return Line::Refused(MISSING, line);
+    }
+    let rest = &text[offset..];
     if !starts_with(rest, key) {
         return Line::Refused(MISSING, line);
     }
-    let tail = rest_of(rest, key.len());
+    let tail = &rest[key.len()..];
     let front = digits_at(tail);
     let size = line_size(tail, front.size);
     if tail.len() <= size {
