@@ -12,12 +12,6 @@ use super::HEAD;
 use super::HEAD_SWITCH;
 use super::progress::Part;
 use super::progress::Stand;
-use curves::ALLOW_MAX;
-use curves::ALLOW_MIN;
-use curves::DELAY_MAX;
-use curves::DELAY_MIN;
-use curves::POINTS_MAX;
-use curves::POINTS_MIN;
 use rows::ALPHA;
 use rows::BEST;
 use rows::BETA;
@@ -139,7 +133,8 @@ fn new_rank(numbers: &[u64], count: usize, named: usize, answer: Line, line: u32
     Line::Refused(IMPOSSIBLE, line)
 }
 
-// The line of a point's delay or allow, whose number is held against the one two lines before it, if there is one.
+// The line of a point, of its delay or of its allow by turns: its number is held against the one two lines before it, if
+// there is one.
 fn point_line(
     text: &[u8],
     at: usize,
@@ -153,18 +148,23 @@ fn point_line(
     ensures { λ r. ⌜ r ≡ rowLineTested count position (now (numbers .entry)) (now (text .entry)) at line ⌝ }
 {
     let before = HEAD + FIELDS * count + position - 2;
-    if position % 2 == 0 {
-        let answer = line_at(text, at, line, b"delay=", DELAY_MIN, DELAY_MAX);
-        if position == FIRST_POINT {
-            return answer;
+    let turn = position % 2;
+    match turn {
+        0 => {
+            let answer = line_at(text, at, line, b"delay=", Row::DELAY_MIN, Row::DELAY_MAX);
+            if position == FIRST_POINT {
+                return answer;
+            }
+            later_delay(numbers[before], answer, line)
         }
-        return later_delay(numbers[before], answer, line);
+        _ => {
+            let answer = line_at(text, at, line, b"allow=", Row::ALLOW_MIN, Row::ALLOW_MAX);
+            if position == FIRST_POINT + 1 {
+                return answer;
+            }
+            lower_allow(numbers[before], answer, line)
+        }
     }
-    let answer = line_at(text, at, line, b"allow=", ALLOW_MIN, ALLOW_MAX);
-    if position == FIRST_POINT + 1 {
-        return answer;
-    }
-    lower_allow(numbers[before], answer, line)
 }
 
 // The line at a position within a row.
@@ -201,7 +201,7 @@ fn row_line(
             let answer = line_at(text, at, line, b"hold=", Row::HOLD_MIN, Row::HOLD_MAX);
             at_most(numbers[start + WORST], answer, line)
         }
-        POINTS => line_at(text, at, line, b"points=", POINTS_MIN, POINTS_MAX),
+        POINTS => line_at(text, at, line, b"points=", Row::POINTS_MIN, Row::POINTS_MAX),
         _ => point_line(text, at, line, count, position, numbers),
     }
 }

@@ -5,6 +5,12 @@ ghost use lib.Dec.{leb};
 ghost use Rattle.rows.specs.Rows.{fullCost, numbersInRange, row};
 ghost use Rattle.rows.specs.inside.Records.{noRecord, recorded, checked};
 use basics::within;
+use curves::ALLOW_MAX;
+use curves::ALLOW_MIN;
+use curves::DELAY_MAX;
+use curves::DELAY_MIN;
+use curves::POINTS_MAX;
+use curves::POINTS_MIN;
 use curves::well_formed;
 pub use numbers::ALPHA;
 pub use numbers::BEST;
@@ -87,6 +93,19 @@ impl Row {
     pub const SWITCH_MIN: u64 = 0;
 
     pub const SWITCH_MAX: u64 = 1_000;
+
+    // The limits of its curve, which are those of every curve.
+    pub const POINTS_MIN: u64 = POINTS_MIN;
+
+    pub const POINTS_MAX: u64 = POINTS_MAX;
+
+    pub const DELAY_MIN: u64 = DELAY_MIN;
+
+    pub const DELAY_MAX: u64 = DELAY_MAX;
+
+    pub const ALLOW_MIN: u64 = ALLOW_MIN;
+
+    pub const ALLOW_MAX: u64 = ALLOW_MAX;
 
     // Whether a job of so many ticks at most, with the switch to it, fits a period.
     pub fn fits(worst: u64, switch: u64, period: u64) -> bool

@@ -7,7 +7,6 @@ ghost use lib.ListN.{length};
 ghost use Rattle.basics.specs.Basics.{pick};
 ghost use Rattle.rows.specs.inside.Numbers.{lineCount, fieldCount};
 ghost use Rattle.readers.specs.inside.Numbers.{Room, rowStart};
-use curves::POINTS_MAX;
 use readers::FEW_NUMBERS;
 use readers::HEAD;
 use readers::MOST_NUMBERS;
@@ -16,6 +15,7 @@ use readers::read_table;
 use rows::FIELDS;
 use rows::FIRST_POINT;
 use rows::POINTS;
+use rows::Row;
 use rows::SWITCH;
 use text::Line;
 
@@ -51,7 +51,7 @@ fn print_numbers(numbers: &[u64], start: usize, end: usize)
 fn row_lines(points: u64) -> usize
     ensures { λ r. ⌜ r ≤ lineCount ⌝ }
 {
-    if POINTS_MAX < points {
+    if Row::POINTS_MAX < points {
         return FIRST_POINT;
     }
     FIRST_POINT + 2 * points as usize

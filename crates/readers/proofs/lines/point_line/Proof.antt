@@ -50,23 +50,23 @@ module _ (n i : ℕ) (ns text : List ℕ) (at k : ℕ) where
         ∙ sym (by-shape (nextAllow (firstPointAt + 2 * j)) (allow-at i j is few))
 
 returns : tie.Need-returns
-returns c = rw (c .if2 .taken) (c .before .line-at .ensures ∙ no-test _ _)
+returns c = rw (c .if1 .taken) (c .before .line-at .ensures ∙ no-test _ _)
 
 returns-2 : tie.Need-returns-2
-returns-2 c =
+returns-2 c = rw (c .if2 .taken) (c .before .line-at2 .ensures ∙ no-test _ _)
+
+returns-3 : tie.Need-returns-3
+returns-3 c =
     let m = c .before .before .before in
     let s = m .before .before .before .before .before in
     let a = s .args in
     let j = (a .position - (firstPointAt + 2)) / 2 in
-    let even = m .before .before .if1 .taken in
-    let not-first = c .before .before .if2 .left in
+    let even = m .before .before .match .keys1 in
+    let not-first = c .before .before .if1 .left in
     let is : a .position ≡ firstPointAt + 2 + 2 * j = omega (arith, even, not-first, s .pre .0 .0) in
     let few : j < 7 = omega (arith, is, s .pre .0 .1) in
     (rw (m .line-at .ensures) at (c .later-delay .ensures))
     ∙ delay-tested (a .count) (a .position) (a .numbers .now) (a .text .now) (a .at) (a .line) j _ few is refl
-
-returns-3 : tie.Need-returns-3
-returns-3 c = rw (c .if3 .taken) (c .before .line-at2 .ensures ∙ no-test _ _)
 
 returns-4 : tie.Need-returns-4
 returns-4 c =
@@ -74,8 +74,8 @@ returns-4 c =
     let s = m .before .before .before .before .before in
     let a = s .args in
     let j = (a .position - (firstPointAt + 3)) / 2 in
-    let odd = m .before .before .if1 .left in
-    let not-first = c .before .before .if3 .left in
+    let odd = m .before .before .match .rest .1 in
+    let not-first = c .before .before .if2 .left in
     let is : a .position ≡ firstPointAt + 3 + 2 * j = omega (arith, odd, not-first, s .pre .0 .0) in
     let few : j < 7 = omega (arith, is, s .pre .0 .1) in
     (rw (m .line-at2 .ensures) at (c .lower-allow .ensures))
@@ -95,12 +95,12 @@ point-line-spec =
     (λ c. search needs)
     (λ c. search needs)
     (λ c κs. search needs)
+    (λ c. search needs)
+    (λ c κs. search needs)
+    (λ c. search needs)
     returns-2
     (λ c. search needs)
-    (λ c κs. search needs)
     (λ c. search needs)
+    (λ c κs. search needs)
     returns-3
-    (λ c. search needs)
-    (λ c. search needs)
-    (λ c κs. search needs)
     returns-4)
