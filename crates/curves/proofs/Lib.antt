@@ -4,6 +4,7 @@ pub mod PointNumbers
 pub mod Lines
 pub mod Permits
 pub mod Orderly
+pub mod Formed
 pub mod Places
 pub mod Floors
 pub mod Margins

@@ -46,7 +46,7 @@ module _ (low high : ℕ) (p : Point) where
       and-both (within low maxDelay (p .delay)) (within minAllow high (p .allow))
       (true-within low maxDelay (p .delay) l m) (true-within minAllow high (p .allow) (omega arith) h)
 
-follow : (p q : Point) → p .delay < q .delay → q .allow ≤ p .allow → follows p q ≡ true
+pub follow : (p q : Point) → p .delay < q .delay → q .allow ≤ p .allow → follows p q ≡ true
 follow p q d a =
     and-both (ltb (p .delay) (q .delay)) (leb (q .allow) (p .allow))
     (lt-ltb (p .delay) (q .delay) d) (le-leb (q .allow) (p .allow) a)

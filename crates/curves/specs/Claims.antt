@@ -2,13 +2,28 @@
 use mathlib.Core.Path.{_≡_}
 use mathlib.Core.Bool.{true}
 use mathlib.Core.List.{List}
+use mathlib.Core.Logic.{_↔_}
 use Prim.Native.Nat.{ℕ, suc, _+_, _-_, _*_, _≤_, _<_}
 use lib.IntN.{ℤ, pos, subℕ, natAbs, _-ℤ_, _*ℤ_}
 use lib.ListN.{length, getD}
 use lib.Signed.{leZ}
 use Rattle.curves.specs.declared.Fraction.{Fraction}
-use Rattle.curves.specs.Curves.{Point, noPoint, maxResponse, whole, onLine, permitted}
+use Rattle.curves.specs.Curves.{Point, noPoint, maxPoints, maxDelay, maxAllow, maxResponse, wellFormed}
+use Rattle.curves.specs.Curves.{whole, onLine, permitted}
 use Rattle.curves.specs.Curves.{lastDelay, curveMargin}
+
+-- points that keep the limits, by their indices: not too many, each number within its own, each delay above the one
+-- before it, each allow not above the one before it
+pub record InSequence (c : List Point) : Type 0 where
+  pub few : length c ≤ maxPoints
+  pub delays : (i : ℕ) → i < length c → getD c i noPoint .delay ≤ maxDelay
+  pub allows : (i : ℕ) → i < length c → getD c i noPoint .allow ≤ maxAllow
+  pub later : (i : ℕ) → suc i < length c → getD c i noPoint .delay < getD c (suc i) noPoint .delay
+  pub lower : (i : ℕ) → suc i < length c → getD c (suc i) noPoint .allow ≤ getD c i noPoint .allow
+
+-- just these are well formed
+abbrev pub FormedSo : Type 0
+FormedSo = (c : List Point) → (wellFormed c ≡ true) ↔ InSequence c
 
 -- f ≤ g, cross-multiplied
 pub record AtMost (f g : Fraction) : Type 0 where

@@ -18,6 +18,7 @@ use Rattle.tables.specs.Claims.{Accepted, Tells, Fails, Read}
 use Rattle.tables.proofs.Keys.{table-plain}
 use Rattle.tables.proofs.Soundness.{Known, sound}
 use Rattle.tables.proofs.Heads.{head-says}
+use Rattle.curves.proofs.Formed.{formed-so}
 use Rattle.tables.proofs.ReadBack.{reads-back}
 
 -- ---- what is read
@@ -68,6 +69,7 @@ module _ (ranked : Bool) (text : List ℕ) where
             refuses = refuses;
             head-says = head-says ranked text;
             reads-back = reads-back ranked;
+            formed-so = formed-so;
           }
 
       go : (v : Verdict Stage) → verdict ≡ v → Read ranked text
@@ -88,4 +90,5 @@ module _ (ranked : Bool) (text : List ℕ) where
             refuses = refuses;
             head-says = head-says ranked text;
             reads-back = reads-back ranked;
+            formed-so = formed-so;
           }

@@ -9,6 +9,7 @@ use lib.ListN.{length}
 use Rattle.text.specs.Text.{bytes, decimal, keyLine}
 use Rattle.grammars.specs.Claims.{AsWritten, Reason}
 use Rattle.curves.specs.Curves.{Point, maxPoints}
+use Rattle.curves.specs.Claims.{FormedSo}
 use Rattle.rows.specs.Rows.{Row, minTasks, maxTasks, linesFor, OneSwitch, inRange, allRows, distinctRows, isPossible}
 use Rattle.tables.specs.TableLines.{minBoard, maxBoard, rowLines, at-board, at-end, table}
 use Rattle.tables.specs.TableLines.{TableRead, tableOf, turnedDown, readTable}
@@ -96,3 +97,5 @@ pub record Read (ranked : Bool) (text : List ℕ) : Type 0 where
   pub head-says : (b : ℕ) (rs : List Row) (os : List ℕ) → Tells ranked text b rs os → HeadSays text b rs
   -- what is written is read
   pub reads-back : ReadsBack ranked
+  -- where the limits of a row ask for a well-formed curve, its points say which are
+  pub formed-so : FormedSo
