@@ -52,9 +52,11 @@ const WATCH: Pair = Pair { base: plain::watch, timed: library::watch };
 
 /// The planner before request 6 and after it, in plain Rust.
 const SOONER: Pair = Pair { base: plain::plan_before, timed: plain::plan };
-/// An older planner, which knows no points, and the planner.
+/// An older planner and an older reviewer, which know no points, and these.
 #[cfg(before)]
-const OLDER: Pair = Pair { base: library::plan_before, timed: library::plan };
+const OLDER_PLAN: Pair = Pair { base: library::plan_before, timed: library::plan };
+#[cfg(before)]
+const OLDER_REVIEW: Pair = Pair { base: library::review_before, timed: library::review };
 
 /// A text on which the two do not print the same.
 struct Different(Vec<u8>);
@@ -171,14 +173,23 @@ fn print_times_on(
     Ok(())
 }
 
-/// An older planner beside the planner, which has a line more to read in each row.
+/// The older calls beside these, which have a line more to read in each row.
 #[cfg(before)]
-fn print_older(title: &str, texts: &[Vec<Vec<u8>>], rounds: u32) -> Result<(), Different> {
-    print_times_on(title, ("older", &OLDER, without_points), texts, rounds)
+fn print_older(
+    typical: &[Vec<Table>],
+    slow: &[Vec<Table>],
+    rounds: u32,
+) -> Result<(), Different> {
+    let print = |title, pair, texts: &[Vec<Vec<u8>>]| {
+        print_times_on(title, ("older", pair, without_points), texts, rounds)
+    };
+    print("planner, typical tables", &OLDER_PLAN, &texts_of(typical, tables::text))?;
+    print("planner, slow tables", &OLDER_PLAN, &texts_of(slow, tables::text))?;
+    print("reviewer, typical tables", &OLDER_REVIEW, &texts_of(typical, ranked_text))
 }
 
 #[cfg(not(before))]
-fn print_older(_: &str, _: &[Vec<Vec<u8>>], _: u32) -> Result<(), Different> {
+fn print_older(_: &[Vec<Table>], _: &[Vec<Table>], _: u32) -> Result<(), Different> {
     Ok(())
 }
 
@@ -640,8 +651,7 @@ fn run(options: &Options) -> Result<(), Different> {
         &texts_of(&typical, ranked_text),
         options.rounds,
     )?;
-    print_older("planner, typical tables", &texts_of(&typical, text), options.rounds)?;
-    print_older("planner, slow tables", &texts_of(&slow, text), options.rounds)?;
+    print_older(&typical, &slow, options.rounds)?;
     println!("{SAVED}");
     for tasks in SHOWN {
         print_saved(&format!("{tasks} tasks, typical"), &typical[tasks - 1], options.rounds)?;

@@ -37,10 +37,18 @@ extern "C" {
     );
 }
 
-// The planner's call of an older library, for `bench` alone: docs/TESTING.md has how it is renamed.
+// Calls of an older library, for `bench` alone: docs/TESTING.md has how they are renamed.
 #[cfg(before)]
 extern "C" {
     fn lumavoneig_plan_before(
+        text: *const u8,
+        text_len: usize,
+        out: *mut u8,
+        out_len: usize,
+        answer: *mut u64,
+        answer_len: usize,
+    );
+    fn lumavoneig_review_before(
         text: *const u8,
         text_len: usize,
         out: *mut u8,
@@ -78,6 +86,11 @@ pub fn plan(text: &[u8], buffer: &mut [u8]) -> Answer {
 #[cfg(before)]
 pub fn plan_before(text: &[u8], buffer: &mut [u8]) -> Answer {
     call(lumavoneig_plan_before, text, buffer)
+}
+
+#[cfg(before)]
+pub fn review_before(text: &[u8], buffer: &mut [u8]) -> Answer {
+    call(lumavoneig_review_before, text, buffer)
 }
 
 pub fn review(text: &[u8], buffer: &mut [u8]) -> Answer {
