@@ -9,7 +9,7 @@ use native.Mathlib.Nat.{pow-le-pow-right}
 use native.Mathlib.Omega.{arith}
 use borrow.Author.Tests.{ne-eqb, le-leb, lt-leb}
 use lib.Dec.{eqb}
-use lib.ListN.{length, getD, take, drop, length-append, drop-of-length-le}
+use lib.ListN.{length, getD, take, drop, length-append}
 use lib.Seq.{take-suc, getD-take, length-take-le}
 use Rattle.basics.specs.Basics.{pick, within}
 use Rattle.basics.proofs.Tests.{test-of, within-true, true-within, le-or-lt}
@@ -18,8 +18,7 @@ use Rattle.text.specs.declared.Digits.{Digits}
 use Rattle.text.specs.declared.Digits.the-variants.{Value, Malformed}
 use Rattle.text.specs.declared.Front.{Front}
 use Rattle.text.specs.Lines.{maxDigits, lineOf, digitsFrom, wellFormed, numberOf}
-use Rattle.text.specs.inside.Fronts.{Fronts}
-use Rattle.text.specs.inside.Fronts as Front-specs
+use Rattle.text.specs.inside.Fronts.{Passed, Fronts}
 use Rattle.text.proofs.Scans.{line-ends, line-goes-on, number-empty, number-long, number-leads, number-starts}
 use Rattle.text.proofs.Scans.{number-single}
 
@@ -65,9 +64,9 @@ not-low b h = simp (lt-leb digitZero b h)
 not-high : (b : ℕ) → digitNine < b → within digitZero digitNine b ≡ false
 not-high b h = simp (le-leb digitZero b (omega arith), lt-leb b digitNine h)
 
--- so a byte less the digit zero, modulo 256, is above 9
-pub no-digit : (b d : ℕ) → (d + digitZero) % 256 ≡ b → 9 < d → d < 256 → within digitZero digitNine b ≡ false
-no-digit b d e h l = elim (le-or-lt (256 - digitZero) d) [
+-- so a byte less the digit zero, modulo 2^64, is above 9
+pub no-digit : (b d : ℕ) → (d + digitZero) % 2 ^ 64 ≡ b → 9 < d → d < 2 ^ 64 → within digitZero digitNine b ≡ false
+no-digit b d e h l = elim (le-or-lt (2 ^ 64 - digitZero) d) [
   | inl low ↦ not-low b (omega arith)
   | inr high ↦ not-high b (omega arith)
 ]
@@ -81,23 +80,29 @@ digits-next s i w d h e is l =
     ∙ rw (is, true-within digitZero digitNine (digitZero + d) (omega arith) (omega arith), digitsFrom)
     (ap Value (omega arith))
 
--- a long number has as many digits as any
-long-front : (k v : ℕ) → Front-specs.long ≤ v → v < 10 ^ k → maxDigits ≤ k
-long-front k v h l = elim (le-or-lt maxDigits k) [
-  | inl m ↦ m
-  | inr m ↦ (
-      let below : k ≤ 11 = omega arith in
-      let most : 10 ^ k ≤ 10 ^ 11 = pow-le-pow-right (omega arith) below in
-      absurd (omega (arith, most)))
-]
+-- so the number behind it is held, as long as there are no more digits than a number has
+pub passed-next : {s : List ℕ} {i v : ℕ} (p : Passed s i v) (d w : ℕ) → i < length s → getD s i 0 ≡ digitZero + d
+    → d ≤ 9 → (10 * v + d < 2 ^ 64 → w ≡ 10 * v + d) → Passed s (suc i) w
+passed-next {s = s} {i = i} {v = v} p d w h is l e = record {
+  written = 10 * p .written + d;
+  there = omega arith;
+  digits = digits-next s i (p .written) d h (p .digits) is l;
+  small = omega (arith, p .small, l);
+  held = λ few.
+      let fewer : i ≤ maxDigits = omega arith in
+      let most : 10 ^ i ≤ 10 ^ maxDigits = pow-le-pow-right (omega arith) fewer in
+      let held = p .held fewer in
+      let room : 10 * v + d < 2 ^ 64 = omega (arith, held, p .small, most, l) in
+      e room ∙ ap (λ (n : ℕ). 10 * n + d) held;
+}
 
 -- ---- the first line as a number
 module _ {s : List ℕ} {r : Front} (f : Fronts s r) where
   pub front-line : lineOf s ≡ take (r .size) s ++ lineOf (drop (r .size) s)
-  front-line = digits-line (r .size) 0 (r .value) s (f .digits)
+  front-line = digits-line (r .size) 0 (f .passed .written) s (f .passed .digits)
 
   long : length (take (r .size) s) ≡ r .size
-  long = length-take-le (r .size) s (f .there)
+  long = length-take-le (r .size) s (f .passed .there)
 
   line-long : length (lineOf s) ≡ r .size + length (lineOf (drop (r .size) s))
   line-long =
@@ -105,27 +110,23 @@ module _ {s : List ℕ} {r : Front} (f : Fronts s r) where
       ∙ length-append (take (r .size) s) (lineOf (drop (r .size) s))
       ∙ ap (λ (n : ℕ). n + length (lineOf (drop (r .size) s))) long
 
-  -- a line that goes on behind its digits is no number
-  pub goes-on : (length (lineOf s) ≡ r .size → ⊥) → numberOf (lineOf s) ≡ Malformed
-  goes-on h =
+  -- a feed behind the digits ends the line
+  pub ends-there : r .size < length s → getD s (r .size) 0 ≡ lineFeed → length (lineOf s) ≡ r .size
+  ends-there h e = omega (arith, line-long, ap length (line-ends s (r .size) h e))
+
+  -- a line that goes on behind them is no number
+  pub no-feed-there : (r .size < length s → getD s (r .size) 0 ≡ lineFeed → ⊥) → length (lineOf s) < length s
+      → numberOf (lineOf s) ≡ Malformed
+  no-feed-there n h =
       let k = r .size in
-      let rest = lineOf (drop k s) in
-      let some : 1 ≤ length rest = omega (arith, line-long, h) in
-      let inside : k < length s = elim (le-or-lt (length s) k) [
-        | inl l ↦ absurd (omega (arith, some, ap (λ (d : List ℕ). length (lineOf d)) (drop-of-length-le s {i = k} l)))
-        | inr l ↦ l
-      ] in
-      let other : getD s k 0 ≡ lineFeed → ⊥ = λ e. omega (arith, some, ap length (line-ends s k inside e)) in
-      elim (le-or-lt Front-specs.long (r .value)) [
-        | inl l ↦ number-long (lineOf s) (omega (arith, line-long, some, long-front k (r .value) l (f .small)))
-        | inr l ↦ (
-            let next = line-goes-on s k inside other in
-            malformed (lineOf s)
-            (ap (digitsFrom 0) front-line
-            ∙ digits-append 0 (r .value) (take k s) rest (f .digits)
-            ∙ ap (digitsFrom (r .value)) next
-            ∙ rw (f .stopped inside l, digitsFrom)))
-      ]
+      let inside : k < length s = omega (arith, line-long) in
+      let next = line-goes-on s k inside (n inside) in
+      let w = f .passed .written in
+      malformed (lineOf s)
+      (ap (digitsFrom 0) front-line
+      ∙ digits-append 0 w (take k s) (lineOf (drop k s)) (f .passed .digits)
+      ∙ ap (digitsFrom w) next
+      ∙ rw (f .stopped inside, digitsFrom))
 
   module _ (whole : length (lineOf s) ≡ r .size) where
     pub too-long : maxDigits < r .size → numberOf (lineOf s) ≡ Malformed
@@ -143,19 +144,22 @@ module _ {s : List ℕ} {r : Front} (f : Fronts s r) where
     first-is : 1 ≤ r .size → getD (lineOf s) 0 0 ≡ getD s 0 0
     first-is h = ap (λ (l : List ℕ). getD l 0 0) line-is ∙ getD-take (r .size) s 0 0 (omega arith)
 
-    pub leading-zero : r .size ≤ maxDigits → getD s 0 0 ≡ digitZero → 1 < r .size → numberOf (lineOf s) ≡ Malformed
-    leading-zero few e h =
-        number-leads (lineOf s) (omega (arith, whole)) (omega (arith, whole)) (first-is (omega arith) ∙ e)
-        (omega (arith, whole))
+    pub leading-zero : getD s 0 0 ≡ digitZero → 1 < r .size → numberOf (lineOf s) ≡ Malformed
+    leading-zero e h = elim (le-or-lt (r .size) maxDigits) [
+      | inl few ↦
+          number-leads (lineOf s) (omega (arith, whole)) (omega (arith, whole)) (first-is (omega arith) ∙ e)
+          (omega (arith, whole))
+      | inr many ↦ too-long many
+    ]
 
     pub single-digit : 1 ≤ r .size → r .size ≤ 1 → numberOf (lineOf s) ≡ Value (r .value)
     single-digit h l =
         number-single (lineOf s) (omega (arith, whole)) (omega (arith, whole)) (omega (arith, whole))
-        ∙ ap (digitsFrom 0) line-is ∙ f .digits
+        ∙ ap (digitsFrom 0) line-is ∙ f .passed .digits ∙ ap Value (sym (f .passed .held (omega arith)))
 
     pub other-digit : 1 ≤ r .size → r .size ≤ maxDigits → (getD s 0 0 ≡ digitZero → ⊥)
         → numberOf (lineOf s) ≡ Value (r .value)
     other-digit h few n =
         number-starts (lineOf s) (omega (arith, whole)) (omega (arith, whole))
         (λ e. n (sym (first-is h) ∙ e))
-        ∙ ap (digitsFrom 0) line-is ∙ f .digits
+        ∙ ap (digitsFrom 0) line-is ∙ f .passed .digits ∙ ap Value (sym (f .passed .held (omega arith)))

@@ -214,6 +214,18 @@ module _ (key : List ℕ) (no-feed : isIn lineFeed key ≡ false) where
           let keyed-so = ap (begins key) whole ∙ key-begins key (value ++ (lineFeed ∷ after)) in
           true-not-false (begins key rest) keyed-so b)
 
+      pub short-missing : length rest ≤ length key → lineAt key low high text at k ≡ L.Refused 1 k
+      short-missing h =
+          line-missing (λ value after is.
+          let long = ap length (r ∙ is ∙ key-line-is key value after) in
+          omega (
+            arith,
+            h,
+            long,
+            length-append key (value ++ (lineFeed ∷ after)),
+            length-append value (lineFeed ∷ after),
+          ))
+
       module _ (tail value : List ℕ) (t : tail ≡ drop (length key) rest) (l : value ≡ lineOf tail) where
         pub unended-missing : length tail ≤ length value → lineAt key low high text at k ≡ L.Refused 1 k
         unended-missing h =

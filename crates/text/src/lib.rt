@@ -9,16 +9,18 @@ pub use writers::put_number;
 pub use writers::put_signed;
 pub use writers::put_signed_line;
 ghost use mathlib.Core.Path.{_≡_};
-ghost use mathlib.Core.Bool.{false};
-ghost use mathlib.Core.List.{_++_};
-ghost use lib.ListN.{length, take, drop};
+ghost use mathlib.Core.Bool.{false, _&&_};
+ghost use Prim.Native.Nat.{_+_, _*_, _^_, _<_};
+ghost use lib.Dec.{eqb, ltb};
+ghost use lib.ListN.{length, getD};
 ghost use Rattle.basics.specs.Basics.{isIn};
 ghost use Rattle.text.specs.Text.{lineFeed};
 ghost use Rattle.text.specs.Lines.{lineOf, begins, numberOf};
 ghost use Rattle.text.specs.Lines.{lineAt, endAt};
-ghost use Rattle.text.specs.inside.Fronts.{Fronts};
+ghost use Rattle.text.specs.inside.Fronts.{Fronts, unread};
 use basics::within;
-use std::num::wrapping_sub_u8;
+use std::num::wrapping_add_u64;
+use std::num::wrapping_sub_u64;
 
 // What the reading of one line answers: its number and the offset after it, the end of the text where nothing is
 // expected, or a refusal with its number and its line.
@@ -41,8 +43,10 @@ enum Digits {
     Malformed,
 }
 
-// The most digits of a number.
+// The most digits of a number, and the byte of the lowest.
 const MAX_DIGITS: usize = 12;
+
+const ZERO: u64 = b'0' as u64;
 
 // How many bytes stand before the first line feed.
 fn line_length(s: &[u8]) -> usize
@@ -75,13 +79,22 @@ pub fn starts_with(s: &[u8], key: &[u8]) -> bool
     true
 }
 
-// A number that one digit more would make too long. What stops at it, and not at a count, is one short loop.
-const LONG: u64 = 100_000_000_000;
-
-// The digits at the front of a text, up to a long number: how many they are, and the number that they write.
+// The digits at the front of a text: how many they are, and the number that they write, where they are no more than a
+// number has.
 struct Front {
     value: u64,
     size: usize,
+}
+
+// A number with a digit more. Modulo 2^64, so that too many digits, whose number nobody wants, need no test.
+fn with_digit(value: u64, digit: u64) -> u64
+    ensures { λ r. ⌜ (10 * value + digit < 2 ^ 64 → r ≡ 10 * value + digit) ⌝ }
+{
+    let twice = wrapping_add_u64(value, value);
+    let four_times = wrapping_add_u64(twice, twice);
+    let five_times = wrapping_add_u64(four_times, value);
+    let ten_times = wrapping_add_u64(five_times, five_times);
+    wrapping_add_u64(ten_times, digit)
 }
 
 fn digits_at(s: &[u8]) -> Front
@@ -90,57 +103,59 @@ fn digits_at(s: &[u8]) -> Front
     let mut value: u64 = 0;
     let mut i = 0;
     while i < s.len() {
-        // Modulo 256, so that a byte below the digits is past 9 too.
-        let digit = wrapping_sub_u8(s[i], b'0');
+        // Modulo 2^64, so that a byte below the digits is past 9 too.
+        let digit = wrapping_sub_u64(s[i] as u64, ZERO);
         if 9 < digit {
             return Front { value, size: i };
         }
-        if LONG <= value {
-            return Front { value, size: i };
-        }
-        value = 10 * value + digit as u64;
+        value = with_digit(value, digit);
         i += 1;
     }
     Front { value, size: i }
 }
 
-// How many bytes stand before the first line feed, which isn't among the first ones.
-fn line_size(s: &[u8], first: usize) -> usize
-    requires { ⌜ lineOf (now s) ≡ take first (now s) ++ lineOf (drop first (now s)) ⌝ }
-    ensures { λ r. ⌜ r ≡ length (lineOf (now (s .entry))) ⌝ }
+// Whether a line feed stands at an index.
+fn feed_at(s: &[u8], at: usize) -> bool
+    ensures { λ r. ⌜ r ≡ ltb at (length (now (s .entry))) && eqb (getD (now (s .entry)) at 0) lineFeed ⌝ }
 {
-    if first < s.len() {
-        if s[first] == b'\n' {
-            return first;
-        }
+    if at < s.len() {
+        return s[at] == b'\n';
     }
-    line_length(s)
+    false
 }
 
-// A line of some size as a number: it is one if it is nothing but its front's digits.
-fn number_of(s: &[u8], front: Front, size: usize) -> Digits
-    requires { ⌜ Fronts (now s) front × (size ≡ length (lineOf (now s))) ⌝ }
+// A line that is its front's digits as a number: one digit is, and several are if they don't begin with 0.
+fn number_of(s: &[u8], front: Front) -> Digits
+    requires { ⌜ Fronts (now s) front × (length (lineOf (now s)) ≡ front .size) ⌝ }
     ensures { λ r. ⌜ r ≡ numberOf (lineOf (now (s .entry))) ⌝ }
 {
-    if size != front.size {
-        return Digits::Malformed;
-    }
+    let size = front.size;
     if size < 1 {
         return Digits::Malformed;
     }
-    if MAX_DIGITS < size {
-        return Digits::Malformed;
-    }
-    if s[0] == b'0' {
-        if 1 < size {
+    if 1 < size {
+        if s[0] == b'0' {
+            return Digits::Malformed;
+        }
+        if MAX_DIGITS < size {
             return Digits::Malformed;
         }
     }
     Digits::Value(front.value)
 }
 
-// The line that begins at an offset: a key, a number in its range, and a line feed. As neither key nor digits have a
-// feed, they are passed first, and the feed is sought only behind them.
+// What a line answers that goes on behind its digits: it is no number, or it has no end.
+fn goes_on(s: &[u8], line: u32) -> Line
+    ensures { λ r. ⌜ r ≡ unread (now (s .entry)) line ⌝ }
+{
+    if line_length(s) < s.len() {
+        return Line::Refused(MALFORMED, line);
+    }
+    Line::Refused(MISSING, line)
+}
+
+// The line that begins at an offset: a key, a number in its range, and a line feed. What is no longer than its key has no
+// feed. As neither key nor digits have one, they are passed first, and it is sought only behind them.
 pub fn line_at(text: &[u8], offset: usize, line: u32, key: &[u8], low: u64, high: u64) -> Line
     requires { ⌜ isIn lineFeed (now key) ≡ false ⌝ }
     ensures { λ r. ⌜ r ≡ lineAt (now (key .entry)) low high (now (text .entry)) offset line ⌝ }
@@ -149,23 +164,25 @@ pub fn line_at(text: &[u8], offset: usize, line: u32, key: &[u8], low: u64, high
         return Line::Refused(MISSING, line);
     }
     let rest = &text[offset..];
+    if rest.len() <= key.len() {
+        return Line::Refused(MISSING, line);
+    }
     if !starts_with(rest, key) {
         return Line::Refused(MISSING, line);
     }
     let tail = &rest[key.len()..];
     let front = digits_at(tail);
-    let size = line_size(tail, front.size);
-    if tail.len() <= size {
-        return Line::Refused(MISSING, line);
+    if !feed_at(tail, front.size) {
+        return goes_on(tail, line);
     }
-    let digits = number_of(tail, front, size);
+    let digits = number_of(tail, front);
     let Digits::Value(value) = digits else {
         return Line::Refused(MALFORMED, line);
     };
     if !within(low, high, value) {
         return Line::Refused(OUT_OF_RANGE, line);
     }
-    let next = offset + key.len() + size + 1;
+    let next = offset + key.len() + front.size + 1;
     Line::Number(value, next)
 }
 

@@ -1,22 +1,32 @@
--- Promised between functions: the digits at the front of a text, and the number that they write.
+-- Promised between functions: the digits at the front of a text, and what a line answers that goes on behind them.
 use mathlib.Core.Path.{_≡_}
 use mathlib.Core.Bool.{false}
 use mathlib.Core.List.{List}
 use Prim.Native.Nat.{ℕ, _^_, _≤_, _<_}
+use lib.Dec.{ltb}
 use lib.ListN.{length, getD, take}
-use Rattle.basics.specs.Basics.{within}
+use Rattle.basics.specs.Basics.{pick, within}
 use Rattle.text.specs.Text.{digitZero, digitNine}
-use Rattle.text.specs.Lines.{digitsFrom}
+use Rattle.text.specs.Lines.{maxDigits, lineOf, digitsFrom, missing, malformed}
 use Rattle.text.specs.declared.Digits.the-variants.{Value}
 use Rattle.text.specs.declared.Front.{Front}
+use Rattle.text.specs.declared.Line.{Line}
+use Rattle.text.specs.declared.Line.the-variants as L
 
--- a number that one digit more would make too long
-abbrev pub long : ℕ
-long = 100000000000
+-- the first bytes are digits, and what the code holds of their number: the number itself, if it has no more digits than
+-- a number may
+pub record Passed (s : List ℕ) (size value : ℕ) : Type 0 where
+  pub written : ℕ
+  pub there : size ≤ length s
+  pub digits : digitsFrom 0 (take size s) ≡ Value written
+  pub small : written < 10 ^ size
+  pub held : size ≤ maxDigits → value ≡ written
 
--- the digits go on as far as they can, or to a long number
+-- the digits go on as far as they can
 pub record Fronts (s : List ℕ) (r : Front) : Type 0 where
-  pub there : r .size ≤ length s
-  pub small : r .value < 10 ^ r .size
-  pub digits : digitsFrom 0 (take (r .size) s) ≡ Value (r .value)
-  pub stopped : r .size < length s → r .value < long → within digitZero digitNine (getD s (r .size) 0) ≡ false
+  pub passed : Passed s (r .size) (r .value)
+  pub stopped : r .size < length s → within digitZero digitNine (getD s (r .size) 0) ≡ false
+
+-- a line that is no number, or that has no end
+abbrev pub unread : List ℕ → ℕ → Line
+unread s k = pick (ltb (length (lineOf s)) (length s)) (L.Refused malformed k) (L.Refused missing k)
