@@ -20,6 +20,8 @@ pub use plans::Answer;
 use readers::BOARD;
 use readers::FEW_NUMBERS;
 use readers::HEAD;
+use readers::MANY_NUMBERS;
+use readers::MORE_NUMBERS;
 use readers::MOST_NUMBERS;
 use readers::SOME_NUMBERS;
 use readers::fits_in;
@@ -69,13 +71,13 @@ fn plan_text(text: &[u8], out: &mut [u8], numbers: &mut [u64]) -> Answer
 pub fn write_plan(text: &[u8], out: &mut [u8]) -> Answer
     ensures { λ r. ⌜ PlanSays (now (text .entry)) (now (out .entry)) (now (out .exit)) r ⌝ }
 {
-    if fits_in(text, FEW_NUMBERS) {
-        let mut few = [0u64; FEW_NUMBERS];
-        return plan_text(text, out, &mut few);
-    }
     if fits_in(text, SOME_NUMBERS) {
         let mut some = [0u64; SOME_NUMBERS];
         return plan_text(text, out, &mut some);
+    }
+    if fits_in(text, MORE_NUMBERS) {
+        let mut more = [0u64; MORE_NUMBERS];
+        return plan_text(text, out, &mut more);
     }
     let mut numbers = [0u64; MOST_NUMBERS];
     plan_text(text, out, &mut numbers)
@@ -109,6 +111,14 @@ pub fn review_order(text: &[u8], out: &mut [u8]) -> Answer
     if fits_in(text, SOME_NUMBERS) {
         let mut some = [0u64; SOME_NUMBERS];
         return review_text(text, out, &mut some);
+    }
+    if fits_in(text, MORE_NUMBERS) {
+        let mut more = [0u64; MORE_NUMBERS];
+        return review_text(text, out, &mut more);
+    }
+    if fits_in(text, MANY_NUMBERS) {
+        let mut many = [0u64; MANY_NUMBERS];
+        return review_text(text, out, &mut many);
     }
     let mut numbers = [0u64; MOST_NUMBERS];
     review_text(text, out, &mut numbers)

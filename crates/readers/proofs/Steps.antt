@@ -11,7 +11,7 @@ use lib.ListN.{length, take, drop, set, replicate, length-append, length-drop, l
 use lib.Seq.{append-snoc, length-take-le, take-suc-set, take-add, drop-set-lt, getD-take, getD-set-other}
 use Rattle.basics.proofs.Tests.{never}
 use Rattle.rows.specs.Rows.{maxTasks}
-use Rattle.rows.specs.inside.Numbers.{lineCount, switchAt}
+use Rattle.rows.specs.inside.Numbers.{lineCount, fieldCount, switchAt}
 use Rattle.text.specs.declared.Line.{Line}
 use Rattle.text.specs.declared.Line.the-variants as L
 use Rattle.grammars.specs.Grammars.{step}
@@ -23,7 +23,7 @@ use Rattle.readers.specs.declared.progress.Part.the-variants as P
 use Rattle.readers.specs.declared.progress.Stand.{Stand}
 use Rattle.readers.specs.declared.progress.Progress.{Progress}
 use Rattle.tables.specs.TableLines.{Stage, after, table}
-use Rattle.readers.specs.inside.Numbers.{mostNumbers, lineBytes, numberBytes, rowStart, headSwitchAt, switchIn}
+use Rattle.readers.specs.inside.Numbers.{mostNumbers, lineBytes, rowBytes, rowStart, headSwitchAt, switchIn}
 use Rattle.readers.specs.inside.Stands.{lineHere, faultIn, standAfter, fewestLines, mostLines, readBy, Counted}
 use Rattle.readers.specs.inside.Stands.{Going, endsRow, withNumber, PutAt, stageIn, stageOf}
 use Rattle.readers.specs.inside.Stands.{Stands, progress, endedBy, reader, On, TakesLine}
@@ -39,7 +39,7 @@ few-read P.Row s h = omega (arith, h .0, h .1)
 few-read P.Rank s h = omega (arith, h .0, h .1)
 few-read P.End s h = omega (arith, h .0, h .1)
 
-bytes-enough : (p : Part) (s : Stand) → numberBytes * readBy p s ≤ lineBytes * fewestLines p s
+bytes-enough : (p : Part) (s : Stand) → rowBytes * readBy p s ≤ fieldCount * (lineBytes * fewestLines p s)
 bytes-enough P.Board s = omega arith
 bytes-enough P.Tasks s = omega arith
 bytes-enough P.Switch s = omega arith

@@ -1,9 +1,9 @@
 // A table as text: what is read, and what is refused on which line.
 ghost use mathlib.Core.Path.{_≡_};
-ghost use Prim.Native.Nat.{_*_, _≤_};
+ghost use Prim.Native.Nat.{_≤_};
 ghost use lib.Dec.{leb};
 ghost use lib.ListN.{length};
-ghost use Rattle.readers.specs.inside.Numbers.{mostNumbers, numberBytes, Room};
+ghost use Rattle.readers.specs.inside.Numbers.{mostNumbers, bytesFor, Room};
 ghost use Rattle.readers.specs.inside.Readings.{ReadAs};
 pub use progress::Part;
 pub use progress::Progress;
@@ -27,19 +27,24 @@ pub const HEAD_SWITCH: usize = 2;
 // Room for the numbers of the longest table with its ranks.
 pub const MOST_NUMBERS: usize = HEAD + FIELDS * MAX_TASKS + MAX_TASKS;
 
-// The fewest bytes of a text for each number of its table, and the numbers of a short text, at most, and of a longer one.
-pub const NUMBER_BYTES: usize = 2;
+// The fewest bytes of a row's lines: eight lines of seven bytes.
+pub const ROW_BYTES: usize = 56;
 
-pub const FEW_NUMBERS: usize = 120;
+// How many numbers are room enough for the table of a short text, and of longer ones.
+pub const FEW_NUMBERS: usize = 64;
 
-pub const SOME_NUMBERS: usize = 216;
+pub const SOME_NUMBERS: usize = 96;
+
+pub const MORE_NUMBERS: usize = 216;
+
+pub const MANY_NUMBERS: usize = 320;
 
 // Whether a text is so short that some numbers are room enough for its table's.
 pub fn fits_in(text: &[u8], numbers: usize) -> bool
     requires { ⌜ numbers ≤ mostNumbers ⌝ }
-    ensures { λ r. ⌜ r ≡ leb (length (now (text .entry))) (numberBytes * numbers) ⌝ }
+    ensures { λ r. ⌜ r ≡ leb (length (now (text .entry))) (bytesFor numbers) ⌝ }
 {
-    text.len() <= NUMBER_BYTES * numbers
+    text.len() <= ROW_BYTES * numbers / FIELDS
 }
 
 // What a text reads as: refusal 0 and how many rows the table has, its numbers standing where they were lent; or a

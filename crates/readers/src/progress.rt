@@ -225,7 +225,13 @@ impl Stand {
             Part::Switch => rows_next(self.ranked, 0, self.left),
             Part::Row => self.after_field(last),
             Part::Rank => ranks_next(self.ranked, self.count, self.position + 1, self.left),
-            Part::End => self,
+            Part::End => Stand {
+                part: Part::End,
+                ranked: self.ranked,
+                count: self.count,
+                left: self.left,
+                position: self.position,
+            },
         }
     }
 }

@@ -1,11 +1,10 @@
--- Few numbers are room for a short text, some for a longer one, and the others for every text.
+-- Each room is long enough for the texts that go there, and the last for every text.
 use mathlib.Core.Path.{sym, _∙_}
 use mathlib.Core.Logic.{inl, inr}
-use Prim.Native.Nat.{_*_}
 use native.Mathlib.Omega.{arith}
 use lib.ListN.{length}
 use borrow.Author.Tests.{leb-true}
-use Rattle.readers.specs.inside.Numbers.{numberBytes}
+use Rattle.readers.specs.inside.Numbers.{bytesFor}
 use borrow.Author.Needs.{needs}
 use Rattle.ranks.proofs.write_plan.Statement.{statement}
 use Rattle.ranks.proofs.write_plan.Tie as tie
@@ -15,14 +14,14 @@ plan-text-requires c κs =
     let s = c .before .before .before in
     let a = s .before .before .before .args in
     let short = sym (s .fits-in .ensures) ∙ c .before .before .if1 .taken in
-    inr (leb-true (length (a .text .now)) (numberBytes * 120) short)
+    inr (leb-true (length (a .text .now)) (bytesFor 96) short)
 
 plan-text-requires-2 : tie.Need-plan-text-requires-2
 plan-text-requires-2 c κs =
     let s = c .before .before .before in
     let a = s .before .before .before .before .before .args in
     let short = sym (s .fits-in2 .ensures) ∙ c .before .before .if2 .taken in
-    inr (leb-true (length (a .text .now)) (numberBytes * 216) short)
+    inr (leb-true (length (a .text .now)) (bytesFor 216) short)
 
 plan-text-requires-3 : tie.Need-plan-text-requires-3
 plan-text-requires-3 c κs = inl (omega arith)

@@ -2,10 +2,10 @@
 -- lines' with room for the most points and the switch, then the ranks.
 use mathlib.Core.List.{List}
 use mathlib.Core.Logic.{_⊎_}
-use Prim.Native.Nat.{ℕ, _+_, _*_, _≤_}
+use Prim.Native.Nat.{ℕ, _+_, _*_, _/_, _≤_}
 use lib.ListN.{length, getD, drop}
-use Rattle.rows.specs.Rows.{maxTasks}
-use Rattle.rows.specs.Rows.{Row}
+use Rattle.curves.specs.Curves.{minPoints}
+use Rattle.rows.specs.Rows.{Row, maxTasks, linesFor}
 use Rattle.rows.specs.inside.Numbers.{fieldCount, rowsOf, between}
 
 -- the lines of the head: the board's, the tasks' and the switch's
@@ -20,14 +20,17 @@ mostNumbers = headCount + fieldCount * maxTasks + maxTasks
 abbrev pub lineBytes : ℕ
 lineBytes = 7
 
--- the fewest bytes of a text for each number of its table: a row without points has eight lines, and room for the
--- numbers of the most
-abbrev pub numberBytes : ℕ
-numberBytes = 2
+-- and of a row, which has room for the numbers of the most points, and at least the lines of none
+abbrev pub rowBytes : ℕ
+rowBytes = lineBytes * linesFor minPoints
+
+-- the bytes of a text for which so many numbers are enough
+abbrev pub bytesFor : ℕ → ℕ
+bytesFor n = rowBytes * n / fieldCount
 
 -- there is room for a text's numbers: for as many as any table has, or for as many as the text can have
 abbrev pub Room : List ℕ → List ℕ → Type 0
-Room text ns = (mostNumbers ≤ length ns) ⊎ (length text ≤ numberBytes * length ns)
+Room text ns = (mostNumbers ≤ length ns) ⊎ (length text ≤ bytesFor (length ns))
 
 -- where row n begins, counted from 0
 abbrev pub rowStart : ℕ → ℕ

@@ -1,9 +1,9 @@
 -- `readers::progress::Stand::after` meets its contract, part by part.
-use mathlib.Core.Path.{subst}
+use mathlib.Core.Path.{sym, ap, subst, _∙_}
 use native.Mathlib.Numerals.{add-one}
 use native.Mathlib.Omega.{arith}
 use borrow.Author.Needs.{needs}
-use Rattle.readers.specs.inside.Stands.{Counted}
+use Rattle.readers.specs.inside.Stands.{Counted, stand, standAfter}
 use Rattle.readers.proofs.progress.Stand.after.Statement.{statement}
 use Rattle.readers.proofs.progress.Stand.after.Tie as tie
 
@@ -33,6 +33,14 @@ returns-4 c = rw (c .before .enum-told4 .given .1) (c .after-field .ensures)
 returns-5 : tie.Need-returns-5
 returns-5 c = rw (c .before .before .enum-told5 .given .1) (rw add-one at (c .ranks-next .ensures))
 
+returns-6 : tie.Need-returns-6
+returns-6 c =
+    let a = c .before .before .args in
+    let s = a .self in
+    let is = c .enum-told6 .given .1 in
+    ap (λ p. stand p (s .ranked) (s .count) (s .left) (s .position)) (sym is)
+    ∙ sym (ap (λ p. standAfter p (a .last) s (a .value)) is)
+
 pub after-spec : {M : Type 1} → statement M
 after-spec =
     tie.close
@@ -52,4 +60,4 @@ after-spec =
     returns-3
     returns-4
     returns-5
-    (λ c. search needs))
+    returns-6)
