@@ -111,6 +111,18 @@ pub fn blocking_from(rows: &[u64], positions: &[usize], from: usize, n: usize) -
     blocking_time(largest)
 }
 
+// The blocking time of the rows below the one at an index, by that of all from it on: where that is 0, so is this.
+pub fn blocking_below(rows: &[u64], positions: &[usize], i: usize, n: usize, blocked: u64) -> u64
+    requires { ⌜ (i < n) × Among (now rows) (now positions) n ⌝ }
+    requires { ⌜ blocked ≡ blocking (rowsIn (now rows) (drop i (take n (now positions)))) ⌝ }
+    ensures { λ r. ⌜ r ≡ blocking (rowsIn (now (rows .entry)) (drop (suc i) (take n (now (positions .entry))))) ⌝ }
+{
+    if blocked == 0 {
+        return 0;
+    }
+    blocking_from(rows, positions, i + 1, n)
+}
+
 // The times of row i, the numbers of it that figures take, are put at index k of three columns of n numbers.
 pub fn put_times(rows: &[u64], i: usize, columns: &mut [u64], n: usize, k: usize)
     requires { ⌜ (fieldCount * suc i ≤ length (now rows)) × (timesInRange (rowIn (now rows) i) ≡ true)

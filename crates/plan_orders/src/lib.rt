@@ -11,6 +11,7 @@ ghost use Rattle.plans.specs.Plans.{rankRoom, roomFor, planRoom, mostRanks};
 ghost use Rattle.plans.specs.Outcomes.{ifInTime, Written};
 ghost use Rattle.plans.specs.inside.Prints.{toPrint};
 ghost use Rattle.plan_orders.specs.inside.Ranks.{Ordered, PutsRanks, PutsPlan, givenPlan};
+use analysis::blocking_below;
 use analysis::blocking_from;
 use analysis::figures_under;
 use analysis::fill_columns;
@@ -67,9 +68,10 @@ fn put_ranks(
 {
     let mut end = at;
     let mut i = 0;
+    let mut blocked = blocking_from(rows, positions, 0, n);
     while i < n {
         let row = positions[i];
-        let blocked = blocking_from(rows, positions, i + 1, n);
+        blocked = blocking_below(rows, positions, i, n, blocked);
         let figures = figures_under(rows, row, blocked, columns, n, i);
         if figures.late {
             let rank = i as u32 + 1;

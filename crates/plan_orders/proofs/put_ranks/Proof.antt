@@ -24,20 +24,21 @@ use Rattle.plan_orders.proofs.put_ranks.Statement.{statement}
 use Rattle.plan_orders.proofs.put_ranks.Tie as tie
 
 abbrev Inv-loop : tie.InvT-loop
-Inv-loop out₀ at rows positions n columns end₀ i₀ out end i =
+Inv-loop out₀ at rows positions n columns end₀ i₀ blocked₀ out end i blocked =
     Turning (rowsIn rows (take n positions)) n at out₀ end out i
+    × (blocked ≡ blocking (rowsIn rows (drop i (take n positions))))
 
 abbrev μ-loop : tie.MeasureT-loop
-μ-loop out₀ at rows positions n columns end₀ i₀ out end i = n - i
+μ-loop out₀ at rows positions n columns end₀ i₀ blocked₀ out end i blocked = n - i
 
 abbrev start : tie.In-loop Inv-loop μ-loop → tie.Start Inv-loop μ-loop
-start k = k .before .before .before .before .before .before
+start k = k .before .before .before .before .before .before .before
 
 abbrev order : tie.Start Inv-loop μ-loop → List Row
 order s = rowsIn (s .args .rows .now) (take (s .args .n) (s .args .positions .now))
 
 -- where a turn stands, from its blocking time on and from its figures on
-abbrev blocking-turn : tie.After-blocking-from Inv-loop μ-loop → tie.In-loop Inv-loop μ-loop
+abbrev blocking-turn : tie.After-blocking-below Inv-loop μ-loop → tie.In-loop Inv-loop μ-loop
 blocking-turn c = c .before .before
 
 abbrev turn : tie.After-figures-under Inv-loop μ-loop → tie.In-loop Inv-loop μ-loop
@@ -59,16 +60,14 @@ placed k =
     (k .before .loop .i) (k .loop-test .taken))
 
 -- the rows below it block it for so long
-blocked : (c : tie.After-blocking-from Inv-loop μ-loop)
+blocked : (c : tie.After-blocking-below Inv-loop μ-loop)
     → let k = blocking-turn c in
-    c .blocking-from .result ≡ blocking (rowsBelow (order (start k)) (k .before .loop .i))
+    c .blocking-below .result ≡ blocking (rowsBelow (order (start k)) (k .before .loop .i))
 blocked c =
     let k = blocking-turn c in
     let s = start k in
     let i = k .before .loop .i in
-    c .blocking-from .ensures
-    ∙ ap (λ (j : ℕ). blocking (rowsIn (s .args .rows .now) (drop j (take (s .args .n) (s .args .positions .now)))))
-    (add-one i)
+    c .blocking-below .ensures
     ∙ ap blocking (sym (rows-rest (s .args .rows .now) (suc i) (take (s .args .n) (s .args .positions .now))))
 
 -- its figures are those of the order's row between the others
@@ -78,7 +77,7 @@ figured : (c : tie.After-figures-under Inv-loop μ-loop)
     c .figures-under .result ≡ figuresUnder (rowAt o i) (rowsAbove o i) (rowsBelow o i)
 figured c =
     let k = turn c in
-    figures-found (k .before .loop .inv) (k .loop-test .taken) (row k) (placed k) _ (start k .pre .1 .0)
+    figures-found (k .before .loop .inv .0) (k .loop-test .taken) (row k) (placed k) _ (start k .pre .1 .0)
     (blocked (c .before)) (c .figures-under .ensures)
 
 -- the entry that is stored: the task is the row's, and the margin is as it was found
@@ -95,12 +94,17 @@ same-entry : (c : tie.After-struct-told Inv-loop μ-loop)
 same-entry c = ap₂ (entry-told c) (c .before .number-at .ensures) (toZ-ofZ (search needs))
 
 -- ---- loop and calls
+blocking-from-requires : tie.Need-blocking-from-requires Inv-loop μ-loop
+blocking-from-requires c κs = let s = c .before .before .before .before in (omega arith, s .pre .0 .held)
+
 loop-holds : tie.Need-loop-holds Inv-loop μ-loop
 loop-holds c =
-    let s = c .before .before .before .before in
-    starts (s .pre .0 .few)
-    (rows-long (s .args .rows .now) (s .args .positions .now) (s .args .n) (s .pre .0 .held .positions-held))
-    (s .pre .0 .in-range) (s .pre .1 .1)
+    let s = c .before .before .before .before .before in (
+      starts (s .pre .0 .few)
+          (rows-long (s .args .rows .now) (s .args .positions .now) (s .args .n) (s .pre .0 .held .positions-held))
+          (s .pre .0 .in-range) (s .pre .1 .1),
+      c .blocking-from .ensures,
+    )
 
 mul-row : tie.Need-mul-row Inv-loop μ-loop
 mul-row c = record { fits = omega (arith, start c .pre .0 .few, c .loop-test .taken) }
@@ -109,19 +113,15 @@ shared-slice-read-row : tie.Need-shared-slice-read-row Inv-loop μ-loop
 shared-slice-read-row c =
     let k = c .before in omega (arith, start k .pre .0 .held .positions-held, k .loop-test .taken)
 
-add-blocking-from : tie.Need-add-blocking-from Inv-loop μ-loop
-add-blocking-from c =
-    let k = c .before in record { fits = omega (arith, start k .pre .0 .few, k .loop-test .taken) }
-
-blocking-from-requires : tie.Need-blocking-from-requires Inv-loop μ-loop
-blocking-from-requires c κs =
-    let k = c .before in (omega (arith, k .loop-test .taken), start k .pre .0 .held)
+blocking-below-requires : tie.Need-blocking-below-requires Inv-loop μ-loop
+blocking-below-requires c κs =
+    let k = c .before in ((k .loop-test .taken, start k .pre .0 .held), k .before .loop .inv .1)
 
 figures-under-requires : tie.Need-figures-under-requires Inv-loop μ-loop
 figures-under-requires c κs =
     let k = blocking-turn c in (
       row-held k,
-      under-columns (k .before .loop .inv) (k .loop-test .taken) (row k) (placed k) (start k .pre .1 .0) (blocked c),
+      under-columns (k .before .loop .inv .0) (k .loop-test .taken) (row k) (placed k) (start k .pre .1 .0) (blocked c),
     )
 
 cast-rank : tie.Need-cast-rank Inv-loop μ-loop
@@ -133,13 +133,13 @@ add-rank c =
     let k = turn (c .before) in record { fits = omega (arith, start k .pre .0 .few, k .loop-test .taken) }
 
 same-length : tie.Need-same-length Inv-loop μ-loop
-same-length c = turn (c .before) .before .loop .inv .same
+same-length c = turn (c .before) .before .loop .inv .0 .same
 
 returns : tie.Need-returns Inv-loop μ-loop
 returns c =
     let k = turn (c .before) in
     let x = k .before .loop in
-    found-late (x .inv) (k .loop-test .taken) (row k) (placed k) _ (figured (c .before)) (c .if1 .taken) (x .i + 1)
+    found-late (x .inv .0) (k .loop-test .taken) (row k) (placed k) _ (figured (c .before)) (c .if1 .taken) (x .i + 1)
     (x .end) (add-one (x .i))
 
 number-at-requires : tie.Need-number-at-requires Inv-loop μ-loop
@@ -148,7 +148,7 @@ number-at-requires c κs = (row-held (turn (c .before)), omega arith)
 cast-task : tie.Need-cast-task Inv-loop μ-loop
 cast-task c =
     let k = turn (c .before .before) in
-    let ok = ap inRange (placed k) ∙ here-in-range (k .before .loop .inv) (k .loop-test .taken) in
+    let ok = ap inRange (placed k) ∙ here-in-range (k .before .loop .inv .0) (k .loop-test .taken) in
     record { fits = omega (arith, limits (row k) ok .task .le-high, c .number-at .ensures) }
 
 add-put-rank : tie.Need-add-put-rank Inv-loop μ-loop
@@ -162,7 +162,7 @@ put-rank-requires c κs =
     let f = told .before .before .before in
     let k = turn f in
     let x = k .before .loop in
-    rank-fits (x .inv) (k .loop-test .taken) (row k) (placed k) _ (figured f) (told .before .before .if1 .left)
+    rank-fits (x .inv .0) (k .loop-test .taken) (row k) (placed k) _ (figured f) (told .before .before .if1 .left)
     (x .i + 1) (add-one (x .i)) _ (same-entry told)
 
 add-i : tie.Need-add-i Inv-loop μ-loop
@@ -180,14 +180,19 @@ loop-again c =
     let f = told .before .before .before in
     let k = turn f in
     let x = k .before .loop in
-    turned (x .inv) (k .loop-test .taken) (row k) (placed k) _ (figured f) (told .before .before .if1 .left) (x .i + 1)
-    (add-one (x .i)) _ (same-entry told) (put .put-rank .ensures) (x .i + 1) (add-one (x .i))
+    let a = start k .args in (
+      turned (x .inv .0) (k .loop-test .taken) (row k) (placed k) _ (figured f) (told .before .before .if1 .left)
+          (x .i + 1) (add-one (x .i)) _ (same-entry told) (put .put-rank .ensures) (x .i + 1) (add-one (x .i)),
+      f .before .blocking-below .ensures
+          ∙ ap (λ (j : ℕ). blocking (rowsIn (a .rows .now) (drop j (take (a .n) (a .positions .now)))))
+          (sym (add-one (x .i))),
+    )
 
 same-length-2 : tie.Need-same-length-2 Inv-loop μ-loop
-same-length-2 c = c .before .loop .inv .same
+same-length-2 c = c .before .loop .inv .0 .same
 
 returns-2 : tie.Need-returns-2 Inv-loop μ-loop
-returns-2 c = finished (c .before .loop .inv) (c .loop-test .left)
+returns-2 c = finished (c .before .loop .inv .0) (c .loop-test .left)
 
 pub put-ranks-spec : {M : Type 1} → statement M
 put-ranks-spec =
@@ -195,11 +200,11 @@ put-ranks-spec =
     (tie.spec
     Inv-loop
     μ-loop
+    blocking-from-requires
     loop-holds
     mul-row
     shared-slice-read-row
-    add-blocking-from
-    blocking-from-requires
+    blocking-below-requires
     figures-under-requires
     cast-rank
     add-rank
