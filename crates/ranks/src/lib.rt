@@ -100,7 +100,8 @@ fn review_text(text: &[u8], out: &mut [u8], numbers: &mut [u64]) -> Answer
     plan_tasks(out, board, rows, n, order)
 }
 
-// The reviewer: the figures of the order that a text's rank lines give, with room as the planner has it.
+// The reviewer: the figures of the order that a text's rank lines give, with room in more lengths: it reads, and hardly
+// computes.
 pub fn review_order(text: &[u8], out: &mut [u8]) -> Answer
     ensures { λ r. ⌜ ReviewSays (now (text .entry)) (now (out .entry)) (now (out .exit)) r ⌝ }
 {

@@ -225,6 +225,7 @@ impl Stand {
             Part::Switch => rows_next(self.ranked, 0, self.left),
             Part::Row => self.after_field(last),
             Part::Rank => ranks_next(self.ranked, self.count, self.position + 1, self.left),
+            // Made anew: if it were handed on, all of it would be copied at every line.
             Part::End => Stand {
                 part: Part::End,
                 ranked: self.ranked,
