@@ -68,7 +68,7 @@ fn put_ranks(
 {
     let mut end = at;
     let mut i = 0;
-    // The blocking time of the rows from rank i on, and then of those below it.
+    // The blocking time of the rows from index i on, and then of those behind it.
     let mut blocked = blocking_from(rows, positions, 0, n);
     while i < n {
         let row = positions[i];

@@ -27,7 +27,7 @@ pub const HEAD_SWITCH: usize = 2;
 // Room for the numbers of the longest table with its ranks.
 pub const MOST_NUMBERS: usize = HEAD + FIELDS * MAX_TASKS + MAX_TASKS;
 
-// The fewest bytes of a row's lines: eight lines of seven bytes.
+// A row's lines have at least so many bytes: eight lines of seven.
 pub const ROW_BYTES: usize = 56;
 
 // How many numbers are room enough for the table of a short text, and of longer ones.

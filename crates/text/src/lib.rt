@@ -43,7 +43,7 @@ enum Digits {
     Malformed,
 }
 
-// The most digits of a number, and the byte of the lowest.
+// The most digits of a number, and the byte of the digit 0.
 const MAX_DIGITS: usize = 12;
 
 const ZERO: u64 = b'0' as u64;
@@ -124,7 +124,7 @@ fn feed_at(s: &[u8], at: usize) -> bool
     false
 }
 
-// A line that is its front's digits as a number: one digit is, and several are if they don't begin with 0.
+// A line that is its front's digits as a number: one digit is, and up to twelve are if they don't begin with 0.
 fn number_of(s: &[u8], front: Front) -> Digits
     requires { ⌜ Fronts (now s) front × (length (lineOf (now s)) ≡ front .size) ⌝ }
     ensures { λ r. ⌜ r ≡ numberOf (lineOf (now (s .entry))) ⌝ }
@@ -144,7 +144,7 @@ fn number_of(s: &[u8], front: Front) -> Digits
     Digits::Value(front.value)
 }
 
-// What a line answers that goes on behind its digits: it is no number, or it has no end.
+// What a line answers that has no feed behind its digits: it is no number, or it has no end.
 fn goes_on(s: &[u8], line: u32) -> Line
     ensures { λ r. ⌜ r ≡ unread (now (s .entry)) line ⌝ }
 {
@@ -154,8 +154,8 @@ fn goes_on(s: &[u8], line: u32) -> Line
     Line::Refused(MISSING, line)
 }
 
-// The line that begins at an offset: a key, a number in its range, and a line feed. What is no longer than its key has no
-// feed. As neither key nor digits have one, they are passed first, and it is sought only behind them.
+// The line that begins at an offset: a key, a number in its range, and a line feed. What is no longer than the key does
+// not hold it and a feed. As neither key nor digits have a feed, they are passed first, and it is sought only behind them.
 pub fn line_at(text: &[u8], offset: usize, line: u32, key: &[u8], low: u64, high: u64) -> Line
     requires { ⌜ isIn lineFeed (now key) ≡ false ⌝ }
     ensures { λ r. ⌜ r ≡ lineAt (now (key .entry)) low high (now (text .entry)) offset line ⌝ }

@@ -20,7 +20,7 @@ mostNumbers = headCount + fieldCount * maxTasks + maxTasks
 abbrev pub lineBytes : ℕ
 lineBytes = 7
 
--- and of a row, which has room for the numbers of the most points, and at least the lines of none
+-- a row has at least so many: the lines of no points, though it has room for the numbers of the most
 abbrev pub rowBytes : ℕ
 rowBytes = lineBytes * linesFor minPoints
 

@@ -1,4 +1,4 @@
--- Promised between functions: the digits at the front of a text, and what a line answers that goes on behind them.
+-- Promised between functions: the digits at the front of a text, and what a line answers that has no feed behind them.
 use mathlib.Core.Path.{_≡_}
 use mathlib.Core.Bool.{false}
 use mathlib.Core.List.{List}
