@@ -29,7 +29,7 @@ OTHER = {
 
 KIT = os.environ.get("RATTLE_KIT", "/opt/rattle") + "/rattle"
 WORD = re.compile(r"(?<![\w'\-.])[^\W\d_][\w']*(?:-[\w'+]+)*")
-NAMES = re.compile(r"^(\s*)((?:(?:abbrev|unfoldable|pub|opaque|private)\s+)*)([^\s:(){}=\[\];,|]+(?:\s+[^\s:(){}=\[\];,|]+)*)\s*:\s+(.*)$")
+NAMES = re.compile(r"^(\s*)((?:(?:abbrev|unfoldable|pub|opaque|private)\s+)*)([^\s:(){}=\[\];,|]+(?:\s+[^\s:(){}=\[\];,|]+)*)\s*:(?:\s+(.*))?$")
 
 
 def snake(name):
@@ -63,7 +63,7 @@ def defined(p, text):
         if line.lstrip().startswith("--"):
             continue
         m = NAMES.match(line)
-        if m and not m.group(4).startswith(("tie.Need-", "tie.invariant", "tie.decreases")):
+        if m and not (m.group(4) or "").startswith(("tie.Need-", "tie.invariant", "tie.decreases")):
             yield from m.group(3).split()
         # names that `let`, λ and arguments bind
         for b in re.findall(r"\blet ([^\W\d][\w'\-]*) (?::|=)", line):
@@ -109,7 +109,7 @@ def main():
         if p.endswith(".antt"):
             for d in defined(p, texts[p]):
                 s = snake(d)
-                if (s != d or d in OTHER) and d[0].islower() and d not in kit:
+                if d in OTHER or (s != d and d[0].islower() and d not in kit):
                     names[d] = OTHER.get(d, s)
     # a lemma or a field that would have its definition's name
     camel = {snake(d) for d in names if "-" not in d and snake(d) != d}

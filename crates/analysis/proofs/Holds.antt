@@ -7,37 +7,37 @@ use native.Mathlib.Omega.{arith}
 use lib.ListN.{length, get_or, take, drop, drop_of_length-le, length-take}
 use lib.Seq.{drop-cons, length-take-le, get_or-take}
 use Rattle.basics.specs.Basics.{larger}
-use Rattle.basics.proofs.Numbers.{larger-right}
-use Rattle.rows.specs.inside.Numbers.{row_in, rowsIn}
-use Rattle.responses.specs.Figures.{largestHold, blocking}
-use Rattle.responses.proofs.Blocking.{blocking-is}
+use Rattle.basics.proofs.Numbers.{larger_right}
+use Rattle.rows.specs.inside.Numbers.{row_in, rows_in}
+use Rattle.responses.specs.Figures.{largest_hold, blocking}
+use Rattle.responses.proofs.Blocking.{blocking_is}
 
 module _ (ns ps : List ℕ) (n : ℕ) where
-  abbrev largestFrom : ℕ → ℕ
-  largestFrom k = largestHold (rowsIn ns (drop k (take n ps)))
+  abbrev largest_from : ℕ → ℕ
+  largest_from k = largest_hold (rows_in ns (drop k (take n ps)))
 
-  pub holds-none : largestFrom n ≡ 0
-  holds-none =
-      ap (λ (qs : List ℕ). largestHold (rowsIn ns qs))
+  pub holds_none : largest_from n ≡ 0
+  holds_none =
+      ap (λ (qs : List ℕ). largest_hold (rows_in ns qs))
       (drop_of_length-le (take n ps) {i = n} (omega (arith, length-take n ps)))
 
-  pub hold-more : (k : ℕ) → k < n → n ≤ length ps
-      → largestFrom k ≡ larger (row_in ns (get_or ps k 0)).hold (largestFrom (suc k))
-  hold-more k l h =
-      ap (λ (qs : List ℕ). largestHold (rowsIn ns qs))
+  pub hold_more : (k : ℕ) → k < n → n ≤ length ps
+      → largest_from k ≡ larger (row_in ns (get_or ps k 0)).hold (largest_from (suc k))
+  hold_more k l h =
+      ap (λ (qs : List ℕ). largest_hold (rows_in ns qs))
       (drop-cons (take n ps) k 0 (omega (arith, length-take-le n ps h)))
-      ∙ ap (λ (p : ℕ). larger (row_in ns p).hold (largestFrom (suc k))) (get_or-take n ps k 0 l)
+      ∙ ap (λ (p : ℕ). larger (row_in ns p).hold (largest_from (suc k))) (get_or-take n ps k 0 l)
 
   -- with nothing to wait for from an index on, there is nothing behind it
-  pub none-behind : (k : ℕ) → k < n → n ≤ length ps → blocking (rowsIn ns (drop k (take n ps))) ≡ 0
-      → blocking (rowsIn ns (drop (suc k) (take n ps))) ≡ 0
-  none-behind k l h e =
-      let more = larger-right (row_in ns (get_or ps k 0)).hold (largestFrom (suc k)) in
-      let here = sym (blocking-is (rowsIn ns (drop k (take n ps)))) ∙ e in
-      blocking-is (rowsIn ns (drop (suc k) (take n ps))) ∙ omega (arith, more, hold-more k l h, here)
+  pub none_behind : (k : ℕ) → k < n → n ≤ length ps → blocking (rows_in ns (drop k (take n ps))) ≡ 0
+      → blocking (rows_in ns (drop (suc k) (take n ps))) ≡ 0
+  none_behind k l h e =
+      let more = larger_right (row_in ns (get_or ps k 0)).hold (largest_from (suc k)) in
+      let here = sym (blocking_is (rows_in ns (drop k (take n ps)))) ∙ e in
+      blocking_is (rows_in ns (drop (suc k) (take n ps))) ∙ omega (arith, more, hold_more k l h, here)
 
 -- the rows from an index on are those at the positions from there on
-pub rows-rest : (ns : List ℕ) (k : ℕ) (ps : List ℕ) → drop k (rowsIn ns ps) ≡ rowsIn ns (drop k ps)
-rows-rest ns zero ps = refl
-rows-rest ns (suc k) [] = refl
-rows-rest ns (suc k) (p ∷ ps) = rows-rest ns k ps
+pub rows_rest : (ns : List ℕ) (k : ℕ) (ps : List ℕ) → drop k (rows_in ns ps) ≡ rows_in ns (drop k ps)
+rows_rest ns zero ps = refl
+rows_rest ns (suc k) [] = refl
+rows_rest ns (suc k) (p ∷ ps) = rows_rest ns k ps

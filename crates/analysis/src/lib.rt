@@ -3,12 +3,12 @@
 ghost use Rattle.std.specs.Prelude.{◌≡◌, true, suc, ◌+◌, ◌-◌, ◌*◌, ◌≤◌, ◌<◌, length, take, drop};
 ghost use Rattle.std.proofs.Math.IntN.{sub_ℕ};
 ghost use Rattle.basics.specs.Basics.{pick};
-ghost use Rattle.rows.specs.Rows.{maxTicks, maxAlpha, maxBeta, in_range, timesInRange};
-ghost use Rattle.responses.specs.Interference.{interference, largestFixed};
-ghost use Rattle.responses.specs.Figures.{blocking, mayHold, marginAt, lateFigures};
-ghost use Rattle.rows.specs.inside.Numbers.{fieldCount, row_in, rowsIn};
-ghost use Rattle.fixed_points.specs.inside.Loads.{loads, columnsMax, Columns};
-ghost use Rattle.analysis.specs.inside.Columns.{withTimes, Filled, Among, Fillable, UnderColumns, FiguresIn};
+ghost use Rattle.rows.specs.Rows.{max_ticks, max_alpha, max_beta, in_range, times_in_range};
+ghost use Rattle.responses.specs.Interference.{interference, largest_fixed};
+ghost use Rattle.responses.specs.Figures.{blocking, may_hold, margin_at, late_figures};
+ghost use Rattle.rows.specs.inside.Numbers.{field_count, row_in, rows_in};
+ghost use Rattle.fixed_points.specs.inside.Loads.{loads, columns_max, Columns};
+ghost use Rattle.analysis.specs.inside.Columns.{with_times, Filled, Among, Fillable, UnderColumns, FiguresIn};
 
 use basics::larger;
 use curves::curve_margin;
@@ -21,7 +21,7 @@ const LEAST_HOLD: u64 = 2;
 
 // Of a row that is late: nothing but that.
 fn late_figures() -> Figures
-    ensures { result ≡ lateFigures }
+    ensures { result ≡ late_figures }
 {
     Figures {
         figured: true,
@@ -36,7 +36,7 @@ fn late_figures() -> Figures
 
 // How far responses are inside the stability line of alpha and beta.
 fn line_margin(alpha: u64, beta: u64, latest: u64, earliest: u64) -> i64
-    requires { (alpha ≤ maxAlpha) × (beta ≤ maxBeta) × (latest ≤ maxTicks) × (earliest ≤ latest) }
+    requires { (alpha ≤ max_alpha) × (beta ≤ max_beta) × (latest ≤ max_ticks) × (earliest ≤ latest) }
     ensures { result ≡ sub_ℕ beta (1000 * earliest + alpha * (latest - earliest)) }
 {
     let used = 1000 * earliest + alpha * (latest - earliest);
@@ -45,9 +45,9 @@ fn line_margin(alpha: u64, beta: u64, latest: u64, earliest: u64) -> i64
 
 // How far responses of row i are inside its stability condition: that of its curve, or with no points its line.
 pub fn margin(rows: &[u64], i: usize, latest: u64, earliest: u64) -> i64
-    requires { (fieldCount * suc i ≤ length rows.now) × (in_range (row_in rows.now i) ≡ true)
-        × (latest ≤ maxTicks) × (earliest ≤ latest) }
-    ensures { result ≡ marginAt (row_in rows.now i) latest earliest }
+    requires { (field_count * suc i ≤ length rows.now) × (in_range (row_in rows.now i) ≡ true)
+        × (latest ≤ max_ticks) × (earliest ≤ latest) }
+    ensures { result ≡ margin_at (row_in rows.now i) latest earliest }
 {
     let points = number_at(rows, i, POINTS);
     if points == 0 {
@@ -62,11 +62,11 @@ pub fn margin(rows: &[u64], i: usize, latest: u64, earliest: u64) -> i64
 // The earliest response of row i, whose latest is known, under the first n tasks of the columns: in a stretch of its own
 // none of them counts.
 fn earliest(rows: &[u64], i: usize, latest: u64, periods: &[u64], bests: &[u64], n: usize) -> u64
-    requires { (fieldCount * suc i ≤ length rows.now) × (in_range (row_in rows.now i) ≡ true)
-        × (latest ≤ maxTicks) × Columns n periods.now bests.now
+    requires { (field_count * suc i ≤ length rows.now) × (in_range (row_in rows.now i) ≡ true)
+        × (latest ≤ max_ticks) × Columns n periods.now bests.now
         × ((row_in rows.now i).best + interference 1 latest (loads n periods.now bests.now) ≤ latest) }
-    ensures { let t = row_in rows.now i in result ≡ pick (mayHold t) t.best
-        (largestFixed t.best latest (loads n periods.now bests.now)) }
+    ensures { let t = row_in rows.now i in result ≡ pick (may_hold t) t.best
+        (largest_fixed t.best latest (loads n periods.now bests.now)) }
 {
     let best = number_at(rows, i, BEST);
     if LEAST_HOLD <= hold_at(rows, i) {
@@ -88,7 +88,7 @@ pub fn blocking_time(largest: u64) -> u64
 // The blocking time of the rows at the positions from an index up to n.
 pub fn blocking_from(rows: &[u64], positions: &[usize], from: usize, n: usize) -> u64
     requires { (from ≤ n) × Among rows.now positions.now n }
-    ensures { result ≡ blocking (rowsIn rows.now (drop from (take n positions.now))) }
+    ensures { result ≡ blocking (rows_in rows.now (drop from (take n positions.now))) }
 {
     let mut largest = 0;
     let mut k = n;
@@ -102,8 +102,8 @@ pub fn blocking_from(rows: &[u64], positions: &[usize], from: usize, n: usize) -
 // The blocking time of the rows below the one at an index, by that of all from it on: where that is 0, so is this.
 pub fn blocking_below(rows: &[u64], positions: &[usize], i: usize, n: usize, blocked: u64) -> u64
     requires i_lt_n { (i < n) × Among rows.now positions.now n }
-    requires blocked_value { blocked ≡ blocking (rowsIn rows.now (drop i (take n positions.now))) }
-    ensures { result ≡ blocking (rowsIn rows.now (drop (suc i) (take n positions.now))) }
+    requires blocked_value { blocked ≡ blocking (rows_in rows.now (drop i (take n positions.now))) }
+    ensures { result ≡ blocking (rows_in rows.now (drop (suc i) (take n positions.now))) }
 {
     if blocked == 0 {
         return 0;
@@ -113,9 +113,9 @@ pub fn blocking_below(rows: &[u64], positions: &[usize], i: usize, n: usize, blo
 
 // The times of row i, the numbers of it that figures take, are put at index k of three columns of n numbers.
 pub fn put_times(rows: &[u64], i: usize, columns: &mut [u64], n: usize, k: usize)
-    requires { (fieldCount * suc i ≤ length rows.now) × (timesInRange (row_in rows.now i) ≡ true)
-        × (k < n) × (n ≤ columnsMax) × (3 * n ≤ length columns.old) }
-    ensures { columns.new ≡ withTimes columns.old n k (row_in rows.now i) }
+    requires { (field_count * suc i ≤ length rows.now) × (times_in_range (row_in rows.now i) ≡ true)
+        × (k < n) × (n ≤ columns_max) × (3 * n ≤ length columns.old) }
+    ensures { columns.new ≡ with_times columns.old n k (row_in rows.now i) }
 {
     columns[k] = number_at(rows, i, PERIOD);
     columns[n + k] = cost_at(rows, i);
@@ -125,7 +125,7 @@ pub fn put_times(rows: &[u64], i: usize, columns: &mut [u64], n: usize, k: usize
 // The columns of the rows at n positions. What stands past them is left open.
 pub fn fill_columns(rows: &[u64], positions: &[usize], n: usize, columns: &mut [u64])
     requires { Fillable rows.now positions.now n columns.old }
-    ensures { Filled (rowsIn rows.now (take n positions.now)) n n columns.new }
+    ensures { Filled (rows_in rows.now (take n positions.now)) n n columns.new }
 {
     let mut k = 0;
     while k < n {
@@ -143,7 +143,7 @@ pub fn figures_under(
     n: usize,
     k: usize,
 ) -> Figures
-    requires { (fieldCount * suc i ≤ length rows.now)
+    requires { (field_count * suc i ≤ length rows.now)
         × UnderColumns (row_in rows.now i) blocked columns.now n k }
     ensures { FiguresIn (row_in rows.now i) blocked columns.now n k result }
 {

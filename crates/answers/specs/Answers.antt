@@ -11,4 +11,4 @@ answered r answer =
 pub record Answers (Says : Answer → Type 0) (answer answer' : List ℕ) : Type 0 where
   pub result : Answer
   pub says : Says result
-  pub answer-is : answer' ≡ answered result answer
+  pub answer_is : answer' ≡ answered result answer

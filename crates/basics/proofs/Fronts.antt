@@ -8,11 +8,11 @@ use lib.ListN.{length, get_or, take, drop, length-take, drop_of_length-le}
 use lib.Seq.{drop-cons, get_or-take, length-take-le}
 
 module _ {A : Type 0} (xs : List A) (n i : ℕ) where
-  pub left-none : n ≤ i → drop i (take n xs) ≡ []
-  left-none h = drop_of_length-le (take n xs) {i = i} (omega (arith, length-take n xs))
+  pub left_none : n ≤ i → drop i (take n xs) ≡ []
+  left_none h = drop_of_length-le (take n xs) {i = i} (omega (arith, length-take n xs))
 
   module _ (d : A) (h : i < n) (l : n ≤ length xs) where
-    pub left-next : drop i (take n xs) ≡ get_or xs i d ∷ drop (suc i) (take n xs)
-    left-next =
+    pub left_next : drop i (take n xs) ≡ get_or xs i d ∷ drop (suc i) (take n xs)
+    left_next =
         drop-cons (take n xs) i d (omega (arith, length-take-le n xs l))
         ∙ ap (λ (x : A). x ∷ drop (suc i) (take n xs)) (get_or-take n xs i d h)

@@ -9,26 +9,26 @@ use borrow.Author.Tests.{leb-true, leb-false}
 use Rattle.basics.specs.Basics.{larger}
 use Rattle.basics.proofs.Tests.{test_of}
 
-pub larger-left : (a b : ℕ) → a ≤ larger a b
-larger-left a b = elim (test_of (leb a b)) [ inl e ↦ rw e (leb-true a b e) | inr e ↦ rw e (omega arith) ]
+pub larger_left : (a b : ℕ) → a ≤ larger a b
+larger_left a b = elim (test_of (leb a b)) [ inl e ↦ rw e (leb-true a b e) | inr e ↦ rw e (omega arith) ]
 
-pub larger-right : (a b : ℕ) → b ≤ larger a b
-larger-right a b =
+pub larger_right : (a b : ℕ) → b ≤ larger a b
+larger_right a b =
     elim (test_of (leb a b)) [ inl e ↦ rw e (omega arith) | inr e ↦ rw e (omega (arith, leb-false a b e)) ]
 
 -- it is one of the two
-pub larger-either : (a b : ℕ) → (larger a b ≡ a) ⊎ (larger a b ≡ b)
-larger-either a b = elim (test_of (leb a b)) [ inl e ↦ inr (rw e) | inr e ↦ inl (rw e) ]
+pub larger_either : (a b : ℕ) → (larger a b ≡ a) ⊎ (larger a b ≡ b)
+larger_either a b = elim (test_of (leb a b)) [ inl e ↦ inr (rw e) | inr e ↦ inl (rw e) ]
 
-pub larger-most : (a b x : ℕ) → a ≤ x → b ≤ x → larger a b ≤ x
-larger-most a b x h k = elim (test_of (leb a b)) [ inl e ↦ rw e k | inr e ↦ rw e h ]
+pub larger_most : (a b x : ℕ) → a ≤ x → b ≤ x → larger a b ≤ x
+larger_most a b x h k = elim (test_of (leb a b)) [ inl e ↦ rw e k | inr e ↦ rw e h ]
 
-under-swapped : (a b c : ℕ) → larger a (larger b c) ≤ larger b (larger a c)
-under-swapped a b c =
+under_swapped : (a b c : ℕ) → larger a (larger b c) ≤ larger b (larger a c)
+under_swapped a b c =
     let x = larger b (larger a c) in
-    let rest = larger-right b (larger a c) in
-    larger-most a (larger b c) x (le_trans (larger-left a c) rest)
-    (larger-most b c x (larger-left b (larger a c)) (le_trans (larger-right a c) rest))
+    let rest = larger_right b (larger a c) in
+    larger_most a (larger b c) x (le_trans (larger_left a c) rest)
+    (larger_most b c x (larger_left b (larger a c)) (le_trans (larger_right a c) rest))
 
-pub larger-swap : (a b c : ℕ) → larger a (larger b c) ≡ larger b (larger a c)
-larger-swap a b c = le_antisymm (under-swapped a b c) (under-swapped b a c)
+pub larger_swap : (a b c : ℕ) → larger a (larger b c) ≡ larger b (larger a c)
+larger_swap a b c = le_antisymm (under_swapped a b c) (under_swapped b a c)

@@ -7,18 +7,18 @@ use Prim.Native.Nat.{ℕ, ◌≤◌, ◌<◌}
 use native.Mathlib.Omega.{arith}
 use lib.Dec.{leb, eqb}
 use borrow.Author.Tests.{leb-true, leb-false, le-leb, eqb-false, ne_eqb, not-true}
-use Rattle.basics.specs.Basics.{pick, within, isIn, distinct}
+use Rattle.basics.specs.Basics.{pick, within, is_in, distinct}
 
 -- a test's value with its equation
 pub test_of : (b : Bool) → (b ≡ true) ⊎ (b ≡ false)
 test_of true = inl refl
 test_of false = inr refl
 
-pub true-not-false : (b : Bool) → b ≡ true → b ≡ false → ⊥
-true-not-false b p q = let z : ◌≡◌ {A = ℕ} 0 1 = cc in omega arith
+pub true_not_false : (b : Bool) → b ≡ true → b ≡ false → ⊥
+true_not_false b p q = let z : ◌≡◌ {A = ℕ} 0 1 = cc in omega arith
 
 pub never : {A : Type 0} → false ≡ true → A
-never e = absurd (true-not-false false e refl)
+never e = absurd (true_not_false false e refl)
 
 pub false_of : (b : Bool) → (b ≡ true → ⊥) → b ≡ false
 false_of true h = absurd (h refl)
@@ -31,7 +31,7 @@ and_left false b e = e
 
 pub and_right : (a b : Bool) → (a && b) ≡ true → b ≡ true
 and_right true b e = e
-and_right false b e = absurd (true-not-false false e refl)
+and_right false b e = absurd (true_not_false false e refl)
 
 pub and_both : (a b : Bool) → a ≡ true → b ≡ true → (a && b) ≡ true
 and_both a b p q = rw (p, q)
@@ -40,18 +40,18 @@ pub or_cases : (a b : Bool) → (a || b) ≡ true → (a ≡ true) ⊎ (b ≡ tr
 or_cases true b e = inl refl
 or_cases false b e = inr e
 
-pub or-neither : (a b : Bool) → (a || b) ≡ false → (a ≡ false) × (b ≡ false)
-or-neither true b e = absurd (true-not-false true refl e)
-or-neither false b e = (refl, e)
+pub or_neither : (a b : Bool) → (a || b) ≡ false → (a ≡ false) × (b ≡ false)
+or_neither true b e = absurd (true_not_false true refl e)
+or_neither false b e = (refl, e)
 
 pub or_right : (a b : Bool) → b ≡ true → (a || b) ≡ true
 or_right true b e = refl
 or_right false b e = e
 
 -- ---- a test that refuses by a number, 0 for none: what was not refused has passed
-pub not-refused : (b : Bool) (n : ℕ) → 0 < n → pick b n 0 ≡ 0 → b ≡ false
-not-refused true n some e = absurd (omega arith)
-not-refused false n some e = refl
+pub not_refused : (b : Bool) (n : ℕ) → 0 < n → pick b n 0 ≡ 0 → b ≡ false
+not_refused true n some e = absurd (omega arith)
+not_refused false n some e = refl
 
 pub let_through : (b : Bool) (n : ℕ) → 0 < n → pick b 0 n ≡ 0 → b ≡ true
 let_through true n some e = refl
@@ -62,43 +62,43 @@ pub le-or-lt : (a b : ℕ) → (a ≤ b) ⊎ (b < a)
 le-or-lt a b = elim (test_of (leb a b)) [ inl e ↦ inl (leb-true a b e) | inr e ↦ inr (leb-false a b e) ]
 
 pub record Within (low high value : ℕ) : Type 0 where
-  pub low-le : low ≤ value
-  pub le-high : value ≤ high
+  pub low_le : low ≤ value
+  pub le_high : value ≤ high
 
-pub within-true : (low high value : ℕ) → within low high value ≡ true → Within low high value
-within-true low high value e = record {
-  low-le = leb-true low value (and_left (leb low value) (leb value high) e);
-  le-high = leb-true value high (and_right (leb low value) (leb value high) e);
+pub within_true : (low high value : ℕ) → within low high value ≡ true → Within low high value
+within_true low high value e = record {
+  low_le = leb-true low value (and_left (leb low value) (leb value high) e);
+  le_high = leb-true value high (and_right (leb low value) (leb value high) e);
 }
 
-pub true-within : (low high value : ℕ) → low ≤ value → value ≤ high → within low high value ≡ true
-true-within low high value l h = simp (le-leb low value l, le-leb value high h)
+pub true_within : (low high value : ℕ) → low ≤ value → value ≤ high → within low high value ≡ true
+true_within low high value l h = simp (le-leb low value l, le-leb value high h)
 
 pub eqb_swap : (x y : ℕ) → eqb x y ≡ false → eqb y x ≡ false
 eqb_swap x y e = ne_eqb y x (λ h. eqb-false x y e (sym h))
 
 -- ---- lists
-pub in-append : (x : ℕ) (s t : List ℕ) → isIn x (s ++ t) ≡ (isIn x s || isIn x t)
-in-append x [] t = refl
-in-append x (y ∷ s) t = elim (test_of (eqb x y)) [ inl e ↦ rw e | inr e ↦ rw e (in-append x s t) ]
+pub in_append : (x : ℕ) (s t : List ℕ) → is_in x (s ++ t) ≡ (is_in x s || is_in x t)
+in_append x [] t = refl
+in_append x (y ∷ s) t = elim (test_of (eqb x y)) [ inl e ↦ rw e | inr e ↦ rw e (in_append x s t) ]
 
-pub in-front : (x : ℕ) (s t : List ℕ) → isIn x s ≡ true → isIn x (s ++ t) ≡ true
-in-front x s t h = in-append x s t ∙ ap (λ b. b || isIn x t) h
+pub in_front : (x : ℕ) (s t : List ℕ) → is_in x s ≡ true → is_in x (s ++ t) ≡ true
+in_front x s t h = in_append x s t ∙ ap (λ b. b || is_in x t) h
 
-pub distinct-last : (xs : List ℕ) (x : ℕ) → distinct xs ≡ true → isIn x xs ≡ false → distinct (xs ++ (x ∷ [])) ≡ true
-distinct-last [] x e h = refl
-distinct-last (y ∷ xs) x e h =
-    let new = not-true (isIn y xs) (and_left (not (isIn y xs)) (distinct xs) e) in
-    let o = or-neither (eqb x y) (isIn x xs) h in
-    rw (in-append y xs (x ∷ []), new, eqb_swap x y o.0)
-    (distinct-last xs x (and_right (not (isIn y xs)) (distinct xs) e) o.1)
+pub distinct_last : (xs : List ℕ) (x : ℕ) → distinct xs ≡ true → is_in x xs ≡ false → distinct (xs ++ (x ∷ [])) ≡ true
+distinct_last [] x e h = refl
+distinct_last (y ∷ xs) x e h =
+    let new = not-true (is_in y xs) (and_left (not (is_in y xs)) (distinct xs) e) in
+    let o = or_neither (eqb x y) (is_in x xs) h in
+    rw (in_append y xs (x ∷ []), new, eqb_swap x y o.0)
+    (distinct_last xs x (and_right (not (is_in y xs)) (distinct xs) e) o.1)
 
 -- among different numbers, one is none of those before it
-pub distinct-before : (xs : List ℕ) (x : ℕ) (ys : List ℕ) → distinct (xs ++ (x ∷ ys)) ≡ true → isIn x xs ≡ false
-distinct-before [] x ys h = refl
-distinct-before (y ∷ xs) x ys h =
+pub distinct_before : (xs : List ℕ) (x : ℕ) (ys : List ℕ) → distinct (xs ++ (x ∷ ys)) ≡ true → is_in x xs ≡ false
+distinct_before [] x ys h = refl
+distinct_before (y ∷ xs) x ys h =
     let all = xs ++ (x ∷ ys) in
-    let other = not-true (isIn y all) (and_left (not (isIn y all)) (distinct all) h) in
-    let behind = (or-neither (isIn y xs) (isIn y (x ∷ ys)) (sym (in-append y xs (x ∷ ys)) ∙ other)).1 in
-    rw (eqb_swap y x (or-neither (eqb y x) (isIn y ys) behind).0)
-    (distinct-before xs x ys (and_right (not (isIn y all)) (distinct all) h))
+    let other = not-true (is_in y all) (and_left (not (is_in y all)) (distinct all) h) in
+    let behind = (or_neither (is_in y xs) (is_in y (x ∷ ys)) (sym (in_append y xs (x ∷ ys)) ∙ other)).1 in
+    rw (eqb_swap y x (or_neither (eqb y x) (is_in y ys) behind).0)
+    (distinct_before xs x ys (and_right (not (is_in y all)) (distinct all) h))

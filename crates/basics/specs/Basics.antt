@@ -17,11 +17,11 @@ sum_to (suc n) f = f 0 + sum_to n (λ j. f (suc j))
 abbrev pub within : ℕ → ℕ → ℕ → Bool
 within low high value = leb low value && leb value high
 
-abbrev pub isIn : ℕ → List ℕ → Bool
-isIn x [] = false
-isIn x (y ∷ ys) = eqb x y || isIn x ys
+abbrev pub is_in : ℕ → List ℕ → Bool
+is_in x [] = false
+is_in x (y ∷ ys) = eqb x y || is_in x ys
 
 -- no number twice
 abbrev pub distinct : List ℕ → Bool
 distinct [] = true
-distinct (x ∷ xs) = not (isIn x xs) && distinct xs
+distinct (x ∷ xs) = not (is_in x xs) && distinct xs

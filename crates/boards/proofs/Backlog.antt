@@ -9,7 +9,7 @@ use lib.Dec.{leb}
 use borrow.Author.Tests.{leb-true, leb-false}
 use Rattle.basics.proofs.Tests.{test_of}
 use Rattle.boards.specs.Boards.{Job, worked}
-use Rattle.boards.proofs.Releases.{needed, needed-grows}
+use Rattle.boards.proofs.Releases.{needed, needed_grows}
 
 -- job k is released at `at k` and needs `need k` ticks
 module _ (at need : ℕ → ℕ) where
@@ -32,19 +32,19 @@ module _ (at need : ℕ → ℕ) where
   Backlog a x (j ∷ q) = Oldest a x j q
 
   -- ---- a release
-  waiting-release : (k a : ℕ) (q : List Job) (j : Job) → j.release ≡ at a → j.needs ≡ need a
+  waiting_release : (k a : ℕ) (q : List Job) (j : Job) → j.release ≡ at a → j.needs ≡ need a
       → Waiting k a q → Waiting k (suc a) (q ++ (j ∷ []))
-  waiting-release k a [] j r n w = let e : k ≡ a = w in rw e (r, n, refl)
-  waiting-release k a (x ∷ q) j r n w = (w.0, w.1, waiting-release (suc k) a q j r n w.2)
+  waiting_release k a [] j r n w = let e : k ≡ a = w in rw e (r, n, refl)
+  waiting_release k a (x ∷ q) j r n w = (w.0, w.1, waiting_release (suc k) a q j r n w.2)
 
-  waiting-under : (k a : ℕ) (q : List Job) → Waiting k a q → k ≤ a
-  waiting-under k a [] w = omega arith
-  waiting-under k a (x ∷ q) w = omega (arith, waiting-under (suc k) a q w.2)
+  waiting_under : (k a : ℕ) (q : List Job) → Waiting k a q → k ≤ a
+  waiting_under k a [] w = omega arith
+  waiting_under k a (x ∷ q) w = omega (arith, waiting_under (suc k) a q w.2)
 
   module _ (some : (k : ℕ) → 1 ≤ need k) where
-    pub backlog-release : (a x : ℕ) (q : List Job) (j : Job) → j.release ≡ at a → j.needs ≡ need a
+    pub backlog_release : (a x : ℕ) (q : List Job) (j : Job) → j.release ≡ at a → j.needs ≡ need a
         → Backlog a x q → Backlog (suc a) x (q ++ (j ∷ []))
-    backlog-release a x [] j r n b = record {
+    backlog_release a x [] j r n b = record {
       index = a;
       released = r;
       begun = omega arith;
@@ -52,25 +52,25 @@ module _ (at need : ℕ → ℕ) where
       unfinished = omega (arith, some a);
       waiting = refl;
     }
-    backlog-release a x (y ∷ q) j r n b = record {
+    backlog_release a x (y ∷ q) j r n b = record {
       index = b.index;
       released = b.released;
       begun = b.begun;
       left = b.left;
       unfinished = b.unfinished;
-      waiting = waiting-release (suc b.index) a q j r n b.waiting;
+      waiting = waiting_release (suc b.index) a q j r n b.waiting;
     }
 
     -- with a job pending, not all of the work is done
-    pub backlog-under : (a x : ℕ) (j : Job) (q : List Job) → Oldest a x j q → x < needed need a
-    backlog-under a x j q b =
-        let next = waiting-under (suc b.index) a q b.waiting in
-        omega (arith, b.left, b.unfinished, needed-grows need (suc b.index) a next)
+    pub backlog_under : (a x : ℕ) (j : Job) (q : List Job) → Oldest a x j q → x < needed need a
+    backlog_under a x j q b =
+        let next = waiting_under (suc b.index) a q b.waiting in
+        omega (arith, b.left, b.unfinished, needed_grows need (suc b.index) a next)
 
     -- ---- a tick of work
-    next-oldest : (k a x : ℕ) (q : List Job) → x ≡ needed need k → Waiting k a q → Backlog a x q
-    next-oldest k a x [] e w = e ∙ ap (needed need) w
-    next-oldest k a x (y ∷ q) e w = record {
+    next_oldest : (k a x : ℕ) (q : List Job) → x ≡ needed need k → Waiting k a q → Backlog a x q
+    next_oldest k a x [] e w = e ∙ ap (needed need) w
+    next_oldest k a x (y ∷ q) e w = record {
       index = k;
       released = w.0;
       begun = omega arith;
@@ -79,10 +79,10 @@ module _ (at need : ℕ → ℕ) where
       waiting = w.2;
     }
 
-    pub backlog-worked : (a x : ℕ) (j : Job) (q : List Job) → Oldest a x j q → Backlog a (x + 1) (worked (j ∷ q))
-    backlog-worked a x j q b = elim (test_of (leb j.needs 1)) [
+    pub backlog_worked : (a x : ℕ) (j : Job) (q : List Job) → Oldest a x j q → Backlog a (x + 1) (worked (j ∷ q))
+    backlog_worked a x j q b = elim (test_of (leb j.needs 1)) [
       | inl e ↦ (let last = leb-true j.needs 1 e in
-          rw e (next-oldest (suc b.index) a (x + 1) q (omega (arith, b.left, b.unfinished)) b.waiting))
+          rw e (next_oldest (suc b.index) a (x + 1) q (omega (arith, b.left, b.unfinished)) b.waiting))
       | inr e ↦ (let more = leb-false j.needs 1 e in
           rw e (record {
             index = b.index;

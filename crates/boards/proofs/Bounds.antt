@@ -10,29 +10,29 @@ use native.Mathlib.Omega.{arith}
 use native.Mathlib.Nat.{le_trans, le_of_eq}
 use lib.ListN.{length}
 use Rattle.basics.proofs.Tests.{le-or-lt}
-use Rattle.rows.specs.Rows.{timesInRange, all_rows, row_at}
+use Rattle.rows.specs.Rows.{times_in_range, all_rows, row_at}
 use Rattle.rows.specs.Rows.{Row}
-use Rattle.rows.proofs.Limits.{Times, times, at-passes, front-passes}
-use Rattle.responses.specs.Figures.{rows_above, rowsBelow}
+use Rattle.rows.proofs.Limits.{Times, times, at_passes, front_passes}
+use Rattle.responses.specs.Figures.{rows_above, rows_below}
 use Rattle.responses.specs.Claims.{Figured}
 use Rattle.responses.proofs.Responses.{figured}
-use Rattle.boards.specs.Claims.{LastsInRange, Finishes, AfterFirstReleases, Kept, latestAt, earliestAt, NoneLate}
-use Rattle.boards.proofs.Responses.{Covers, kept-late, kept-own, kept-early, kept-once}
+use Rattle.boards.specs.Claims.{LastsInRange, Finishes, AfterFirstReleases, Kept, latest_at, earliest_at, NoneLate}
+use Rattle.boards.proofs.Responses.{Covers, kept_late, kept_own, kept_early, kept_once}
 
 module _ (order : List Row) (offset : ℕ → ℕ) (need : ℕ → ℕ → ℕ) (keeps : ℕ → Bool)
-    (ok : all_rows timesInRange order ≡ true) (timely : NoneLate order) (lasts : LastsInRange order need) where
+    (ok : all_rows times_in_range order ≡ true) (timely : NoneLate order) (lasts : LastsInRange order need) where
   rows : (j : ℕ) → j < length order → Times (row_at order j)
-  rows j l = times (row_at order j) (at-passes timesInRange order j ok l)
+  rows j l = times (row_at order j) (at_passes times_in_range order j ok l)
 
-  figures : (i : ℕ) → i < length order → Figured (row_at order i) (rows_above order i) (rowsBelow order i)
+  figures : (i : ℕ) → i < length order → Figured (row_at order i) (rows_above order i) (rows_below order i)
   figures i l =
-      figured (row_at order i) (rows_above order i) (rowsBelow order i) (at-passes timesInRange order i ok l)
-      (front-passes timesInRange i order ok)
+      figured (row_at order i) (rows_above order i) (rows_below order i) (at_passes times_in_range order i ok l)
+      (front_passes times_in_range i order ok)
 
-  covers : (i : ℕ) → i < length order → Covers order offset need keeps rows lasts i (latestAt order i) 0
-      (λ q. latestAt order i)
+  covers : (i : ℕ) → i < length order → Covers order offset need keeps rows lasts i (latest_at order i) 0
+      (λ q. latest_at order i)
   covers i l =
-      let w = (figures i l).latest-fixed (timely i l) in
+      let w = (figures i l).latest_fixed (timely i l) in
       record {
         some = λ q h. w.1;
         fits = λ q h. let first : q ≡ 0 = omega arith in rw first (omega (arith, w.0));
@@ -40,24 +40,24 @@ module _ (order : List Row) (offset : ℕ → ℕ) (need : ℕ → ℕ → ℕ) 
         ends = omega (arith, w.2);
       }
 
-  not-early : (i r f : ℕ) → i < length order → AfterFirstReleases order offset i r
-      → Finishes order offset need keeps i r f → r + earliestAt order i ≤ f
-  not-early i r f l started done =
+  not_early : (i r f : ℕ) → i < length order → AfterFirstReleases order offset i r
+      → Finishes order offset need keeps i r f → r + earliest_at order i ≤ f
+  not_early i r f l started done =
       let t = row_at order i in
       let x = figures i l in
       elim (le-or-lt t.hold 1) [
         | inl h ↦ (
-            let w = x.latest-fixed (timely i l) in
-            let e = x.earliest-fixed h (timely i l) in
-            kept-early order offset need keeps rows lasts i r f (earliestAt order i) t.period l h e.1
+            let w = x.latest_fixed (timely i l) in
+            let e = x.earliest_fixed h (timely i l) in
+            kept_early order offset need keeps rows lasts i r f (earliest_at order i) t.period l h e.1
             (le_trans e.2 w.2) (le_of_eq e.0) (λ j b. omega (arith, started j b)) done)
-        | inr h ↦ rw (x.earliest-held h) (kept-own order offset need keeps rows lasts i r f l done)
+        | inr h ↦ rw (x.earliest_held h) (kept_own order offset need keeps rows lasts i r f l done)
       ]
 
-  pub kept : Kept order offset need keeps (latestAt order) (earliestAt order)
+  pub kept : Kept order offset need keeps (latest_at order) (earliest_at order)
   kept = record {
-    in-time = λ i k l.
-        kept-late order offset need keeps rows lasts i k (latestAt order i) 0 (λ q. latestAt order i) l (covers i l);
-    once = kept-once order offset need keeps rows lasts;
-    not-early = not-early;
+    in_time = λ i k l.
+        kept_late order offset need keeps rows lasts i k (latest_at order i) 0 (λ q. latest_at order i) l (covers i l);
+    once = kept_once order offset need keeps rows lasts;
+    not_early = not_early;
   }

@@ -12,10 +12,10 @@ use lib.ListN.{length}
 use borrow.Author.Tests.{leb-true, le-leb, ltb-true, lt-ltb}
 use Rattle.basics.specs.Basics.{pick, larger}
 use Rattle.basics.proofs.Tests.{test_of, and_left, and_right}
-use Rattle.basics.proofs.Numbers.{larger-left, larger-right}
+use Rattle.basics.proofs.Numbers.{larger_left, larger_right}
 use Rattle.rows.specs.Rows.{row_at}
 use Rattle.rows.specs.Rows.{Row}
-use Rattle.boards.specs.Runs.{ticksOf, Pending, goesOnAfter, stretch, ByRank, ByRules}
+use Rattle.boards.specs.Runs.{ticks_of, Pending, goes_on_after, stretch, ByRank, ByRules}
 
 both_true : (a b : Bool) → (a ≡ true → b ≡ true) → (b ≡ true → a ≡ true) → a ≡ b
 both_true true b f g = sym (f refl)
@@ -32,101 +32,101 @@ module _ (order : List Row) (offset : ℕ → ℕ) (need : ℕ → ℕ → ℕ) 
       pub kept : keeps t ≡ true
       pub begun : 1 ≤ n
       pub shorter : n < (row_at order i).hold
-      pub unfinished : ticksOf order offset need keeps f i k t < need i k
+      pub unfinished : ticks_of order offset need keeps f i k t < need i k
 
-    pub goes-on-of : (i k t n : ℕ) → goesOnAfter order offset need keeps f i k t n ≡ true → GoesOnAfter i k t n
-    goes-on-of i k t n e =
+    pub goes_on_of : (i k t n : ℕ) → goes_on_after order offset need keeps f i k t n ≡ true → GoesOnAfter i k t n
+    goes_on_of i k t n e =
         let x = leb 1 n in
         let y = ltb n (row_at order i).hold in
-        let z = ltb (ticksOf order offset need keeps f i k t) (need i k) in
+        let z = ltb (ticks_of order offset need keeps f i k t) (need i k) in
         let e₁ = and_right (keeps t) (x && (y && z)) e in
         let e₂ = and_right x (y && z) e₁ in
         record {
           kept = and_left (keeps t) (x && (y && z)) e;
           begun = leb-true 1 n (and_left x (y && z) e₁);
           shorter = ltb-true n (row_at order i).hold (and_left y z e₂);
-          unfinished = ltb-true (ticksOf order offset need keeps f i k t) (need i k) (and_right y z e₂);
+          unfinished = ltb-true (ticks_of order offset need keeps f i k t) (need i k) (and_right y z e₂);
         }
 
-    pub of-goes-on : (i k t n : ℕ) → GoesOnAfter i k t n → goesOnAfter order offset need keeps f i k t n ≡ true
-    of-goes-on i k t n m =
+    pub of_goes_on : (i k t n : ℕ) → GoesOnAfter i k t n → goes_on_after order offset need keeps f i k t n ≡ true
+    of_goes_on i k t n m =
         rw (m.kept, le-leb 1 n m.begun, lt-ltb n (row_at order i).hold m.shorter)
-        (lt-ltb (ticksOf order offset need keeps f i k t) (need i k) m.unfinished)
+        (lt-ltb (ticks_of order offset need keeps f i k t) (need i k) m.unfinished)
 
     -- a stretch has at most its hold, or one tick
-    pub held-most : (i k t : ℕ) → stretch order offset need keeps f i k t ≤ larger 1 (row_at order i).hold
-    held-most i k zero = omega arith
-    held-most i k (suc t) =
+    pub held_most : (i k t : ℕ) → stretch order offset need keeps f i k t ≤ larger 1 (row_at order i).hold
+    held_most i k zero = omega arith
+    held_most i k (suc t) =
         let n = stretch order offset need keeps f i k t in
         let hold = (row_at order i).hold in
         elim (test_of (f i k t)) [
-          | inl e ↦ elim (test_of (goesOnAfter order offset need keeps f i k t n)) [
-            | inl m ↦ rw (e, m) (le_trans (goes-on-of i k t n m).shorter (larger-right 1 hold))
-            | inr m ↦ rw (e, m) (larger-left 1 hold)
+          | inl e ↦ elim (test_of (goes_on_after order offset need keeps f i k t n)) [
+            | inl m ↦ rw (e, m) (le_trans (goes_on_of i k t n m).shorter (larger_right 1 hold))
+            | inr m ↦ rw (e, m) (larger_left 1 hold)
           ]
           | inr e ↦ rw e (omega arith)
         ]
 
   -- ---- schedules that have gone alike before tick t
   record Alike (f g : Schedule) (t : ℕ) : Type 0 where
-    ticks-same :
+    ticks_same :
         (i k : ℕ) → i < length order
-        → ticksOf order offset need keeps f i k t ≡ ticksOf order offset need keeps g i k t
-    stretch-same :
+        → ticks_of order offset need keeps f i k t ≡ ticks_of order offset need keeps g i k t
+    stretch_same :
         (i k : ℕ) → i < length order
         → stretch order offset need keeps f i k t ≡ stretch order offset need keeps g i k t
 
   turned : (f g : Schedule) (t : ℕ) → Alike f g t → Alike g f t
   turned f g t a =
-      record { ticks-same = λ i k l. sym (a.ticks-same i k l); stretch-same = λ i k l. sym (a.stretch-same i k l) }
+      record { ticks_same = λ i k l. sym (a.ticks_same i k l); stretch_same = λ i k l. sym (a.stretch_same i k l) }
 
-  abbrev goesOnIn : Schedule → ℕ → ℕ → ℕ → Bool
-  goesOnIn f i k t = goesOnAfter order offset need keeps f i k t (stretch order offset need keeps f i k t)
+  abbrev goes_on_in : Schedule → ℕ → ℕ → ℕ → Bool
+  goes_on_in f i k t = goes_on_after order offset need keeps f i k t (stretch order offset need keeps f i k t)
 
-  on_alike : (f g : Schedule) (t : ℕ) → Alike f g t → (i k : ℕ) → i < length order → goesOnIn f i k t ≡ goesOnIn g i k t
+  on_alike : (f g : Schedule) (t : ℕ) → Alike f g t → (i k : ℕ) → i < length order → goes_on_in f i k t ≡ goes_on_in g i k t
   on_alike f g t a i k l =
       ap₂ (λ x n. keeps t && (leb 1 n && (ltb n (row_at order i).hold && ltb x (need i k))))
-      (a.ticks-same i k l) (a.stretch-same i k l)
+      (a.ticks_same i k l) (a.stretch_same i k l)
 
-  pending-alike : (f g : Schedule) (t : ℕ) → Alike f g t → (i k : ℕ) → i < length order
+  pending_alike : (f g : Schedule) (t : ℕ) → Alike f g t → (i k : ℕ) → i < length order
       → Pending order offset need keeps f i k t → Pending order offset need keeps g i k t
-  pending-alike f g t a i k l p = (p.0, omega (arith, p.1, a.ticks-same i k l))
+  pending_alike f g t a i k l p = (p.0, omega (arith, p.1, a.ticks_same i k l))
 
-  rank-alike : (f g : Schedule) (t : ℕ) → Alike f g t → (i k : ℕ) → i < length order
+  rank_alike : (f g : Schedule) (t : ℕ) → Alike f g t → (i k : ℕ) → i < length order
       → ByRank order offset need keeps f i k t → ByRank order offset need keeps g i k t
-  rank-alike f g t a i k l p =
+  rank_alike f g t a i k l p =
       let b = turned f g t a in
       record {
-        pending = pending-alike f g t a i k l p.pending;
-        none_above = λ j m h q. p.none_above j m h (pending-alike g f t b j m (omega (arith, h, l)) q);
-        none-older = λ m h q. p.none-older m h (pending-alike g f t b i m l q);
+        pending = pending_alike f g t a i k l p.pending;
+        none_above = λ j m h q. p.none_above j m h (pending_alike g f t b j m (omega (arith, h, l)) q);
+        none_older = λ m h q. p.none_older m h (pending_alike g f t b i m l q);
       }
 
   abbrev Rules : Schedule → Type 0
   Rules f = ByRules order offset need keeps f
 
-  goes-alike : (f g : Schedule) (t : ℕ) → Rules f → Rules g → Alike f g t
+  goes_alike : (f g : Schedule) (t : ℕ) → Rules f → Rules g → Alike f g t
       → (i k : ℕ) → i < length order → f i k t ≡ true → g i k t ≡ true
-  goes-alike f g t r s a i k l e = (s i k t l).1 (elim ((r i k t l).0 e) [
+  goes_alike f g t r s a i k l e = (s i k t l).1 (elim ((r i k t l).0 e) [
     | inl o ↦ inl (sym (on_alike f g t a i k l) ∙ o)
-    | inr p ↦ inr (λ j m h o. p.0 j m h (on_alike f g t a j m h ∙ o), rank-alike f g t a i k l p.1)
+    | inr p ↦ inr (λ j m h o. p.0 j m h (on_alike f g t a j m h ∙ o), rank_alike f g t a i k l p.1)
   ])
 
   goes_same : (f g : Schedule) (t : ℕ) → Rules f → Rules g → Alike f g t
       → (i k : ℕ) → i < length order → f i k t ≡ g i k t
   goes_same f g t r s a i k l =
-      both_true (f i k t) (g i k t) (goes-alike f g t r s a i k l) (goes-alike g f t s r (turned f g t a) i k l)
+      both_true (f i k t) (g i k t) (goes_alike f g t r s a i k l) (goes_alike g f t s r (turned f g t a) i k l)
 
   alike : (f g : Schedule) → Rules f → Rules g → (t : ℕ) → Alike f g t
-  alike f g r s zero = record { ticks-same = λ i k l. refl; stretch-same = λ i k l. refl }
+  alike f g r s zero = record { ticks_same = λ i k l. refl; stretch_same = λ i k l. refl }
   alike f g r s (suc t) =
       let a = alike f g r s t in
       record {
-        ticks-same = λ i k l. ap₂ (λ n b. n + pick b 1 0) (a.ticks-same i k l) (goes_same f g t r s a i k l);
-        stretch-same = λ i k l.
-            let longer = ap₂ (λ b n. suc (pick b n 0)) (on_alike f g t a i k l) (a.stretch-same i k l) in
+        ticks_same = λ i k l. ap₂ (λ n b. n + pick b 1 0) (a.ticks_same i k l) (goes_same f g t r s a i k l);
+        stretch_same = λ i k l.
+            let longer = ap₂ (λ b n. suc (pick b n 0)) (on_alike f g t a i k l) (a.stretch_same i k l) in
             ap₂ (λ b n. pick b n 0) (goes_same f g t r s a i k l) longer;
       }
 
-  pub one-schedule : (f g : Schedule) → Rules f → Rules g → (i k t : ℕ) → i < length order → f i k t ≡ g i k t
-  one-schedule f g r s i k t l = goes_same f g t r s (alike f g r s t) i k l
+  pub one_schedule : (f g : Schedule) → Rules f → Rules g → (i k t : ℕ) → i < length order → f i k t ≡ g i k t
+  one_schedule f g r s i k t l = goes_same f g t r s (alike f g r s t) i k l

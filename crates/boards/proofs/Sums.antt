@@ -17,9 +17,9 @@ pub sum-add : (n : ℕ) (f g : ℕ → ℕ) → sum_to n (λ j. f j + g j) ≡ s
 sum-add zero f g = refl
 sum-add (suc n) f g = omega (arith, sum-add n (λ j. f (suc j)) (λ j. g (suc j)))
 
-pub sum-last : (n : ℕ) (f : ℕ → ℕ) → sum_to (suc n) f ≡ sum_to n f + f n
-sum-last zero f = omega arith
-sum-last (suc n) f = omega (arith, sum-last n (λ j. f (suc j)))
+pub sum_last : (n : ℕ) (f : ℕ → ℕ) → sum_to (suc n) f ≡ sum_to n f + f n
+sum_last zero f = omega arith
+sum_last (suc n) f = omega (arith, sum_last n (λ j. f (suc j)))
 
 pub sum-le : (n : ℕ) (f g : ℕ → ℕ) → Above n (λ j. f j ≤ g j) → sum_to n f ≤ sum_to n g
 sum-le zero f g h = omega arith
@@ -29,11 +29,11 @@ sum-le (suc n) f g h =
     omega arith
 
 -- sums squeezed together: so is each of their parts
-pub sum-tight : (n : ℕ) (f g : ℕ → ℕ) → Above n (λ j. f j ≤ g j) → sum_to n g ≤ sum_to n f → Above n (λ j. g j ≤ f j)
-sum-tight zero f g h s j l = omega arith
-sum-tight (suc n) f g h s zero l =
+pub sum_tight : (n : ℕ) (f g : ℕ → ℕ) → Above n (λ j. f j ≤ g j) → sum_to n g ≤ sum_to n f → Above n (λ j. g j ≤ f j)
+sum_tight zero f g h s j l = omega arith
+sum_tight (suc n) f g h s zero l =
     let others = sum-le n (λ j. f (suc j)) (λ j. g (suc j)) (λ j l. h (suc j) (omega arith)) in
     omega arith
-sum-tight (suc n) f g h s (suc j) l =
+sum_tight (suc n) f g h s (suc j) l =
     let first = h 0 (omega arith) in
-    sum-tight n (λ j. f (suc j)) (λ j. g (suc j)) (λ j l. h (suc j) (omega arith)) (omega arith) j (omega arith)
+    sum_tight n (λ j. f (suc j)) (λ j. g (suc j)) (λ j l. h (suc j) (omega arith)) (omega arith) j (omega arith)

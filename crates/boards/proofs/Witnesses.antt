@@ -5,15 +5,15 @@ use mathlib.Core.List.{List, [], ◌∷◌}
 use Prim.Native.Nat.{ℕ, zero, suc, ◌+◌, ◌≤◌, ◌<◌}
 use native.Mathlib.Omega.{arith}
 use lib.ListN.{length}
-use Rattle.basics.proofs.Tests.{true-not-false}
+use Rattle.basics.proofs.Tests.{true_not_false}
 use Rattle.rows.specs.Rows.{row_at, cost}
 use Rattle.rows.specs.Rows.{Row}
 use Rattle.responses.specs.Extremes.{smallest, largest}
-use Rattle.responses.specs.Figures.{rows_above, rowsBelow, blocking, isLate}
+use Rattle.responses.specs.Figures.{rows_above, rows_below, blocking, is_late}
 use Rattle.responses.specs.Claims.{NoneHolds, switched}
 use Rattle.boards.specs.Claims.{LastsInRange, NoneLate}
-use Rattle.boards.specs.Runs.{boardGoesTo}
-use Rattle.boards.specs.Witnesses.{withHolds, exampleOrder, heldOrder, switchedOrder, at_once, lasting}
+use Rattle.boards.specs.Runs.{board_goes_to}
+use Rattle.boards.specs.Witnesses.{with_holds, example_order, held_order, switched_order, at_once, lasting}
 use Rattle.boards.specs.Witnesses.{never, NeedsByNumbers, RunsMet, HoldsCount, SwitchCounts}
 
 -- of three ranks, each
@@ -24,27 +24,27 @@ each P a b c (suc (suc zero)) l = c
 each P a b c (suc (suc (suc i))) l = absurd (omega arith)
 
 abbrev InTime : List Row → ℕ → Type 0
-InTime order i = isLate (row_at order i) (rows_above order i) (rowsBelow order i) ≡ false
+InTime order i = is_late (row_at order i) (rows_above order i) (rows_below order i) ≡ false
 
-in-time : NoneLate exampleOrder
+in_time : NoneLate example_order
 unfolding smallest cost blocking
-in-time = each (InTime exampleOrder) refl refl refl
+in_time = each (InTime example_order) refl refl refl
 
-in-time-held : NoneLate heldOrder
+in_time_held : NoneLate held_order
 unfolding smallest cost blocking
-in-time-held = each (InTime heldOrder) refl refl refl
+in_time_held = each (InTime held_order) refl refl refl
 
-no-hold : (m l : ℕ) → m ≤ 1 → l ≤ 1 → NoneHolds (withHolds m l)
-no-hold m l a b = each (λ i. (row_at (withHolds m l) i).hold ≤ 1) (omega arith) a b
+no_hold_lem : (m l : ℕ) → m ≤ 1 → l ≤ 1 → NoneHolds (with_holds m l)
+no_hold_lem m l a b = each (λ i. (row_at (with_holds m l) i).hold ≤ 1) (omega arith) a b
 
 -- a job's needs, by the definition of its cost
-lasts-by : (order : List Row) (need : ℕ → ℕ → ℕ) → NeedsByNumbers order need → LastsInRange order need
+lasts_by : (order : List Row) (need : ℕ → ℕ → ℕ) → NeedsByNumbers order need → LastsInRange order need
 unfolding cost
-lasts-by order need h = h
+lasts_by order need h = h
 
-lasts-only-by : (order : List Row) (need : ℕ → ℕ → ℕ) → LastsInRange order need → NeedsByNumbers order need
+lasts_only_by : (order : List Row) (need : ℕ → ℕ → ℕ) → LastsInRange order need → NeedsByNumbers order need
 unfolding cost
-lasts-only-by order need h = h
+lasts_only_by order need h = h
 
 -- rows under a switch have it
 under : (s : ℕ) (rows : List Row) (i : ℕ) → i < length (switched s rows) → (row_at (switched s rows) i).switch ≡ s
@@ -53,88 +53,88 @@ under s (r ∷ rs) zero l = refl
 under s (r ∷ rs) (suc i) l = under s rs i (omega arith)
 
 -- jobs of the example's ranks under a switch, whatever the lowest rank's hold
-lasts-under : (s hold a b c : ℕ) → (2 ≤ a) × (a ≤ 2 + s) → (6 ≤ b) × (b ≤ 6 + s) → (17 ≤ c) × (c ≤ 19 + s)
-    → LastsInRange (switched s (withHolds 0 hold)) (lasting (a ∷ b ∷ c ∷ []))
-lasts-under s hold a b c first second third = lasts-by order need
+lasts_under : (s hold a b c : ℕ) → (2 ≤ a) × (a ≤ 2 + s) → (6 ≤ b) × (b ≤ 6 + s) → (17 ≤ c) × (c ≤ 19 + s)
+    → LastsInRange (switched s (with_holds 0 hold)) (lasting (a ∷ b ∷ c ∷ []))
+lasts_under s hold a b c first second third = lasts_by order need
     (λ i k l. each (λ i. ((row_at order i).best ≤ need i k) × (need i k ≤ (row_at order i).worst + (row_at order i).switch))
     first second third i l)
   where
     order : List Row
-    order = switched s (withHolds 0 hold)
+    order = switched s (with_holds 0 hold)
 
     need : ℕ → ℕ → ℕ
     need = lasting (a ∷ b ∷ c ∷ [])
 
 -- the longest, and the shortest
-longest-under : (s hold : ℕ) → LastsInRange (switched s (withHolds 0 hold)) (lasting ((2 + s) ∷ (6 + s) ∷ (19 + s) ∷ []))
-longest-under s hold =
-    lasts-under s hold (2 + s) (6 + s) (19 + s) (omega arith, omega arith) (omega arith, omega arith)
+longest_under : (s hold : ℕ) → LastsInRange (switched s (with_holds 0 hold)) (lasting ((2 + s) ∷ (6 + s) ∷ (19 + s) ∷ []))
+longest_under s hold =
+    lasts_under s hold (2 + s) (6 + s) (19 + s) (omega arith, omega arith) (omega arith, omega arith)
     (omega arith, omega arith)
 
-shortest-under : (s hold : ℕ) → LastsInRange (switched s (withHolds 0 hold)) (lasting (2 ∷ 6 ∷ 17 ∷ []))
-shortest-under s hold =
-    lasts-under s hold 2 6 17 (omega arith, omega arith) (omega arith, omega arith) (omega arith, omega arith)
+shortest_under : (s hold : ℕ) → LastsInRange (switched s (with_holds 0 hold)) (lasting (2 ∷ 6 ∷ 17 ∷ []))
+shortest_under s hold =
+    lasts_under s hold 2 6 17 (omega arith, omega arith) (omega arith, omega arith) (omega arith, omega arith)
 
-idle : (i k : ℕ) → i < length exampleOrder
-    → boardGoesTo exampleOrder at_once (lasting (2 ∷ 6 ∷ 17 ∷ [])) never i k 226 ≡ true → ⊥
-idle i k l = each (λ i. boardGoesTo exampleOrder at_once (lasting (2 ∷ 6 ∷ 17 ∷ [])) never i k 226 ≡ true → ⊥)
+idle : (i k : ℕ) → i < length example_order
+    → board_goes_to example_order at_once (lasting (2 ∷ 6 ∷ 17 ∷ [])) never i k 226 ≡ true → ⊥
+idle i k l = each (λ i. board_goes_to example_order at_once (lasting (2 ∷ 6 ∷ 17 ∷ [])) never i k 226 ≡ true → ⊥)
     none none none i l
   where
     none : false ≡ true → ⊥
-    none e = true-not-false false e refl
+    none e = true_not_false false e refl
 
-pub runs-met : RunsMet
-runs-met = record {
-  none-late = in-time;
-  lasts = lasts-by;
-  lasts-only = lasts-only-by;
-  held-early = λ j l. omega arith;
-  earliest-reached = refl;
-  latest-reached = refl;
-  finished-before = refl;
-  idle-there = idle;
-  highest-short = λ k. omega arith;
-  none-holds = no-hold 0 0 (omega arith) (omega arith);
+pub runs_met : RunsMet
+runs_met = record {
+  none_late = in_time;
+  lasts = lasts_by;
+  lasts_only = lasts_only_by;
+  held_early = λ j l. omega arith;
+  earliest_reached = refl;
+  latest_reached = refl;
+  finished_before = refl;
+  idle_there = idle;
+  highest_short = λ k. omega arith;
+  none_holds = no_hold_lem 0 0 (omega arith) (omega arith);
   no_switch = under 0;
-  switch-up-to = λ u s h rows i l. omega (arith, h, under u rows i l);
+  switch_up_to = λ u s h rows i l. omega (arith, h, under u rows i l);
 }
 
-pub holds-count : HoldsCount
+pub holds_count : HoldsCount
 unfolding smallest largest cost blocking
-holds-count = record {
-  none-late = in-time-held;
-  latest-is = refl;
-  latest-without = refl;
-  lasts-latest = longest-under 0 5;
-  latest-reached = refl;
-  earliest-is = refl;
-  earliest-by-equation = refl;
-  held-early = λ j l. omega arith;
-  lasts-earliest = shortest-under 0 5;
-  earliest-reached = refl;
-  not-kept = refl;
-  not-kept-yet = refl;
+holds_count = record {
+  none_late = in_time_held;
+  latest_is = refl;
+  latest_without = refl;
+  lasts_latest = longest_under 0 5;
+  latest_reached = refl;
+  earliest_is = refl;
+  earliest_by_equation = refl;
+  held_early = λ j l. omega arith;
+  lasts_earliest = shortest_under 0 5;
+  earliest_reached = refl;
+  not_kept = refl;
+  not_kept_yet = refl;
   kept_then = refl;
-  middle-latest = refl;
-  middle-reached = refl;
-  one-is-none = no-hold 1 1 (omega arith) (omega arith);
+  middle_latest = refl;
+  middle_reached = refl;
+  one_is_none = no_hold_lem 1 1 (omega arith) (omega arith);
 }
 
 -- ---- under a switch
-pub switch-counts : SwitchCounts
+pub switch_counts : SwitchCounts
 unfolding smallest largest cost blocking
-switch-counts = record {
-  none-late = each (InTime switchedOrder) refl refl refl;
-  latest-is = refl;
-  latest-without = refl;
-  lasts-latest = longest-under 1 0;
-  latest-reached = refl;
-  earliest-is = refl;
-  held-early = λ j l. omega arith;
-  lasts-earliest = shortest-under 1 0;
-  earliest-reached = refl;
-  held-none-late = each (InTime (switched 1 heldOrder)) refl refl refl;
-  held-lasts = longest-under 1 5;
-  held-latest = refl;
-  held-reached = refl;
+switch_counts = record {
+  none_late = each (InTime switched_order) refl refl refl;
+  latest_is = refl;
+  latest_without = refl;
+  lasts_latest = longest_under 1 0;
+  latest_reached = refl;
+  earliest_is = refl;
+  held_early = λ j l. omega arith;
+  lasts_earliest = shortest_under 1 0;
+  earliest_reached = refl;
+  held_none_late = each (InTime (switched 1 held_order)) refl refl refl;
+  held_lasts = longest_under 1 5;
+  held_latest = refl;
+  held_reached = refl;
 }

@@ -3,8 +3,8 @@
 use Rattle.std.specs.Prelude.{◌≡◌, Bool, true, false, List, ℕ, ◌+◌, ◌*◌, ◌≤◌, ◌<◌, length}
 use Rattle.rows.specs.Rows.{row_at, cost}
 use Rattle.rows.specs.Rows.{Row}
-use Rattle.responses.specs.Figures.{rows_above, rowsBelow, latest, earliest, isLate}
-use Rattle.boards.specs.Boards.{afterTicks, isDone}
+use Rattle.responses.specs.Figures.{rows_above, rows_below, latest, earliest, is_late}
+use Rattle.boards.specs.Boards.{after_ticks, is_done}
 
 -- each job needs from its row's best to its cost
 abbrev pub LastsInRange : List Row → (ℕ → ℕ → ℕ) → Type 0
@@ -13,7 +13,7 @@ LastsInRange order need =
 
 -- rank i's job released at r finishes at f
 abbrev pub Finishes : List Row → (ℕ → ℕ) → (ℕ → ℕ → ℕ) → (ℕ → Bool) → ℕ → ℕ → ℕ → Type 0
-Finishes order offset need keeps i r f = isDone i r f (afterTicks order offset need keeps f).finished ≡ true
+Finishes order offset need keeps i r f = is_done i r f (after_ticks order offset need keeps f).finished ≡ true
 
 -- r is a period of rank i's own, or more, after the first release of every task above it
 abbrev pub AfterFirstReleases : List Row → (ℕ → ℕ) → ℕ → ℕ → Type 0
@@ -23,7 +23,7 @@ AfterFirstReleases order offset i r = (j : ℕ) → j < i → offset j + (row_at
 pub record Kept (order : List Row) (offset : ℕ → ℕ) (need : ℕ → ℕ → ℕ) (keeps : ℕ → Bool)
     (late early : ℕ → ℕ) : Type 0 where
   -- the kth job of rank i finishes within its latest response
-  pub in-time :
+  pub in_time :
       (i k : ℕ) → i < length order
       → let r = offset i + k * (row_at order i).period in
       (f : ℕ) × (r < f) × (f ≤ r + late i) × Finishes order offset need keeps i r f
@@ -32,19 +32,19 @@ pub record Kept (order : List Row) (offset : ℕ → ℕ) (need : ℕ → ℕ �
       (i r f g : ℕ) → i < length order
       → Finishes order offset need keeps i r f → Finishes order offset need keeps i r g → f ≡ g
   -- one released then does not finish before its earliest
-  pub not-early :
+  pub not_early :
       (i r f : ℕ) → i < length order
       → AfterFirstReleases order offset i r
       → Finishes order offset need keeps i r f
       → r + early i ≤ f
 
 -- the responses of rank i between the rows above it and those below it, in the order's own sequence
-abbrev pub latestAt : List Row → ℕ → ℕ
-latestAt order i = latest (row_at order i) (rows_above order i) (rowsBelow order i)
+abbrev pub latest_at : List Row → ℕ → ℕ
+latest_at order i = latest (row_at order i) (rows_above order i) (rows_below order i)
 
-abbrev pub earliestAt : List Row → ℕ → ℕ
-earliestAt order i = earliest (row_at order i) (rows_above order i) (rowsBelow order i)
+abbrev pub earliest_at : List Row → ℕ → ℕ
+earliest_at order i = earliest (row_at order i) (rows_above order i) (rows_below order i)
 
 abbrev pub NoneLate : List Row → Type 0
 NoneLate order =
-    (i : ℕ) → i < length order → isLate (row_at order i) (rows_above order i) (rowsBelow order i) ≡ false
+    (i : ℕ) → i < length order → is_late (row_at order i) (rows_above order i) (rows_below order i) ≡ false

@@ -4,13 +4,13 @@ use Rattle.std.specs.Prelude.{◌≡◌, Bool, List, [], ◌∷◌, ◌++◌, �
 use Rattle.basics.specs.Basics.{pick}
 use Rattle.rows.specs.Rows.{Row}
 use Rattle.responses.specs.Claims.{NoneHolds}
-use Rattle.boards.specs.Boards.{Job, Done, noJobs, withReleases, afterTicks}
+use Rattle.boards.specs.Boards.{Job, Done, no_jobs, with_releases, after_ticks}
 
 -- the pending job of highest rank runs a tick, the oldest of its task; with none, the tick is idle
-abbrev pub afterWork : List (List Job) → List (List Job)
-afterWork [] = []
-afterWork ([] ∷ qs) = [] ∷ afterWork qs
-afterWork ((j ∷ q) ∷ qs) = pick (leb j.needs 1) q (record { release = j.release; needs = j.needs - 1 } ∷ q) ∷ qs
+abbrev pub after_work : List (List Job) → List (List Job)
+after_work [] = []
+after_work ([] ∷ qs) = [] ∷ after_work qs
+after_work ((j ∷ q) ∷ qs) = pick (leb j.needs 1) q (record { release = j.release; needs = j.needs - 1 } ∷ q) ∷ qs
 
 -- the job whose last tick is t, if it has one
 abbrev pub finishes : ℕ → ℕ → List (List Job) → List Done
@@ -21,16 +21,16 @@ finishes i t ((j ∷ q) ∷ qs) =
 
 module _ (order : List Row) (offset : ℕ → ℕ) (need : ℕ → ℕ → ℕ) where
   -- the pending jobs before tick t, and those finished; tick t is releases, then work
-  abbrev pub pendingThen : ℕ → List (List Job)
-  pendingThen zero = noJobs order
-  pendingThen (suc t) = afterWork (withReleases 0 t order offset need (pendingThen t))
+  abbrev pub pending_then : ℕ → List (List Job)
+  pending_then zero = no_jobs order
+  pending_then (suc t) = after_work (with_releases 0 t order offset need (pending_then t))
 
-  abbrev pub finishedThen : ℕ → List Done
-  finishedThen zero = []
-  finishedThen (suc t) = finishedThen t ++ finishes 0 t (withReleases 0 t order offset need (pendingThen t))
+  abbrev pub finished_then : ℕ → List Done
+  finished_then zero = []
+  finished_then (suc t) = finished_then t ++ finishes 0 t (with_releases 0 t order offset need (pending_then t))
 
   pub record SameBoard (keeps : ℕ → Bool) : Type 0 where
-    pub same-pending :
-        NoneHolds order → (t : ℕ) → (afterTicks order offset need keeps t).pending ≡ pendingThen t
-    pub same-finished :
-        NoneHolds order → (t : ℕ) → (afterTicks order offset need keeps t).finished ≡ finishedThen t
+    pub same_pending :
+        NoneHolds order → (t : ℕ) → (after_ticks order offset need keeps t).pending ≡ pending_then t
+    pub same_finished :
+        NoneHolds order → (t : ℕ) → (after_ticks order offset need keeps t).finished ≡ finished_then t

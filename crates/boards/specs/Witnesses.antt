@@ -4,27 +4,27 @@ use Rattle.std.specs.Prelude.{◌≡◌, Bool, true, false, List, [], ◌∷◌,
 use Rattle.basics.specs.Basics.{pick}
 use Rattle.rows.specs.Rows.{row, row_at, cost}
 use Rattle.rows.specs.Rows.{Row}
-use Rattle.responses.specs.Interference.{leastFixed, largestFixed}
-use Rattle.responses.specs.Figures.{rows_above, worstLoad, bestLoad}
+use Rattle.responses.specs.Interference.{least_fixed, largest_fixed}
+use Rattle.responses.specs.Figures.{rows_above, worst_load, best_load}
 use Rattle.responses.specs.Claims.{NoneHolds, NoSwitch, switched, SwitchUpTo}
-use Rattle.boards.specs.Claims.{LastsInRange, Finishes, AfterFirstReleases, latestAt, earliestAt, NoneLate}
-use Rattle.boards.specs.Runs.{boardGoesTo}
+use Rattle.boards.specs.Claims.{LastsInRange, Finishes, AfterFirstReleases, latest_at, earliest_at, NoneLate}
+use Rattle.boards.specs.Runs.{board_goes_to}
 
 -- the rows of document 01's example, with holds of the middle rank and of the lowest
-abbrev pub withHolds : ℕ → ℕ → List Row
-withHolds middle lowest =
+abbrev pub with_holds : ℕ → ℕ → List Row
+with_holds middle lowest =
     row 12 18 2 2 1000 8000 0 0 ∷ row 11 24 6 6 1000 8000 middle 0 ∷ row 13 200 19 17 3000 57000 lowest 0 ∷ []
 
-abbrev pub exampleOrder : List Row
-exampleOrder = withHolds 0 0
+abbrev pub example_order : List Row
+example_order = with_holds 0 0
 
 -- all first releases at tick 0; those of the ranks above a rank a tick later; and every job as long as the ticks say,
 -- rank by rank
 abbrev pub at_once : ℕ → ℕ
 at_once i = 0
 
-abbrev pub aheadFrom : ℕ → ℕ → ℕ
-aheadFrom m i = pick (leb m i) 0 1
+abbrev pub ahead_from : ℕ → ℕ → ℕ
+ahead_from m i = pick (leb m i) 0 1
 
 abbrev pub lasting : List ℕ → ℕ → ℕ → ℕ
 lasting ticks i k = get_or ticks i 0
@@ -36,8 +36,8 @@ never t = false
 abbrev pub always : ℕ → Bool
 always t = true
 
-abbrev pub keptFrom : ℕ → ℕ → Bool
-keptFrom u t = leb u t
+abbrev pub kept_from : ℕ → ℕ → Bool
+kept_from u t = leb u t
 
 -- what jobs may need, by the numbers of the rows
 abbrev pub NeedsByNumbers : List Row → (ℕ → ℕ → ℕ) → Type 0
@@ -46,77 +46,77 @@ NeedsByNumbers order need =
     → let r = row_at order i in (r.best ≤ need i k) × (need i k ≤ r.worst + r.switch)
 
 pub record RunsMet : Type 0 where
-  pub none-late : NoneLate exampleOrder
+  pub none_late : NoneLate example_order
   -- jobs may need whatever is from their best to their worst and the switch, each its own, and nothing else
   pub lasts : (order : List Row) (need : ℕ → ℕ → ℕ) → NeedsByNumbers order need → LastsInRange order need
-  pub lasts-only : (order : List Row) (need : ℕ → ℕ → ℕ) → LastsInRange order need → NeedsByNumbers order need
+  pub lasts_only : (order : List Row) (need : ℕ → ℕ → ℕ) → LastsInRange order need → NeedsByNumbers order need
   -- a job of the lowest rank that is held to its earliest response, 25, and finishes just then; and one that takes its
   -- latest, 35
-  pub held-early : AfterFirstReleases exampleOrder at_once 2 200
-  pub earliest-reached : Finishes exampleOrder at_once (lasting (2 ∷ 6 ∷ 17 ∷ [])) never 2 200 225
-  pub latest-reached : Finishes exampleOrder at_once (lasting (2 ∷ 6 ∷ 19 ∷ [])) never 2 0 35
+  pub held_early : AfterFirstReleases example_order at_once 2 200
+  pub earliest_reached : Finishes example_order at_once (lasting (2 ∷ 6 ∷ 17 ∷ [])) never 2 200 225
+  pub latest_reached : Finishes example_order at_once (lasting (2 ∷ 6 ∷ 19 ∷ [])) never 2 0 35
   -- a job of the same task before it; a tick that goes to no job; and jobs of the highest rank that fit their period
-  pub finished-before : Finishes exampleOrder at_once (lasting (2 ∷ 6 ∷ 17 ∷ [])) never 2 0 33
-  pub idle-there :
-      (i k : ℕ) → i < length exampleOrder
-      → boardGoesTo exampleOrder at_once (lasting (2 ∷ 6 ∷ 17 ∷ [])) never i k 226 ≡ true → ⊥
-  pub highest-short : (k : ℕ) → lasting (2 ∷ 6 ∷ 19 ∷ []) 0 k ≤ (row_at exampleOrder 0).period
-  pub none-holds : NoneHolds exampleOrder
+  pub finished_before : Finishes example_order at_once (lasting (2 ∷ 6 ∷ 17 ∷ [])) never 2 0 33
+  pub idle_there :
+      (i k : ℕ) → i < length example_order
+      → board_goes_to example_order at_once (lasting (2 ∷ 6 ∷ 17 ∷ [])) never i k 226 ≡ true → ⊥
+  pub highest_short : (k : ℕ) → lasting (2 ∷ 6 ∷ 19 ∷ []) 0 k ≤ (row_at example_order 0).period
+  pub none_holds : NoneHolds example_order
   -- any rows under a switch of 0, and under one that is no greater than another
   pub no_switch : (rows : List Row) → NoSwitch (switched 0 rows)
-  pub switch-up-to : (u s : ℕ) → u ≤ s → (rows : List Row) → SwitchUpTo s (switched u rows)
+  pub switch_up_to : (u s : ℕ) → u ≤ s → (rows : List Row) → SwitchUpTo s (switched u rows)
 
 -- ---- the lowest task may hold the processor for 5 ticks
-abbrev pub heldOrder : List Row
-heldOrder = withHolds 0 5
+abbrev pub held_order : List Row
+held_order = with_holds 0 5
 
 pub record HoldsCount : Type 0 where
-  pub none-late : NoneLate heldOrder
+  pub none_late : NoneLate held_order
   -- the latest response of rank 1 is 12, where it would be 8 without its blocking time of 4; in a run in which the
   -- lowest begins a stretch a tick before the others are released, a job takes 12
-  pub latest-is : latestAt heldOrder 1 ≡ 12
-  pub latest-without :
-      leastFixed (cost (row_at heldOrder 1)) 24 (map worstLoad (rows_above heldOrder 1)) ≡ 8
-  pub lasts-latest : LastsInRange heldOrder (lasting (2 ∷ 6 ∷ 19 ∷ []))
-  pub latest-reached : Finishes heldOrder (aheadFrom 2) (lasting (2 ∷ 6 ∷ 19 ∷ [])) always 1 1 13
+  pub latest_is : latest_at held_order 1 ≡ 12
+  pub latest_without :
+      least_fixed (cost (row_at held_order 1)) 24 (map worst_load (rows_above held_order 1)) ≡ 8
+  pub lasts_latest : LastsInRange held_order (lasting (2 ∷ 6 ∷ 19 ∷ []))
+  pub latest_reached : Finishes held_order (ahead_from 2) (lasting (2 ∷ 6 ∷ 19 ∷ [])) always 1 1 13
   -- the earliest response of the lowest is 17, its best, where its equation gives 25; in a run in which it keeps the
   -- processor while the others are released, a job that is held to it takes 17
-  pub earliest-is : earliestAt heldOrder 2 ≡ 17
-  pub earliest-by-equation : largestFixed 17 (latestAt heldOrder 2) (map bestLoad (rows_above heldOrder 2)) ≡ 25
-  pub held-early : AfterFirstReleases heldOrder at_once 2 200
-  pub lasts-earliest : LastsInRange heldOrder (lasting (2 ∷ 6 ∷ 17 ∷ []))
-  pub earliest-reached : Finishes heldOrder at_once (lasting (2 ∷ 6 ∷ 17 ∷ [])) always 2 200 217
+  pub earliest_is : earliest_at held_order 2 ≡ 17
+  pub earliest_by_equation : largest_fixed 17 (latest_at held_order 2) (map best_load (rows_above held_order 2)) ≡ 25
+  pub held_early : AfterFirstReleases held_order at_once 2 200
+  pub lasts_earliest : LastsInRange held_order (lasting (2 ∷ 6 ∷ 17 ∷ []))
+  pub earliest_reached : Finishes held_order at_once (lasting (2 ∷ 6 ∷ 17 ∷ [])) always 2 200 217
   -- the choice is the run's, and one of each tick: with the same releases and lengths a job of rank 1 takes 8 where no
   -- stretch goes on; with stretches from tick 200 on, the lowest rank's first job takes 33 as without holds, and the
   -- job of tick 200 its 17
-  pub not-kept : Finishes heldOrder (aheadFrom 2) (lasting (2 ∷ 6 ∷ 19 ∷ [])) never 1 1 9
-  pub not-kept-yet : Finishes heldOrder at_once (lasting (2 ∷ 6 ∷ 17 ∷ [])) (keptFrom 200) 2 0 33
-  pub kept_then : Finishes heldOrder at_once (lasting (2 ∷ 6 ∷ 17 ∷ [])) (keptFrom 200) 2 200 217
+  pub not_kept : Finishes held_order (ahead_from 2) (lasting (2 ∷ 6 ∷ 19 ∷ [])) never 1 1 9
+  pub not_kept_yet : Finishes held_order at_once (lasting (2 ∷ 6 ∷ 17 ∷ [])) (kept_from 200) 2 0 33
+  pub kept_then : Finishes held_order at_once (lasting (2 ∷ 6 ∷ 17 ∷ [])) (kept_from 200) 2 200 217
   -- any rank may hold: with a hold of 5 the middle one delays the highest to its latest response, 6
-  pub middle-latest : latestAt (withHolds 5 0) 0 ≡ 6
-  pub middle-reached : Finishes (withHolds 5 0) (aheadFrom 1) (lasting (2 ∷ 6 ∷ 19 ∷ [])) always 0 1 7
+  pub middle_latest : latest_at (with_holds 5 0) 0 ≡ 6
+  pub middle_reached : Finishes (with_holds 5 0) (ahead_from 1) (lasting (2 ∷ 6 ∷ 19 ∷ [])) always 0 1 7
   -- a hold of 1 is none
-  pub one-is-none : NoneHolds (withHolds 1 1)
+  pub one_is_none : NoneHolds (with_holds 1 1)
 
 -- ---- each switch takes a tick
-abbrev pub switchedOrder : List Row
-switchedOrder = switched 1 exampleOrder
+abbrev pub switched_order : List Row
+switched_order = switched 1 example_order
 
 pub record SwitchCounts : Type 0 where
-  pub none-late : NoneLate switchedOrder
+  pub none_late : NoneLate switched_order
   -- the latest response of the lowest rank is 43, where it is 35 without the switch; in a run in which every job takes
   -- its worst and a tick, one takes 43
-  pub latest-is : latestAt switchedOrder 2 ≡ 43
-  pub latest-without : latestAt exampleOrder 2 ≡ 35
-  pub lasts-latest : LastsInRange switchedOrder (lasting (3 ∷ 7 ∷ 20 ∷ []))
-  pub latest-reached : Finishes switchedOrder at_once (lasting (3 ∷ 7 ∷ 20 ∷ [])) never 2 0 43
+  pub latest_is : latest_at switched_order 2 ≡ 43
+  pub latest_without : latest_at example_order 2 ≡ 35
+  pub lasts_latest : LastsInRange switched_order (lasting (3 ∷ 7 ∷ 20 ∷ []))
+  pub latest_reached : Finishes switched_order at_once (lasting (3 ∷ 7 ∷ 20 ∷ [])) never 2 0 43
   -- a job may take its best as before, and so the earliest response is 25 still, and reached
-  pub earliest-is : earliestAt switchedOrder 2 ≡ 25
-  pub held-early : AfterFirstReleases switchedOrder at_once 2 200
-  pub lasts-earliest : LastsInRange switchedOrder (lasting (2 ∷ 6 ∷ 17 ∷ []))
-  pub earliest-reached : Finishes switchedOrder at_once (lasting (2 ∷ 6 ∷ 17 ∷ [])) never 2 200 225
+  pub earliest_is : earliest_at switched_order 2 ≡ 25
+  pub held_early : AfterFirstReleases switched_order at_once 2 200
+  pub lasts_earliest : LastsInRange switched_order (lasting (2 ∷ 6 ∷ 17 ∷ []))
+  pub earliest_reached : Finishes switched_order at_once (lasting (2 ∷ 6 ∷ 17 ∷ [])) never 2 200 225
   -- a hold below adds its ticks and no switch: the latest response of rank 1 over a hold of 5 is 14, and a job takes it
-  pub held-none-late : NoneLate (switched 1 heldOrder)
-  pub held-lasts : LastsInRange (switched 1 heldOrder) (lasting (3 ∷ 7 ∷ 20 ∷ []))
-  pub held-latest : latestAt (switched 1 heldOrder) 1 ≡ 14
-  pub held-reached : Finishes (switched 1 heldOrder) (aheadFrom 2) (lasting (3 ∷ 7 ∷ 20 ∷ [])) always 1 1 15
+  pub held_none_late : NoneLate (switched 1 held_order)
+  pub held_lasts : LastsInRange (switched 1 held_order) (lasting (3 ∷ 7 ∷ 20 ∷ []))
+  pub held_latest : latest_at (switched 1 held_order) 1 ≡ 14
+  pub held_reached : Finishes (switched 1 held_order) (ahead_from 2) (lasting (3 ∷ 7 ∷ 20 ∷ [])) always 1 1 15

@@ -9,182 +9,182 @@ use native.Mathlib.Omega.{arith}
 use lib.Dec.{eqb}
 use lib.ListN.{length, length-append}
 use borrow.Author.Tests.{eqb-true, eq-eqb}
-use Rattle.basics.specs.Basics.{isIn}
-use Rattle.basics.proofs.Tests.{test_of, true-not-false, false_of, and_left, and_right, and_both, or_right}
-use Rattle.text.specs.Text.{lineFeed, joined}
+use Rattle.basics.specs.Basics.{is_in}
+use Rattle.basics.proofs.Tests.{test_of, true_not_false, false_of, and_left, and_right, and_both, or_right}
+use Rattle.text.specs.Text.{line_feed, joined}
 use Rattle.text.specs.Lines.{begins}
-use Rattle.crane_demands.specs.Pieces.{cutAfter, before, cutBefore, Uncut, endsLine, Separate, CutOf}
+use Rattle.crane_demands.specs.Pieces.{cut_after, before, cut_before, Uncut, ends_line, Separate, CutOf}
 
 -- ---- keys
-pub begins-more : (key s t : List ℕ) → begins key s ≡ true → begins key (s ++ t) ≡ true
-begins-more [] s t e = refl
-begins-more (x ∷ key) [] t e = absurd (true-not-false false e refl)
-begins-more (x ∷ key) (y ∷ s) t e =
+pub begins_more : (key s t : List ℕ) → begins key s ≡ true → begins key (s ++ t) ≡ true
+begins_more [] s t e = refl
+begins_more (x ∷ key) [] t e = absurd (true_not_false false e refl)
+begins_more (x ∷ key) (y ∷ s) t e =
     and_both (eqb x y) (begins key (s ++ t)) (and_left (eqb x y) (begins key s) e)
-    (begins-more key s t (and_right (eqb x y) (begins key s) e))
+    (begins_more key s t (and_right (eqb x y) (begins key s) e))
 
 -- a key without a line feed ends before the first line feed
-begins-within : (key s t : List ℕ) → isIn lineFeed key ≡ false → isIn lineFeed s ≡ true
+begins_within : (key s t : List ℕ) → is_in line_feed key ≡ false → is_in line_feed s ≡ true
     → begins key (s ++ t) ≡ true → begins key s ≡ true
-begins-within [] s t k l e = refl
-begins-within (x ∷ key) [] t k l e = absurd (true-not-false false l refl)
-begins-within (x ∷ key) (y ∷ s) t k l e =
+begins_within [] s t k l e = refl
+begins_within (x ∷ key) [] t k l e = absurd (true_not_false false l refl)
+begins_within (x ∷ key) (y ∷ s) t k l e =
     let same = and_left (eqb x y) (begins key (s ++ t)) e in
     let rest = and_right (eqb x y) (begins key (s ++ t)) e in
-    let ih = begins-within key s t in
-    elim (test_of (eqb lineFeed x)) [
-      | inl z ↦ absurd (true-not-false true refl (rw z at k))
+    let ih = begins_within key s t in
+    elim (test_of (eqb line_feed x)) [
+      | inl z ↦ absurd (true_not_false true refl (rw z at k))
       | inr z ↦ and_both (eqb x y) (begins key s) same (ih (rw z at k) (rw (← eqb-true x y same, z) at l) rest)
     ]
 
 -- ---- pieces that end a line
-ends-in : (p : List ℕ) → endsLine p ≡ true → isIn lineFeed p ≡ true
-ends-in [] e = e
-ends-in (b ∷ []) e = rw (eqb-true b lineFeed e)
-ends-in (b ∷ c ∷ s) e = or_right (eqb lineFeed b) (isIn lineFeed (c ∷ s)) (ends-in (c ∷ s) e)
+ends_in_lem : (p : List ℕ) → ends_line p ≡ true → is_in line_feed p ≡ true
+ends_in_lem [] e = e
+ends_in_lem (b ∷ []) e = rw (eqb-true b line_feed e)
+ends_in_lem (b ∷ c ∷ s) e = or_right (eqb line_feed b) (is_in line_feed (c ∷ s)) (ends_in_lem (c ∷ s) e)
 
-ends_more : (b : ℕ) (p : List ℕ) → endsLine p ≡ true → endsLine (b ∷ p) ≡ true
-ends_more b [] e = absurd (true-not-false false e refl)
+ends_more : (b : ℕ) (p : List ℕ) → ends_line p ≡ true → ends_line (b ∷ p) ≡ true
+ends_more b [] e = absurd (true_not_false false e refl)
 ends_more b (c ∷ p) e = e
 
 -- ---- a byte before pieces
-some-before : (c : Bool) (b : ℕ) (ps : List (List ℕ)) → 0 < length (before c b ps)
-some-before true b ps = omega arith
-some-before false b [] = omega arith
-some-before false b (p ∷ ps) = omega arith
+some_before : (c : Bool) (b : ℕ) (ps : List (List ℕ)) → 0 < length (before c b ps)
+some_before true b ps = omega arith
+some_before false b [] = omega arith
+some_before false b (p ∷ ps) = omega arith
 
 before-append : (c : Bool) (b : ℕ) (ps qs : List (List ℕ)) → 0 < length ps → before c b (ps ++ qs) ≡ before c b ps ++ qs
 before-append c b [] qs h = absurd (omega arith)
 before-append true b (p ∷ ps) qs h = refl
 before-append false b (p ∷ ps) qs h = refl
 
-joined-before : (c : Bool) (b : ℕ) (ps : List (List ℕ)) → joined (before c b ps) ≡ b ∷ joined ps
-joined-before true b ps = refl
-joined-before false b [] = refl
-joined-before false b (p ∷ ps) = refl
+joined_before : (c : Bool) (b : ℕ) (ps : List (List ℕ)) → joined (before c b ps) ≡ b ∷ joined ps
+joined_before true b ps = refl
+joined_before false b [] = refl
+joined_before false b (p ∷ ps) = refl
 
 module _ (key : List ℕ) where
   -- ---- uncut pieces
-  not-empty : (u v : List ℕ) → [] ≡ u ++ (lineFeed ∷ v) → ⊥
-  not-empty u v e = omega (arith, ap length e, length-append u (lineFeed ∷ v))
+  not_empty : (u v : List ℕ) → [] ≡ u ++ (line_feed ∷ v) → ⊥
+  not_empty u v e = omega (arith, ap length e, length-append u (line_feed ∷ v))
 
-  pub uncut-none : Uncut key []
-  uncut-none u v e = absurd (not-empty u v e)
+  pub uncut_none : Uncut key []
+  uncut_none u v e = absurd (not_empty u v e)
 
-  pub uncut-more : (b : ℕ) (p : List ℕ) → cutAfter key b p ≡ false → Uncut key p → Uncut key (b ∷ p)
-  uncut-more b p h w [] v e =
-      let feed : b ≡ lineFeed = cc in
+  pub uncut_more : (b : ℕ) (p : List ℕ) → cut_after key b p ≡ false → Uncut key p → Uncut key (b ∷ p)
+  uncut_more b p h w [] v e =
+      let feed : b ≡ line_feed = cc in
       let same : p ≡ v = cc in
-      ap (begins key) (sym same) ∙ sym (ap (λ t. t && begins key p) (eq-eqb b lineFeed feed)) ∙ h
-  uncut-more b p h w (c ∷ u) v e = let is : p ≡ u ++ (lineFeed ∷ v) = cc in w u v is
+      ap (begins key) (sym same) ∙ sym (ap (λ t. t && begins key p) (eq-eqb b line_feed feed)) ∙ h
+  uncut_more b p h w (c ∷ u) v e = let is : p ≡ u ++ (line_feed ∷ v) = cc in w u v is
 
-  uncut-tail : (b : ℕ) (p : List ℕ) → Uncut key (b ∷ p) → Uncut key p
-  uncut-tail b p w u v e = w (b ∷ u) v (ap (λ l. b ∷ l) e)
+  uncut_tail : (b : ℕ) (p : List ℕ) → Uncut key (b ∷ p) → Uncut key p
+  uncut_tail b p w u v e = w (b ∷ u) v (ap (λ l. b ∷ l) e)
 
   -- no cut after the first byte of an uncut piece
-  uncut-first : (b : ℕ) (p : List ℕ) → Uncut key (b ∷ p) → cutAfter key b p ≡ false
-  uncut-first b p w = elim (test_of (eqb b lineFeed)) [
-    | inl e ↦ rw e (w [] p (ap (λ x. x ∷ p) (eqb-true b lineFeed e)))
+  uncut_first : (b : ℕ) (p : List ℕ) → Uncut key (b ∷ p) → cut_after key b p ≡ false
+  uncut_first b p w = elim (test_of (eqb b line_feed)) [
+    | inl e ↦ rw e (w [] p (ap (λ x. x ∷ p) (eqb-true b line_feed e)))
     | inr e ↦ rw e
   ]
 
   -- ---- the pieces joined are the text
-  pub joins : (s : List ℕ) → joined (cutBefore key s) ≡ s
+  pub joins : (s : List ℕ) → joined (cut_before key s) ≡ s
   joins [] = refl
-  joins (b ∷ s) = joined-before (cutAfter key b s) b (cutBefore key s) ∙ ap (λ l. b ∷ l) (joins s)
+  joins (b ∷ s) = joined_before (cut_after key b s) b (cut_before key s) ∙ ap (λ l. b ∷ l) (joins s)
 
   -- one piece or more, and a byte goes before the first
-  pub some-pieces : (s : List ℕ) → 0 < length (cutBefore key s)
-  some-pieces [] = omega arith
-  some-pieces (b ∷ s) = some-before (cutAfter key b s) b (cutBefore key s)
+  pub some_pieces : (s : List ℕ) → 0 < length (cut_before key s)
+  some_pieces [] = omega arith
+  some_pieces (b ∷ s) = some_before (cut_after key b s) b (cut_before key s)
 
   -- where the text is not cut, the piece is not
-  uncut-front : (b : ℕ) (p rest : List ℕ) → cutAfter key b (p ++ rest) ≡ false → cutAfter key b p ≡ false
-  uncut-front b p rest h = false_of (cutAfter key b p) (λ e.
-      true-not-false (cutAfter key b (p ++ rest))
-      (and_both (eqb b lineFeed) (begins key (p ++ rest)) (and_left (eqb b lineFeed) (begins key p) e)
-      (begins-more key p rest (and_right (eqb b lineFeed) (begins key p) e))) h)
+  uncut_front : (b : ℕ) (p rest : List ℕ) → cut_after key b (p ++ rest) ≡ false → cut_after key b p ≡ false
+  uncut_front b p rest h = false_of (cut_after key b p) (λ e.
+      true_not_false (cut_after key b (p ++ rest))
+      (and_both (eqb b line_feed) (begins key (p ++ rest)) (and_left (eqb b line_feed) (begins key p) e)
+      (begins_more key p rest (and_right (eqb b line_feed) (begins key p) e))) h)
 
-  separate-uncut : (b : ℕ) (s : List ℕ) (ps : List (List ℕ)) → cutAfter key b s ≡ false → joined ps ≡ s
+  separate_uncut : (b : ℕ) (s : List ℕ) (ps : List (List ℕ)) → cut_after key b s ≡ false → joined ps ≡ s
       → Separate key ps → Separate key (before false b ps)
-  separate-uncut b s [] c j h = absurd h
-  separate-uncut b s (p ∷ []) c j h = uncut-more b p (uncut-front b p [] (ap (cutAfter key b) j ∙ c)) h
-  separate-uncut b s (p ∷ q ∷ qs) c j h = (
-    uncut-more b p (uncut-front b p (joined (q ∷ qs)) (ap (cutAfter key b) j ∙ c)) h.0,
+  separate_uncut b s [] c j h = absurd h
+  separate_uncut b s (p ∷ []) c j h = uncut_more b p (uncut_front b p [] (ap (cut_after key b) j ∙ c)) h
+  separate_uncut b s (p ∷ q ∷ qs) c j h = (
+    uncut_more b p (uncut_front b p (joined (q ∷ qs)) (ap (cut_after key b) j ∙ c)) h.0,
     ends_more b p h.1,
     h.2,
     h.3,
   )
 
   -- ---- a text that is one piece
-  pub one_piece : (p : List ℕ) → Uncut key p → cutBefore key p ≡ p ∷ []
+  pub one_piece : (p : List ℕ) → Uncut key p → cut_before key p ≡ p ∷ []
   one_piece [] w = refl
   one_piece (b ∷ p) w =
-      ap (λ c. before c b (cutBefore key p)) (uncut-first b p w) ∙ ap (before false b) (one_piece p (uncut-tail b p w))
+      ap (λ c. before c b (cut_before key p)) (uncut_first b p w) ∙ ap (before false b) (one_piece p (uncut_tail b p w))
 
   -- ---- where the key is not empty and has no line feed
-  module _ (some : begins key [] ≡ false) (in-line : isIn lineFeed key ≡ false) where
-    uncut-one : (b : ℕ) → Uncut key (b ∷ [])
-    uncut-one b [] v e = let is : v ≡ [] = cc in ap (begins key) is ∙ some
-    uncut-one b (c ∷ u) v e = let is : [] ≡ u ++ (lineFeed ∷ v) = cc in absurd (not-empty u v is)
+  module _ (some : begins key [] ≡ false) (in_line : is_in line_feed key ≡ false) where
+    uncut_one : (b : ℕ) → Uncut key (b ∷ [])
+    uncut_one b [] v e = let is : v ≡ [] = cc in ap (begins key) is ∙ some
+    uncut_one b (c ∷ u) v e = let is : [] ≡ u ++ (line_feed ∷ v) = cc in absurd (not_empty u v is)
 
-    piece-begins : (p rest : List ℕ) → endsLine p ≡ true → begins key (p ++ rest) ≡ true → begins key p ≡ true
-    piece-begins p rest e h = begins-within key p rest in-line (ends-in p e) h
+    piece_begins : (p rest : List ℕ) → ends_line p ≡ true → begins key (p ++ rest) ≡ true → begins key p ≡ true
+    piece_begins p rest e h = begins_within key p rest in_line (ends_in_lem p e) h
 
-    separate-cut : (b : ℕ) (s : List ℕ) (ps : List (List ℕ)) → cutAfter key b s ≡ true → joined ps ≡ s
+    separate_cut : (b : ℕ) (s : List ℕ) (ps : List (List ℕ)) → cut_after key b s ≡ true → joined ps ≡ s
         → Separate key ps → Separate key (before true b ps)
-    separate-cut b s [] c j h = absurd h
-    separate-cut b s (p ∷ []) c j h = (
-      uncut-one b,
-      and_left (eqb b lineFeed) (begins key s) c,
-      ap (begins key) (sym (append-nil p) ∙ j) ∙ and_right (eqb b lineFeed) (begins key s) c,
+    separate_cut b s [] c j h = absurd h
+    separate_cut b s (p ∷ []) c j h = (
+      uncut_one b,
+      and_left (eqb b line_feed) (begins key s) c,
+      ap (begins key) (sym (append-nil p) ∙ j) ∙ and_right (eqb b line_feed) (begins key s) c,
       h,
     )
-    separate-cut b s (p ∷ q ∷ qs) c j h = (
-      uncut-one b,
-      and_left (eqb b lineFeed) (begins key s) c,
-      piece-begins p (joined (q ∷ qs)) h.1
-          (ap (begins key) j ∙ and_right (eqb b lineFeed) (begins key s) c),
+    separate_cut b s (p ∷ q ∷ qs) c j h = (
+      uncut_one b,
+      and_left (eqb b line_feed) (begins key s) c,
+      piece_begins p (joined (q ∷ qs)) h.1
+          (ap (begins key) j ∙ and_right (eqb b line_feed) (begins key s) c),
       h,
     )
 
-    separate : (s : List ℕ) → Separate key (cutBefore key s)
-    separate [] = uncut-none
+    separate : (s : List ℕ) → Separate key (cut_before key s)
+    separate [] = uncut_none
     separate (b ∷ s) =
         let ih = separate s in
-        elim (test_of (cutAfter key b s)) [
-          | inl e ↦ rw e (separate-cut b s (cutBefore key s) e (joins s) ih)
-          | inr e ↦ rw e (separate-uncut b s (cutBefore key s) e (joins s) ih)
+        elim (test_of (cut_after key b s)) [
+          | inl e ↦ rw e (separate_cut b s (cut_before key s) e (joins s) ih)
+          | inr e ↦ rw e (separate_uncut b s (cut_before key s) e (joins s) ih)
         ]
 
-    pub is_cut : (text : List ℕ) → CutOf key text (cutBefore key text)
+    pub is_cut : (text : List ℕ) → CutOf key text (cut_before key text)
     is_cut text = record { joins = joins text; separate = separate text }
 
     -- ---- a text that ends a line, and one that begins with the key: each is cut as it is alone
-    begins-same : (p rest : List ℕ) → endsLine p ≡ true → begins key (p ++ rest) ≡ begins key p
-    begins-same p rest h = elim (test_of (begins key p)) [
-      | inl e ↦ begins-more key p rest e ∙ sym e
-      | inr e ↦ false_of (begins key (p ++ rest)) (λ t. true-not-false (begins key p) (piece-begins p rest h t) e) ∙ sym e
+    begins_same : (p rest : List ℕ) → ends_line p ≡ true → begins key (p ++ rest) ≡ begins key p
+    begins_same p rest h = elim (test_of (begins key p)) [
+      | inl e ↦ begins_more key p rest e ∙ sym e
+      | inr e ↦ false_of (begins key (p ++ rest)) (λ t. true_not_false (begins key p) (piece_begins p rest h t) e) ∙ sym e
     ]
 
-    pub cut-together : (text more : List ℕ) → endsLine text ≡ true → begins key more ≡ true
-        → cutBefore key (text ++ more) ≡ cutBefore key text ++ cutBefore key more
-    cut-together [] more e h = absurd (true-not-false false e refl)
-    cut-together (b ∷ []) more e h =
-        ap (λ c. before c b (cutBefore key more)) (and_both (eqb b lineFeed) (begins key more) e h)
-        ∙ ap (λ ps. ps ++ cutBefore key more) (sym (one_piece (b ∷ []) (uncut-one b)))
-    cut-together (b ∷ c ∷ s) more e h =
-        ap (λ t. before (eqb b lineFeed && t) b (cutBefore key ((c ∷ s) ++ more))) (begins-same (c ∷ s) more e)
-        ∙ ap (before (cutAfter key b (c ∷ s)) b) (cut-together (c ∷ s) more e h)
-        ∙ before-append (cutAfter key b (c ∷ s)) b (cutBefore key (c ∷ s)) (cutBefore key more) (some-pieces (c ∷ s))
+    pub cut_together : (text more : List ℕ) → ends_line text ≡ true → begins key more ≡ true
+        → cut_before key (text ++ more) ≡ cut_before key text ++ cut_before key more
+    cut_together [] more e h = absurd (true_not_false false e refl)
+    cut_together (b ∷ []) more e h =
+        ap (λ c. before c b (cut_before key more)) (and_both (eqb b line_feed) (begins key more) e h)
+        ∙ ap (λ ps. ps ++ cut_before key more) (sym (one_piece (b ∷ []) (uncut_one b)))
+    cut_together (b ∷ c ∷ s) more e h =
+        ap (λ t. before (eqb b line_feed && t) b (cut_before key ((c ∷ s) ++ more))) (begins_same (c ∷ s) more e)
+        ∙ ap (before (cut_after key b (c ∷ s)) b) (cut_together (c ∷ s) more e h)
+        ∙ before-append (cut_after key b (c ∷ s)) b (cut_before key (c ∷ s)) (cut_before key more) (some_pieces (c ∷ s))
 
     -- ---- the only cut
-    unique : (ps : List (List ℕ)) → Separate key ps → cutBefore key (joined ps) ≡ ps
+    unique : (ps : List (List ℕ)) → Separate key ps → cut_before key (joined ps) ≡ ps
     unique [] h = absurd h
-    unique (p ∷ []) h = ap (cutBefore key) (append-nil p) ∙ one_piece p h
+    unique (p ∷ []) h = ap (cut_before key) (append-nil p) ∙ one_piece p h
     unique (p ∷ q ∷ qs) h =
-        cut-together p (joined (q ∷ qs)) h.1 (begins-more key q (joined qs) h.2)
+        cut_together p (joined (q ∷ qs)) h.1 (begins_more key q (joined qs) h.2)
         ∙ ap₂ (λ ps rest. ps ++ rest) (one_piece p h.0) (unique (q ∷ qs) h.3)
 
-    pub only-cut : (text : List ℕ) (ps : List (List ℕ)) → CutOf key text ps → ps ≡ cutBefore key text
-    only-cut text ps c = sym (unique ps c.separate) ∙ ap (cutBefore key) c.joins
+    pub only_cut : (text : List ℕ) (ps : List (List ℕ)) → CutOf key text ps → ps ≡ cut_before key text
+    only_cut text ps c = sym (unique ps c.separate) ∙ ap (cut_before key) c.joins

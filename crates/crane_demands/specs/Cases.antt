@@ -3,9 +3,9 @@ use Rattle.std.specs.Prelude.{◌≡◌, List, [], ◌∷◌, ◌++◌, ℕ, zer
 use Prim.Native.String.{String}
 use Rattle.text.specs.Text.{bytes, lined}
 use Rattle.plans.specs.Outcomes.{Outcome, writes, refuses}
-use Rattle.demands.specs.Cases.{alone, oneUnder}
+use Rattle.demands.specs.Cases.{alone, one_under}
 use Rattle.crane_demands.specs.Pieces.{pieces}
-use Rattle.crane_demands.specs.Calls.{craned, cranePrints}
+use Rattle.crane_demands.specs.Calls.{craned, crane_prints}
 
 -- a text and its pieces; a text, a buffer's room and the outcome; a text and what the program prints
 pub data Case : Type 0 where
@@ -16,7 +16,7 @@ pub data Case : Type 0 where
 abbrev pub IsSo : Case → Type 0
 IsSo (cut text ps) = pieces text ≡ ps
 IsSo (call text room w) = craned text room ≡ w
-IsSo (prints text output) = cranePrints text ≡ output
+IsSo (prints text output) = crane_prints text ≡ output
 
 abbrev pub AllSo : List Case → Type 0
 AllSo [] = Unit {0}
@@ -30,26 +30,26 @@ times (suc n) s = s ++ times n s
 abbrev pub tab : ℕ
 tab = 9
 
-abbrev pub carriageReturn : ℕ
-carriageReturn = 13
+abbrev pub carriage_return : ℕ
+carriage_return = 13
 
 -- a board of one task that always runs, its plan, and the refusal of a piece whose first line is not a board's
 abbrev pub one : List ℕ
 one = alone "worst=10" "beta=10000"
 
-abbrev pub onePlan : List ℕ
-onePlan = lined (
+abbrev pub one_plan : List ℕ
+one_plan = lined (
     "plan=1" ∷ "board=7" ∷ "tasks=1"
     ∷ "rank=1" ∷ "task=1" ∷ "best=10" ∷ "worst=10" ∷ "jitter=0" ∷ "margin=0"
     ∷ [])
 
 -- the plan of a task with a best time of 7 under a switch
-abbrev pub switchedPlan : String → String → String → List ℕ
-switchedPlan worst jitter margin = lined (
+abbrev pub switched_plan : String → String → String → List ℕ
+switched_plan worst jitter margin = lined (
     "plan=1" ∷ "board=7" ∷ "tasks=1" ∷ "rank=1" ∷ "task=1" ∷ "best=7" ∷ worst ∷ jitter ∷ margin ∷ [])
 
-abbrev pub noBoardRefusal : List ℕ
-noBoardRefusal = lined ("plan=0" ∷ "refusal=1" ∷ "line=1" ∷ [])
+abbrev pub no_board_refusal : List ℕ
+no_board_refusal = lined ("plan=0" ∷ "refusal=1" ∷ "line=1" ∷ [])
 
 abbrev pub cuts : List Case
 cuts =
@@ -61,7 +61,7 @@ cuts =
     ∷ cut (bytes "xboard=") (bytes "xboard=" ∷ [])
     -- inside a line, and after a carriage return
     ∷ cut (lined ("board=1 board=2" ∷ [])) (lined ("board=1 board=2" ∷ []) ∷ [])
-    ∷ cut (bytes "x" ++ (carriageReturn ∷ bytes "board=")) ((bytes "x" ++ (carriageReturn ∷ bytes "board=")) ∷ [])
+    ∷ cut (bytes "x" ++ (carriage_return ∷ bytes "board=")) ((bytes "x" ++ (carriage_return ∷ bytes "board=")) ∷ [])
     -- a line that begins with a part of the key
     ∷ cut (lined ("x" ∷ "board" ∷ [])) (lined ("x" ∷ "board" ∷ []) ∷ [])
     -- and with almost the key
@@ -75,19 +75,19 @@ cuts =
 abbrev pub cranes : List Case
 cranes =
     -- every piece refused: 9 all the same, where the buffer is one byte short
-    call [] 24 (writes noBoardRefusal)
+    call [] 24 (writes no_board_refusal)
     ∷ call [] 23 (refuses 9 0)
     -- 32 pieces and 33, which are refused whatever the buffer
     ∷ call (times 32 (lined ("board=" ∷ []))) 0 (refuses 9 0)
     ∷ call (times 33 (lined ("board=" ∷ []))) 0 (refuses 10 0)
     ∷ prints (times 33 (lined ("board=" ∷ []))) (lined ("plan=0" ∷ "refusal=10" ∷ "line=0" ∷ []))
     -- a refused piece changes no other: bytes ahead of a board, and a line too many in the first of two
-    ∷ call (lined ("x" ∷ []) ++ one) 100 (writes (noBoardRefusal ++ onePlan))
-    ∷ call (lined ("x" ∷ []) ++ one ++ one) 168 (writes (noBoardRefusal ++ onePlan ++ onePlan))
+    ∷ call (lined ("x" ∷ []) ++ one) 100 (writes (no_board_refusal ++ one_plan))
+    ∷ call (lined ("x" ∷ []) ++ one ++ one) 168 (writes (no_board_refusal ++ one_plan ++ one_plan))
     ∷ call (lined ("x" ∷ []) ++ one ++ one) 167 (refuses 9 0)
-    ∷ prints (one ++ one) (onePlan ++ onePlan)
+    ∷ prints (one ++ one) (one_plan ++ one_plan)
     -- each piece has its own switch
-    ∷ prints (oneUnder "switch=3" "worst=7" "best=7" "hold=0" ++ (one ++ oneUnder "switch=2" "worst=7" "best=7" "hold=0"))
-    (switchedPlan "worst=10" "jitter=3" "margin=0" ++ (onePlan ++ switchedPlan "worst=9" "jitter=2" "margin=1000"))
-    ∷ prints (one ++ lined ("x" ∷ []) ++ one) (lined ("plan=0" ∷ "refusal=1" ∷ "line=12" ∷ []) ++ onePlan)
+    ∷ prints (one_under "switch=3" "worst=7" "best=7" "hold=0" ++ (one ++ one_under "switch=2" "worst=7" "best=7" "hold=0"))
+    (switched_plan "worst=10" "jitter=3" "margin=0" ++ (one_plan ++ switched_plan "worst=9" "jitter=2" "margin=1000"))
+    ∷ prints (one ++ lined ("x" ∷ []) ++ one) (lined ("plan=0" ∷ "refusal=1" ∷ "line=12" ∷ []) ++ one_plan)
     ∷ []

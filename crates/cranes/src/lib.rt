@@ -2,10 +2,10 @@
 ghost use Rattle.std.specs.Prelude.{◌≡◌, suc, ◌+◌, ◌≤◌, ◌<◌, length, get_or, drop, replicate};
 ghost use Rattle.io.specs.Counts.{IsPrefixLen};
 ghost use Rattle.text.specs.Buffers.{Wrote};
-ghost use Rattle.crane_demands.specs.Pieces.{cutAfter, boardKey, maxPieces};
-ghost use Rattle.crane_demands.specs.Calls.{craneText, craneRoom, cranePrints};
+ghost use Rattle.crane_demands.specs.Pieces.{cut_after, board_key, max_pieces};
+ghost use Rattle.crane_demands.specs.Calls.{crane_text, crane_room, crane_prints};
 ghost use Rattle.crane_demands.specs.Demands.{CraneSays};
-ghost use Rattle.cranes.specs.inside.Ends.{firstLong, Cuts};
+ghost use Rattle.cranes.specs.inside.Ends.{first_long, Cuts};
 
 use plan_lines::put_refusal;
 use plans::Answer;
@@ -20,7 +20,7 @@ pub const CRANE_ROOM: usize = MAX_PIECES * ROOM;
 
 // A buffer with that room.
 pub fn buffer() -> [u8; CRANE_ROOM]
-    ensures { result ≡ replicate craneRoom 0 }
+    ensures { result ≡ replicate crane_room 0 }
 {
     [0; CRANE_ROOM]
 }
@@ -28,7 +28,7 @@ pub fn buffer() -> [u8; CRANE_ROOM]
 // Whether the text is cut after the byte at i: a line begins there, with the key.
 fn cut_after(text: &[u8], i: usize) -> bool
     requires { i < length text.now }
-    ensures { result ≡ cutAfter boardKey (get_or text.now i 0) (drop (suc i) text.now) }
+    ensures { result ≡ cut_after board_key (get_or text.now i 0) (drop (suc i) text.now) }
 {
     if text[i] != b'\n' {
         return false;
@@ -39,7 +39,7 @@ fn cut_after(text: &[u8], i: usize) -> bool
 
 // Where the piece that begins at an offset ends.
 fn piece_end(text: &[u8], from: usize) -> usize
-    ensures { result ≡ from + firstLong (drop from text.now) }
+    ensures { result ≡ from + first_long (drop from text.now) }
 {
     let mut i = from;
     while i < text.len() {
@@ -54,7 +54,7 @@ fn piece_end(text: &[u8], from: usize) -> usize
 // Where each piece ends, and how many there are, or one more than the most where there are too many: in one pass over the
 // text, which stops there.
 fn cut(text: &[u8], ends: &mut [usize]) -> usize
-    requires { maxPieces ≤ length ends.old }
+    requires { max_pieces ≤ length ends.old }
     ensures { Cuts text.now ends.new result }
 {
     let mut at = piece_end(text, 0);
@@ -73,9 +73,9 @@ fn cut(text: &[u8], ends: &mut [usize]) -> usize
 
 // The answers of all pieces, one after another.
 fn put_answers(out: &mut [u8], text: &[u8], ends: &[usize], count: usize) -> usize
-    requires count_le_max_pieces { (count ≤ maxPieces) × Cuts text.now ends.now count }
-    requires count_in_bounds { (count ≤ length ends.now) × (craneRoom ≤ length out.old) }
-    ensures { Wrote (craneText text.now) out.old out.new result }
+    requires count_le_max_pieces { (count ≤ max_pieces) × Cuts text.now ends.now count }
+    requires count_in_bounds { (count ≤ length ends.now) × (crane_room ≤ length out.old) }
+    ensures { Wrote (crane_text text.now) out.old out.new result }
 {
     let mut plan = ranks::buffer();
     let mut at = 0;
@@ -117,7 +117,7 @@ pub fn write_crane(text: &[u8], out: &mut [u8]) -> Answer
 
 // What the crane's program prints for the text it took: the answers, or the three lines of a refusal.
 pub fn print_crane(text: &[u8], out: &mut [u8; CRANE_ROOM]) -> usize
-    ensures wrote { Wrote (cranePrints text.now) out.old out.new result }
+    ensures wrote { Wrote (crane_prints text.now) out.old out.new result }
     ensures prefix_len { IsPrefixLen result out.new }
 {
     let crane = write_crane(text, out);

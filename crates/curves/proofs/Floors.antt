@@ -14,7 +14,7 @@ use mir.Syntax.{w64}
 use mir.Val.{to_z, of_z, SFits}
 use mir.Facts.{to_z_pos, to_z-of_z}
 use Rattle.basics.proofs.Tests.{test_of, le-or-lt, never}
-use Rattle.curves.specs.Curves.{floorOf}
+use Rattle.curves.specs.Curves.{floor_of}
 
 -- two tests that are true of the same numbers
 same_test : (a b x y : ℕ) → (a ≤ b → x ≤ y) → (x ≤ y → a ≤ b) → leb a b ≡ leb x y
@@ -31,95 +31,95 @@ below_quotient : (m n d : ℕ) → m ≤ n / suc d → m * suc d ≤ n
 below_quotient m n d h =
     omega (arith, mul-le-mul_right {m = m} {n = n / suc d} (suc d) h, div-mul-le_self n (suc d))
 
-quotient-above : (m n d : ℕ) → m * suc d ≤ n → m ≤ n / suc d
-quotient-above m n d h = (le-div_iff_mul-le {k = suc d} {x = m} {y = n} (omega arith)).1 h
+quotient_above : (m n d : ℕ) → m * suc d ≤ n → m ≤ n / suc d
+quotient_above m n d h = (le-div_iff_mul-le {k = suc d} {x = m} {y = n} (omega arith)).1 h
 
-quotient-most : (n k d : ℕ) → n ≤ k * suc d → n / suc d ≤ k
-quotient-most n k d h = div-le_of_le-mul (suc d) {m = n} {n = k} (omega arith)
+quotient_most : (n k d : ℕ) → n ≤ k * suc d → n / suc d ≤ k
+quotient_most n k d h = div-le_of_le-mul (suc d) {m = n} {n = k} (omega arith)
 
-quotient-below : (m n d : ℕ) → n / suc d ≤ m → n ≤ m * suc d + d
-quotient-below m n d h =
+quotient_below : (m n d : ℕ) → n / suc d ≤ m → n ≤ m * suc d + d
+quotient_below m n d h =
     omega (arith, mul-le-mul_right {m = n / suc d} {n = m} (suc d) h, lt-div-mul-add {a = n} {b = suc d} (omega arith))
 
-below-product : (m n d : ℕ) → n ≤ m * suc d + d → n / suc d ≤ m
-below-product m n d h =
+below_product : (m n d : ℕ) → n ≤ m * suc d + d → n / suc d ≤ m
+below_product m n d h =
     let l = (div-lt_iff_lt-mul {k = suc d} {x = n} {y = suc m} (omega arith)).1 (omega arith) in omega arith
 
 quotients : (m n d : ℕ) → m ≤ n → m / suc d ≤ n / suc d
-quotients m n d h = quotient-above (m / suc d) n d (omega (arith, div-mul-le_self m (suc d)))
+quotients m n d h = quotient_above (m / suc d) n d (omega (arith, div-mul-le_self m (suc d)))
 
 product : (m d : ℕ) → suc m * suc d ≡ suc (m * suc d + d)
 product m d = omega arith
 
 -- m ≤ z / d rounded down exactly where m × d ≤ z
-pub floor-largest : (m z : ℤ) (d : ℕ) → le_z m (floorOf z (suc d)) ≡ le_z (m *ℤ pos (suc d)) z
-floor-largest (pos m) (pos n) d =
-    same_test m (n / suc d) (m * suc d) n (below_quotient m n d) (quotient-above m n d)
-floor-largest (pos m) (negsuc n) d = refl
-floor-largest (negsuc m) (pos n) d =
+pub floor_largest : (m z : ℤ) (d : ℕ) → le_z m (floor_of z (suc d)) ≡ le_z (m *ℤ pos (suc d)) z
+floor_largest (pos m) (pos n) d =
+    same_test m (n / suc d) (m * suc d) n (below_quotient m n d) (quotient_above m n d)
+floor_largest (pos m) (negsuc n) d = refl
+floor_largest (negsuc m) (pos n) d =
     sym (ap (λ (x : ℕ). le_z (neg_ℤ (pos x)) (pos n)) (product m d))
-floor-largest (negsuc m) (negsuc n) d =
-    same_test (n / suc d) m n (m * suc d + d) (quotient-below m n d) (below-product m n d)
+floor_largest (negsuc m) (negsuc n) d =
+    same_test (n / suc d) m n (m * suc d + d) (quotient_below m n d) (below_product m n d)
     ∙ sym (ap (λ (x : ℕ). le_z (neg_ℤ (pos x)) (negsuc n)) (product m d))
 
 -- with a larger dividend it does not fall
-pub leZ-refl : (z : ℤ) → le_z z z ≡ true
-leZ-refl (pos n) = le-leb n n (omega arith)
-leZ-refl (negsuc n) = le-leb n n (omega arith)
+pub le_z_refl : (z : ℤ) → le_z z z ≡ true
+le_z_refl (pos n) = le-leb n n (omega arith)
+le_z_refl (negsuc n) = le-leb n n (omega arith)
 
-pub floor-rises : (y z : ℤ) (d : ℕ) → le_z y z ≡ true → le_z (floorOf y (suc d)) (floorOf z (suc d)) ≡ true
-floor-rises (pos m) (pos n) d h = le-leb _ _ (quotients m n d (leb-true m n h))
-floor-rises (pos m) (negsuc n) d h = never h
-floor-rises (negsuc m) (pos n) d h = refl
-floor-rises (negsuc m) (negsuc n) d h = le-leb _ _ (quotients n m d (leb-true n m h))
+pub floor_rises : (y z : ℤ) (d : ℕ) → le_z y z ≡ true → le_z (floor_of y (suc d)) (floor_of z (suc d)) ≡ true
+floor_rises (pos m) (pos n) d h = le-leb _ _ (quotients m n d (leb-true m n h))
+floor_rises (pos m) (negsuc n) d h = never h
+floor_rises (negsuc m) (pos n) d h = refl
+floor_rises (negsuc m) (negsuc n) d h = le-leb _ _ (quotients n m d (leb-true n m h))
 
 -- 0 or more exactly where the dividend is
-pub floor-sign : (z : ℤ) (d : ℕ) → le_z (pos 0) (floorOf z d) ≡ le_z (pos 0) z
-floor-sign (pos n) d = le-leb 0 (n / d) (omega arith) ∙ sym (le-leb 0 n (omega arith))
-floor-sign (negsuc n) d = refl
+pub floor_sign : (z : ℤ) (d : ℕ) → le_z (pos 0) (floor_of z d) ≡ le_z (pos 0) z
+floor_sign (pos n) d = le-leb 0 (n / d) (omega arith) ∙ sym (le-leb 0 n (omega arith))
+floor_sign (negsuc n) d = refl
 
-pub floor-one : (z : ℤ) → floorOf z 1 ≡ z
-floor-one (pos n) = ap pos (div-one n)
-floor-one (negsuc n) = ap negsuc (div-one n)
+pub floor_one : (z : ℤ) → floor_of z 1 ≡ z
+floor_one (pos n) = ap pos (div-one n)
+floor_one (negsuc n) = ap negsuc (div-one n)
 
 -- a dividend within k divisors gives at most k, either way
-pub floor-small : (z : ℤ) (d k : ℕ) → nat_abs z ≤ k * suc d → nat_abs (floorOf z (suc d)) ≤ k
-floor-small (pos n) d k h = quotient-most n k d h
-floor-small (negsuc n) d k h = (div-lt_iff_lt-mul {k = suc d} {x = n} {y = k} (omega arith)).1 h
+pub floor_small : (z : ℤ) (d k : ℕ) → nat_abs z ≤ k * suc d → nat_abs (floor_of z (suc d)) ≤ k
+floor_small (pos n) d k h = quotient_most n k d h
+floor_small (negsuc n) d k h = (div-lt_iff_lt-mul {k = suc d} {x = n} {y = k} (omega arith)).1 h
 
 -- ---- a difference
-pub sub-pos : (a b : ℕ) → b ≤ a → sub_ℕ a b ≡ pos (a - b)
-sub-pos a b h = ap (λ (t : Bool). cond t (negsuc (b - suc a)) (pos (a - b))) (le-ltb a b h)
+pub sub_pos : (a b : ℕ) → b ≤ a → sub_ℕ a b ≡ pos (a - b)
+sub_pos a b h = ap (λ (t : Bool). cond t (negsuc (b - suc a)) (pos (a - b))) (le-ltb a b h)
 
-pub sub-neg : (a b : ℕ) → a < b → sub_ℕ a b ≡ negsuc (b - suc a)
-sub-neg a b h = ap (λ (t : Bool). cond t (negsuc (b - suc a)) (pos (a - b))) (lt-ltb a b h)
+pub sub_neg : (a b : ℕ) → a < b → sub_ℕ a b ≡ negsuc (b - suc a)
+sub_neg a b h = ap (λ (t : Bool). cond t (negsuc (b - suc a)) (pos (a - b))) (lt-ltb a b h)
 
 -- as integers take it
 pub sub_is : (a b : ℕ) → pos a -ℤ pos b ≡ sub_ℕ a b
-sub_is a zero = ap pos (omega arith) ∙ sym (sub-pos a 0 (omega arith))
+sub_is a zero = ap pos (omega arith) ∙ sym (sub_pos a 0 (omega arith))
 sub_is a (suc b) = refl
 
 -- 0 or more exactly where what is taken fits
-pub sub-sign : (a b : ℕ) → le_z (pos 0) (sub_ℕ a b) ≡ leb b a
-sub-sign a b = elim (le-or-lt b a) [
-  | inl h ↦ rw (sub-pos a b h, le-leb b a h) (le-leb 0 (a - b) (omega arith))
-  | inr h ↦ rw (sub-neg a b h, lt-leb b a h) refl
+pub sub_sign : (a b : ℕ) → le_z (pos 0) (sub_ℕ a b) ≡ leb b a
+sub_sign a b = elim (le-or-lt b a) [
+  | inl h ↦ rw (sub_pos a b h, le-leb b a h) (le-leb 0 (a - b) (omega arith))
+  | inr h ↦ rw (sub_neg a b h, lt-leb b a h) refl
 ]
 
 -- it is larger where less is taken
-pub sub-falls : (a b c : ℕ) → b ≤ c → le_z (sub_ℕ a c) (sub_ℕ a b) ≡ true
-sub-falls a b c h = elim (le-or-lt c a) [
-  | inl p ↦ rw (sub-pos a c p, sub-pos a b (omega arith)) (le-leb (a - c) (a - b) (omega arith))
+pub sub_falls : (a b c : ℕ) → b ≤ c → le_z (sub_ℕ a c) (sub_ℕ a b) ≡ true
+sub_falls a b c h = elim (le-or-lt c a) [
+  | inl p ↦ rw (sub_pos a c p, sub_pos a b (omega arith)) (le-leb (a - c) (a - b) (omega arith))
   | inr p ↦ elim (le-or-lt b a) [
-    | inl q ↦ rw (sub-neg a c p, sub-pos a b q) refl
-    | inr q ↦ rw (sub-neg a c p, sub-neg a b q) (le-leb (b - suc a) (c - suc a) (omega arith))
+    | inl q ↦ rw (sub_neg a c p, sub_pos a b q) refl
+    | inr q ↦ rw (sub_neg a c p, sub_neg a b q) (le-leb (b - suc a) (c - suc a) (omega arith))
   ]
 ]
 
 pub sub_small : (a b m : ℕ) → a ≤ m → b ≤ m → nat_abs (sub_ℕ a b) ≤ m
 sub_small a b m ha hb = elim (le-or-lt b a) [
-  | inl p ↦ rw (sub-pos a b p) (omega arith)
-  | inr p ↦ rw (sub-neg a b p) (omega arith)
+  | inl p ↦ rw (sub_pos a b p) (omega arith)
+  | inr p ↦ rw (sub_neg a b p) (omega arith)
 ]
 
 -- ---- as the code computes it, in signed integers of 64 bits
@@ -128,8 +128,8 @@ module _ (n d : ℕ) (h : n < 2 ^ 63) where
   quotient_fits = omega (arith, div-le_self n d)
 
 module _ (a b d : ℕ) (l : b ≤ a) (h : a < 2 ^ 63) where
-  pub floor-up : to_z w64 ((a - b) / d) ≡ floorOf (sub_ℕ a b) d
-  floor-up = rw (to_z_pos w64 {n = (a - b) / d} (quotient_fits (a - b) d (omega arith)), sub-pos a b l) refl
+  pub floor_up : to_z w64 ((a - b) / d) ≡ floor_of (sub_ℕ a b) d
+  floor_up = rw (to_z_pos w64 {n = (a - b) / d} (quotient_fits (a - b) d (omega arith)), sub_pos a b l) refl
 
 less_one : (q : ℕ) → negsuc 0 -ℤ pos q ≡ negsuc q
 less_one zero = refl
@@ -143,10 +143,10 @@ module _ (a b d k : ℕ) (z : ℤ) (l : a < b) (h : b < 2 ^ 63) (e : k ≡ b - s
   pub down_fits : SFits w64 (z -ℤ to_z w64 (k / d))
   down_fits = rw down record { sfits = quotient_fits k d (omega arith) }
 
-  pub floor-down : to_z w64 (of_z w64 (z -ℤ to_z w64 (k / d))) ≡ floorOf (sub_ℕ a b) d
-  floor-down =
+  pub floor_down : to_z w64 (of_z w64 (z -ℤ to_z w64 (k / d))) ≡ floor_of (sub_ℕ a b) d
+  floor_down =
       to_z-of_z down_fits
-      ∙ (down ∙ (ap (λ (x : ℕ). negsuc (x / d)) e ∙ sym (ap (λ (z : ℤ). floorOf z d) (sub-neg a b l))))
+      ∙ (down ∙ (ap (λ (x : ℕ). negsuc (x / d)) e ∙ sym (ap (λ (z : ℤ). floor_of z d) (sub_neg a b l))))
 
 -- what a call answers as a signed integer, read back
 pub answered : (z x : ℤ) → SFits w64 z → z ≡ x → to_z w64 (of_z w64 z) ≡ x

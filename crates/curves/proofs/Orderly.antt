@@ -12,16 +12,16 @@ use borrow.Author.Tests.{le-leb, lt-leb, lt-ltb}
 use lib.Dec.{leb, ltb}
 use lib.ListN.{length, drop}
 use Rattle.basics.specs.Basics.{within}
-use Rattle.basics.proofs.Tests.{test_of, true-not-false, false_of, and_left, and_right, and_both}
-use Rattle.basics.proofs.Tests.{Within, within-true, true-within}
-use Rattle.curves.specs.Curves.{Point, minDelay, maxDelay, minAllow, maxAllow, maxPoints}
-use Rattle.curves.specs.Curves.{inLimits, follows, orderlyFrom, orderly, wellFormed, pointsFrom}
-use Rattle.curves.proofs.Lines.{step, head_in, head-limited}
-use Rattle.curves.proofs.PointNumbers.{pointRead, points-left, points-length}
+use Rattle.basics.proofs.Tests.{test_of, true_not_false, false_of, and_left, and_right, and_both}
+use Rattle.basics.proofs.Tests.{Within, within_true, true_within}
+use Rattle.curves.specs.Curves.{Point, min_delay, max_delay, min_allow, max_allow, max_points}
+use Rattle.curves.specs.Curves.{in_limits, follows, orderly_from, orderly, well_formed, points_from}
+use Rattle.curves.proofs.Lines.{step, head_in, head_limited}
+use Rattle.curves.proofs.PointNumbers.{point_read, points_left, points_length}
 
 -- one point: a delay from `low` on, an allow up to `high`
 abbrev pub passes : ℕ → ℕ → Point → Bool
-passes low high p = within low maxDelay p.delay && within minAllow high p.allow
+passes low high p = within low max_delay p.delay && within min_allow high p.allow
 
 abbrev pub keeps : ℕ → ℕ → List Point → Bool
 keeps low high [] = true
@@ -29,97 +29,97 @@ keeps low high (p ∷ ps) = passes low high p && keeps (suc p.delay) p.allow ps
 
 module _ (low high : ℕ) (p : Point) where
   pub record Passed : Type 0 where
-    pub delays : Within low maxDelay p.delay
-    pub allows : Within minAllow high p.allow
+    pub delays : Within low max_delay p.delay
+    pub allows : Within min_allow high p.allow
 
   pub passed : passes low high p ≡ true → Passed
   passed h =
-      let d = within low maxDelay p.delay in
-      let a = within minAllow high p.allow in
+      let d = within low max_delay p.delay in
+      let a = within min_allow high p.allow in
       record {
-        delays = within-true low maxDelay p.delay (and_left d a h);
-        allows = within-true minAllow high p.allow (and_right d a h);
+        delays = within_true low max_delay p.delay (and_left d a h);
+        allows = within_true min_allow high p.allow (and_right d a h);
       }
 
-  pub passing : low ≤ p.delay → p.delay ≤ maxDelay → p.allow ≤ high → passes low high p ≡ true
+  pub passing : low ≤ p.delay → p.delay ≤ max_delay → p.allow ≤ high → passes low high p ≡ true
   passing l m h =
-      and_both (within low maxDelay p.delay) (within minAllow high p.allow)
-      (true-within low maxDelay p.delay l m) (true-within minAllow high p.allow (omega arith) h)
+      and_both (within low max_delay p.delay) (within min_allow high p.allow)
+      (true_within low max_delay p.delay l m) (true_within min_allow high p.allow (omega arith) h)
 
 pub follow : (p q : Point) → p.delay < q.delay → q.allow ≤ p.allow → follows p q ≡ true
 follow p q d a =
     and_both (ltb p.delay q.delay) (leb q.allow p.allow)
     (lt-ltb p.delay q.delay d) (le-leb q.allow p.allow a)
 
-keeps-from : (p : Point) (ps : List Point) → inLimits p ≡ true
-    → orderlyFrom p ps ≡ keeps (suc p.delay) p.allow ps
+keeps-from : (p : Point) (ps : List Point) → in_limits p ≡ true
+    → orderly_from p ps ≡ keeps (suc p.delay) p.allow ps
 keeps-from p [] h = h
 keeps-from p (q ∷ qs) h =
     let low = suc p.delay in
     let high = p.allow in
-    let here = passed minDelay maxAllow p h in
+    let here = passed min_delay max_allow p h in
     elim (test_of (passes low high q)) [
       | inl e ↦ (let r = passed low high q e in
-          let f = follow p q r.delays.low-le r.allows.le-high in
-          let i = passing minDelay maxAllow q (omega arith) r.delays.le-high
-          (omega (arith, r.allows.le-high, here.allows.le-high)) in
-          ap₂ (λ (a b : Bool). a && (b && orderlyFrom q qs)) h f
+          let f = follow p q r.delays.low_le r.allows.le_high in
+          let i = passing min_delay max_allow q (omega arith) r.delays.le_high
+          (omega (arith, r.allows.le_high, here.allows.le_high)) in
+          ap₂ (λ (a b : Bool). a && (b && orderly_from q qs)) h f
           ∙ (keeps-from q qs i ∙ sym (ap (λ (a : Bool). a && keeps (suc q.delay) q.allow qs) e)))
-      | inr e ↦ false_of (orderlyFrom p (q ∷ qs)) (λ t. (let s = step p q qs t in
-          let l = head-limited q qs s.rest in
-          true-not-false (passes low high q) (passing low high q s.delays l.delay-max s.allows) e))
+      | inr e ↦ false_of (orderly_from p (q ∷ qs)) (λ t. (let s = step p q qs t in
+          let l = head_limited q qs s.rest in
+          true_not_false (passes low high q) (passing low high q s.delays l.delay_max s.allows) e))
           ∙ sym (ap (λ (a : Bool). a && keeps (suc q.delay) q.allow qs) e)
     ]
 
-orderly-keeps : (c : List Point) → orderly c ≡ keeps minDelay maxAllow c
-orderly-keeps [] = refl
-orderly-keeps (p ∷ ps) =
+orderly_keeps : (c : List Point) → orderly c ≡ keeps min_delay max_allow c
+orderly_keeps [] = refl
+orderly_keeps (p ∷ ps) =
     let rest : Bool → Bool = λ a. a && keeps (suc p.delay) p.allow ps in
-    elim (test_of (inLimits p)) [
+    elim (test_of (in_limits p)) [
       | inl e ↦ keeps-from p ps e ∙ sym (ap rest e)
-      | inr e ↦ false_of (orderlyFrom p ps) (λ t. true-not-false (inLimits p) (head_in p ps t) e) ∙ sym (ap rest e)
+      | inr e ↦ false_of (orderly_from p ps) (λ t. true_not_false (in_limits p) (head_in p ps t) e) ∙ sym (ap rest e)
     ]
 
 -- ---- n points whose numbers stand by turns
 module _ (vs : List ℕ) (n : ℕ) where
-  pub too_many : maxPoints < n → wellFormed (pointsFrom n vs) ≡ false
-  unfolding wellFormed
+  pub too_many : max_points < n → well_formed (points_from n vs) ≡ false
+  unfolding well_formed
   too_many h =
-      ap (λ (b : Bool). b && orderly (pointsFrom n vs))
-      (lt-leb (length (pointsFrom n vs)) maxPoints (omega (arith, points-length n vs)))
+      ap (λ (b : Bool). b && orderly (points_from n vs))
+      (lt-leb (length (points_from n vs)) max_points (omega (arith, points_length n vs)))
 
   -- from index i on
   module _ (i low high : ℕ) where
     abbrev pub left : Bool
-    left = keeps low high (pointsFrom (n - i) (drop (2 * i) vs))
+    left = keeps low high (points_from (n - i) (drop (2 * i) vs))
 
     pub none_left : n ≤ i → left ≡ true
     none_left h =
         let z : n - i ≡ 0 = omega arith in
-        ap (λ (k : ℕ). keeps low high (pointsFrom k (drop (2 * i) vs))) z
+        ap (λ (k : ℕ). keeps low high (points_from k (drop (2 * i) vs))) z
 
     -- the point at index i, with its numbers as the code reads them
     module _ (l : i < n) where
       abbrev here : Point
-      here = pointRead i vs
+      here = point_read i vs
 
       abbrev behind : List Point
-      behind = pointsFrom (n - (i + 1)) (drop (2 * (i + 1)) vs)
+      behind = points_from (n - (i + 1)) (drop (2 * (i + 1)) vs)
 
       opened : left ≡ keeps low high (here ∷ behind)
-      opened = rw (add-one i, add-one (2 * i)) (ap (keeps low high) (points-left vs n i l))
+      opened = rw (add-one i, add-one (2 * i)) (ap (keeps low high) (points_left vs n i l))
 
-      pub fails-left : passes low high here ≡ false → left ≡ false
-      fails-left h = opened ∙ ap (λ (b : Bool). b && keeps (suc here.delay) here.allow behind) h
+      pub fails_left : passes low high here ≡ false → left ≡ false
+      fails_left h = opened ∙ ap (λ (b : Bool). b && keeps (suc here.delay) here.allow behind) h
 
       pub next-left : (d : ℕ) → passes low high here ≡ true → d ≡ suc here.delay
           → left ≡ keeps d here.allow behind
       next-left d h e = opened ∙ ap₂ (λ (b : Bool) (k : ℕ). b && keeps k here.allow behind) h (sym e)
 
   -- all are left at first
-  pub all_left : n ≤ maxPoints → wellFormed (pointsFrom n vs) ≡ left 0 minDelay maxAllow
-  unfolding wellFormed
+  pub all_left : n ≤ max_points → well_formed (points_from n vs) ≡ left 0 min_delay max_allow
+  unfolding well_formed
   all_left h =
-      rw (sub-zero n) (ap (λ (b : Bool). b && orderly (pointsFrom n vs))
-      (le-leb (length (pointsFrom n vs)) maxPoints (omega (arith, points-length n vs)))
-      ∙ orderly-keeps (pointsFrom n vs))
+      rw (sub-zero n) (ap (λ (b : Bool). b && orderly (points_from n vs))
+      (le-leb (length (points_from n vs)) max_points (omega (arith, points_length n vs)))
+      ∙ orderly_keeps (points_from n vs))

@@ -3,22 +3,22 @@ use Rattle.std.specs.Prelude.{◌≡◌, true, List, ◌↔◌, ℕ, suc, ◌+�
 use Rattle.std.proofs.Math.IntN.{sub_ℕ}
 use Rattle.std.specs.Int.Signed.{le_z}
 use Rattle.curves.specs.declared.Fraction.{Fraction}
-use Rattle.curves.specs.Curves.{Point, noPoint, maxPoints, maxDelay, maxAllow, maxResponse, wellFormed}
-use Rattle.curves.specs.Curves.{whole, onLine, permitted}
-use Rattle.curves.specs.Curves.{lastDelay, curveMargin}
+use Rattle.curves.specs.Curves.{Point, no_point, max_points, max_delay, max_allow, max_response, well_formed}
+use Rattle.curves.specs.Curves.{whole, on_line, permitted}
+use Rattle.curves.specs.Curves.{last_delay, curve_margin}
 
 -- points that keep the limits, by their indices: not too many, each number within its own, each delay above the one
 -- before it, each allow not above the one before it
 pub record InSequence (c : List Point) : Type 0 where
-  pub few : length c ≤ maxPoints
-  pub delays : (i : ℕ) → i < length c → (get_or c i noPoint).delay ≤ maxDelay
-  pub allows : (i : ℕ) → i < length c → (get_or c i noPoint).allow ≤ maxAllow
-  pub later : (i : ℕ) → suc i < length c → (get_or c i noPoint).delay < (get_or c (suc i) noPoint).delay
-  pub lower : (i : ℕ) → suc i < length c → (get_or c (suc i) noPoint).allow ≤ (get_or c i noPoint).allow
+  pub few : length c ≤ max_points
+  pub delays : (i : ℕ) → i < length c → (get_or c i no_point).delay ≤ max_delay
+  pub allows : (i : ℕ) → i < length c → (get_or c i no_point).allow ≤ max_allow
+  pub later : (i : ℕ) → suc i < length c → (get_or c i no_point).delay < (get_or c (suc i) no_point).delay
+  pub lower : (i : ℕ) → suc i < length c → (get_or c (suc i) no_point).allow ≤ (get_or c i no_point).allow
 
 -- just these are well formed
 abbrev pub FormedSo : Type 0
-FormedSo = (c : List Point) → (wellFormed c ≡ true) ↔ InSequence c
+FormedSo = (c : List Point) → (well_formed c ≡ true) ↔ InSequence c
 
 -- f ≤ g, cross-multiplied
 pub record AtMost (f g : Fraction) : Type 0 where
@@ -35,40 +35,40 @@ pub record OnLine (p q : Point) (e : ℕ) (f : Fraction) : Type 0 where
       ≡ p.allow * (q.delay - p.delay) * f.under
 
 -- the largest margin, either way
-abbrev pub maxMargin : ℕ
-maxMargin = 1000000000
+abbrev pub max_margin : ℕ
+max_margin = 1000000000
 
 -- the jitter that a curve permits
 pub record Permits (c : List Point) : Type 0 where
   pub under_some : (e : ℕ) → 1 ≤ (permitted c e).under
   -- the first allow up to the first delay, and the straight line between neighbours
-  pub first : (e : ℕ) → 1 ≤ length c → e ≤ (get_or c 0 noPoint).delay → permitted c e ≡ whole (get_or c 0 noPoint).allow
-  pub between : (i e : ℕ) → suc i < length c → (get_or c i noPoint).delay ≤ e → e ≤ (get_or c (suc i) noPoint).delay
-      → OnLine (get_or c i noPoint) (get_or c (suc i) noPoint) e (permitted c e)
+  pub first : (e : ℕ) → 1 ≤ length c → e ≤ (get_or c 0 no_point).delay → permitted c e ≡ whole (get_or c 0 no_point).allow
+  pub between : (i e : ℕ) → suc i < length c → (get_or c i no_point).delay ≤ e → e ≤ (get_or c (suc i) no_point).delay
+      → OnLine (get_or c i no_point) (get_or c (suc i) no_point) e (permitted c e)
   -- at a point's own delay its allow is permitted, on both lines that meet there
-  pub at-point : (i e : ℕ) → i < length c → (get_or c i noPoint).delay ≡ e
-      → IsWhole (get_or c i noPoint).allow (permitted c e)
-  pub line_after : (i e : ℕ) → suc i < length c → (get_or c i noPoint).delay ≡ e
-      → IsWhole (get_or c i noPoint).allow (onLine (get_or c i noPoint) (get_or c (suc i) noPoint) e)
+  pub at_point : (i e : ℕ) → i < length c → (get_or c i no_point).delay ≡ e
+      → IsWhole (get_or c i no_point).allow (permitted c e)
+  pub line_after : (i e : ℕ) → suc i < length c → (get_or c i no_point).delay ≡ e
+      → IsWhole (get_or c i no_point).allow (on_line (get_or c i no_point) (get_or c (suc i) no_point) e)
   -- its last delay is that of its last point
-  pub last : (i : ℕ) → length c ≡ suc i → lastDelay c ≡ (get_or c i noPoint).delay
+  pub last : (i : ℕ) → length c ≡ suc i → last_delay c ≡ (get_or c i no_point).delay
   -- it never rises
-  pub never-rises : (e f : ℕ) → e ≤ f → AtMost (permitted c f) (permitted c e)
+  pub never_rises : (e f : ℕ) → e ≤ f → AtMost (permitted c f) (permitted c e)
 
 -- the margin of responses w and e
 pub record Margined (c : List Point) (w e : ℕ) : Type 0 where
   -- 0 or more exactly where e is not past the last delay and the jitter is permitted: nothing is lost by rounding
-  pub stable-only : le_z (pos 0) (curveMargin c w e) ≡ true
-      → (e ≤ lastDelay c) × AtMost (whole (w - e)) (permitted c e)
-  pub stable-if : e ≤ lastDelay c → AtMost (whole (w - e)) (permitted c e)
-      → le_z (pos 0) (curveMargin c w e) ≡ true
+  pub stable_only : le_z (pos 0) (curve_margin c w e) ≡ true
+      → (e ≤ last_delay c) × AtMost (whole (w - e)) (permitted c e)
+  pub stable_if : e ≤ last_delay c → AtMost (whole (w - e)) (permitted c e)
+      → le_z (pos 0) (curve_margin c w e) ≡ true
   -- rounded down: a whole number is at most the margin exactly where it is at most 1,000 × (permitted − jitter)
-  pub rounded-down : e ≤ lastDelay c → (m : ℤ)
-      → le_z m (curveMargin c w e)
+  pub rounded_down : e ≤ last_delay c → (m : ℤ)
+      → le_z m (curve_margin c w e)
       ≡ le_z (m *ℤ pos (permitted c e).under)
       (sub_ℕ (1000 * (permitted c e).over) (1000 * ((w - e) * (permitted c e).under)))
   -- past the last delay, 1,000 for each tick past it, whatever W is
-  pub past : lastDelay c < e → curveMargin c w e ≡ pos (1000 * lastDelay c) -ℤ pos (1000 * e)
+  pub past : last_delay c < e → curve_margin c w e ≡ pos (1000 * last_delay c) -ℤ pos (1000 * e)
   -- with a smaller W and the same E it does not fall
-  pub eased : (v : ℕ) → v ≤ w → le_z (curveMargin c w e) (curveMargin c v e) ≡ true
-  pub small : w ≤ maxResponse → e ≤ w → nat_abs (curveMargin c w e) ≤ maxMargin
+  pub eased : (v : ℕ) → v ≤ w → le_z (curve_margin c w e) (curve_margin c v e) ≡ true
+  pub small : w ≤ max_response → e ≤ w → nat_abs (curve_margin c w e) ≤ max_margin

@@ -15,60 +15,60 @@ abbrev pub point : ℕ → ℕ → Point
 point d a = record { delay = d; allow = a }
 
 -- what stands past the points of a curve
-abbrev pub noPoint : Point
-noPoint = point 0 0
+abbrev pub no_point : Point
+no_point = point 0 0
 
 -- ---- limits: how many points, and the ticks of a delay and of an allow
-abbrev pub minPoints : ℕ
-minPoints = 0
+abbrev pub min_points : ℕ
+min_points = 0
 
-abbrev pub maxPoints : ℕ
-maxPoints = 8
+abbrev pub max_points : ℕ
+max_points = 8
 
-abbrev pub minDelay : ℕ
-minDelay = 0
+abbrev pub min_delay : ℕ
+min_delay = 0
 
-abbrev pub maxDelay : ℕ
-maxDelay = 1000000
+abbrev pub max_delay : ℕ
+max_delay = 1000000
 
-abbrev pub minAllow : ℕ
-minAllow = 0
+abbrev pub min_allow : ℕ
+min_allow = 0
 
-abbrev pub maxAllow : ℕ
-maxAllow = 1000000
+abbrev pub max_allow : ℕ
+max_allow = 1000000
 
 -- the largest response that a curve is asked about
-abbrev pub maxResponse : ℕ
-maxResponse = 1000000
+abbrev pub max_response : ℕ
+max_response = 1000000
 
-abbrev pub inLimits : Point → Bool
-inLimits p = within minDelay maxDelay p.delay && within minAllow maxAllow p.allow
+abbrev pub in_limits : Point → Bool
+in_limits p = within min_delay max_delay p.delay && within min_allow max_allow p.allow
 
 -- a later point: its delay is above that of the point before it, and its allow not above that one's
 abbrev pub follows : Point → Point → Bool
 follows p q = ltb p.delay q.delay && leb q.allow p.allow
 
 -- every point is in its limits and follows the one before it
-abbrev pub orderlyFrom : Point → List Point → Bool
-orderlyFrom p [] = inLimits p
-orderlyFrom p (q ∷ qs) = inLimits p && (follows p q && orderlyFrom q qs)
+abbrev pub orderly_from : Point → List Point → Bool
+orderly_from p [] = in_limits p
+orderly_from p (q ∷ qs) = in_limits p && (follows p q && orderly_from q qs)
 
 abbrev pub orderly : List Point → Bool
 orderly [] = true
-orderly (p ∷ ps) = orderlyFrom p ps
+orderly (p ∷ ps) = orderly_from p ps
 
-unfoldable pub wellFormed : List Point → Bool
-wellFormed c = leb (length c) maxPoints && orderly c
+unfoldable pub well_formed : List Point → Bool
+well_formed c = leb (length c) max_points && orderly c
 
 -- n points of numbers that stand by turns: the first delay, its allow, the next delay, and so on
-abbrev pub pointsFrom : ℕ → List ℕ → List Point
-pointsFrom zero vs = []
-pointsFrom (suc n) vs = point (get_or vs 0 0) (get_or vs 1 0) ∷ pointsFrom n (drop 2 vs)
+abbrev pub points_from : ℕ → List ℕ → List Point
+points_from zero vs = []
+points_from (suc n) vs = point (get_or vs 0 0) (get_or vs 1 0) ∷ points_from n (drop 2 vs)
 
 -- and the numbers of points, by turns
-abbrev pub numbersOf : List Point → List ℕ
-numbersOf [] = []
-numbersOf (p ∷ ps) = p.delay ∷ p.allow ∷ numbersOf ps
+abbrev pub numbers_of : List Point → List ℕ
+numbers_of [] = []
+numbers_of (p ∷ ps) = p.delay ∷ p.allow ∷ numbers_of ps
 
 -- ---- the permitted jitter, as a fraction
 abbrev pub fraction : ℕ → ℕ → Fraction
@@ -78,8 +78,8 @@ abbrev pub whole : ℕ → Fraction
 whole n = fraction n 1
 
 -- on the straight line from p to q, at e from p's delay to q's
-abbrev pub onLine : Point → Point → ℕ → Fraction
-onLine p q e =
+abbrev pub on_line : Point → Point → ℕ → Fraction
+on_line p q e =
     fraction
     (p.allow * (q.delay - e) + q.allow * (e - p.delay))
     (q.delay - p.delay)
@@ -87,7 +87,7 @@ onLine p q e =
 -- at e past the delay of p: on the line to the next point that e is not past; past the last, nothing is permitted
 abbrev pub along : Point → List Point → ℕ → Fraction
 along p [] e = whole 0
-along p (q ∷ qs) e = pick (leb e q.delay) (onLine p q e) (along q qs e)
+along p (q ∷ qs) e = pick (leb e q.delay) (on_line p q e) (along q qs e)
 
 -- up to the first delay the first allow, and along the curve after it
 unfoldable pub permitted : List Point → ℕ → Fraction
@@ -96,25 +96,25 @@ permitted (p ∷ ps) e = pick (leb e p.delay) (whole p.allow) (along p ps e)
 
 -- ---- the margin
 -- z / d rounded down, towards minus infinity
-abbrev pub floorOf : ℤ → ℕ → ℤ
-floorOf (pos n) d = pos (n / d)
-floorOf (negsuc n) d = negsuc (n / d)
+abbrev pub floor_of : ℤ → ℕ → ℤ
+floor_of (pos n) d = pos (n / d)
+floor_of (negsuc n) d = negsuc (n / d)
 
 -- 1,000 × (f − jitter) rounded down
 abbrev pub thousandths : Fraction → ℕ → ℤ
-thousandths f j = floorOf (sub_ℕ (1000 * f.over) (1000 * (j * f.under))) f.under
+thousandths f j = floor_of (sub_ℕ (1000 * f.over) (1000 * (j * f.under))) f.under
 
-abbrev pub lastFrom : Point → List Point → ℕ
-lastFrom p [] = p.delay
-lastFrom p (q ∷ qs) = lastFrom q qs
+abbrev pub last_from : Point → List Point → ℕ
+last_from p [] = p.delay
+last_from p (q ∷ qs) = last_from q qs
 
-abbrev pub lastDelay : List Point → ℕ
-lastDelay [] = 0
-lastDelay (p ∷ ps) = lastFrom p ps
+abbrev pub last_delay : List Point → ℕ
+last_delay [] = 0
+last_delay (p ∷ ps) = last_from p ps
 
 -- of responses w and e under a curve: past the last delay, 1,000 × (last delay − e)
-unfoldable pub curveMargin : List Point → ℕ → ℕ → ℤ
-curveMargin c w e =
-    pick (leb e (lastDelay c))
+unfoldable pub curve_margin : List Point → ℕ → ℕ → ℤ
+curve_margin c w e =
+    pick (leb e (last_delay c))
     (thousandths (permitted c e) (w - e))
-    (sub_ℕ (1000 * lastDelay c) (1000 * e))
+    (sub_ℕ (1000 * last_delay c) (1000 * e))

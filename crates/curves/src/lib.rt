@@ -2,8 +2,8 @@
 // numbers stand by turns: a delay, its allow, the next delay, and so on.
 ghost use Rattle.std.specs.Prelude.{◌≡◌, true, ◌*◌, ◌≤◌, ◌<◌, ◌^◌, length};
 ghost use Rattle.std.proofs.Math.IntN.{sub_ℕ};
-ghost use Rattle.curves.specs.Curves.{point, maxPoints, maxDelay, maxAllow, maxResponse, wellFormed};
-ghost use Rattle.curves.specs.Curves.{pointsFrom, onLine, permitted, floorOf, thousandths, curveMargin};
+ghost use Rattle.curves.specs.Curves.{point, max_points, max_delay, max_allow, max_response, well_formed};
+ghost use Rattle.curves.specs.Curves.{points_from, on_line, permitted, floor_of, thousandths, curve_margin};
 ghost use Rattle.curves.specs.inside.Places.{Reached};
 
 use basics::within;
@@ -26,8 +26,8 @@ pub const ALLOW_MAX: u64 = 1_000_000;
 
 // Whether n points keep the limits of a curve.
 pub fn well_formed(points: &[u64], n: u64) -> bool
-    requires { 2 * maxPoints ≤ length points.now }
-    ensures { result ≡ wellFormed (pointsFrom n points.now) }
+    requires { 2 * max_points ≤ length points.now }
+    ensures { result ≡ well_formed (points_from n points.now) }
 {
     if POINTS_MAX < n {
         return false;
@@ -60,7 +60,7 @@ pub struct Fraction {
 // (a - b) / d rounded down. Signed `/` rounds towards zero, so both signs divide without a sign.
 fn floor_of(a: u64, b: u64, d: u64) -> i64
     requires { (1 ≤ d) × (a < 2 ^ 63) × (b < 2 ^ 63) }
-    ensures { result ≡ floorOf (sub_ℕ a b) d }
+    ensures { result ≡ floor_of (sub_ℕ a b) d }
 {
     if b <= a {
         return ((a - b) / d) as i64;
@@ -70,7 +70,7 @@ fn floor_of(a: u64, b: u64, d: u64) -> i64
 
 // 1,000 × (f - jitter) rounded down.
 fn thousandths(f: Fraction, jitter: u64) -> i64
-    requires { (1 ≤ f.under) × (f.under ≤ maxDelay) × (f.over ≤ maxAllow * f.under) × (jitter ≤ maxResponse) }
+    requires { (1 ≤ f.under) × (f.under ≤ max_delay) × (f.over ≤ max_allow * f.under) × (jitter ≤ max_response) }
     ensures { result ≡ thousandths f jitter }
 {
     floor_of(1000 * f.over, 1000 * (jitter * f.under), f.under)
@@ -93,8 +93,8 @@ fn place_of(points: &[u64], n: usize, earliest: u64) -> usize
 
 // What the line permits that falls from `high` at `from` to `low` at `to`.
 fn on_line(from: u64, high: u64, to: u64, low: u64, earliest: u64) -> Fraction
-    requires { (from ≤ earliest) × (earliest ≤ to) × (to ≤ maxDelay) × (low ≤ maxAllow) × (high ≤ maxAllow) }
-    ensures { result ≡ onLine (point from high) (point to low) earliest }
+    requires { (from ≤ earliest) × (earliest ≤ to) × (to ≤ max_delay) × (low ≤ max_allow) × (high ≤ max_allow) }
+    ensures { result ≡ on_line (point from high) (point to low) earliest }
 {
     let over = high * (to - earliest) + low * (earliest - from);
     let under = to - from;
@@ -103,8 +103,8 @@ fn on_line(from: u64, high: u64, to: u64, low: u64, earliest: u64) -> Fraction
 
 // What a curve of n points permits.
 fn permitted(points: &[u64], n: usize, earliest: u64) -> Fraction
-    requires { (1 ≤ n) × (2 * n ≤ length points.now) × (wellFormed (pointsFrom n points.now) ≡ true) }
-    ensures { result ≡ permitted (pointsFrom n points.now) earliest }
+    requires { (1 ≤ n) × (2 * n ≤ length points.now) × (well_formed (points_from n points.now) ≡ true) }
+    ensures { result ≡ permitted (points_from n points.now) earliest }
 {
     let i = place_of(points, n, earliest);
     if i == 0 {
@@ -127,9 +127,9 @@ fn permitted(points: &[u64], n: usize, earliest: u64) -> Fraction
 
 // The margin of responses under a curve of n points.
 pub fn curve_margin(points: &[u64], n: usize, latest: u64, earliest: u64) -> i64
-    requires { (1 ≤ n) × (2 * n ≤ length points.now) × (wellFormed (pointsFrom n points.now) ≡ true)
-        × (latest ≤ maxResponse) × (earliest ≤ latest) }
-    ensures { result ≡ curveMargin (pointsFrom n points.now) latest earliest }
+    requires { (1 ≤ n) × (2 * n ≤ length points.now) × (well_formed (points_from n points.now) ≡ true)
+        × (latest ≤ max_response) × (earliest ≤ latest) }
+    ensures { result ≡ curve_margin (points_from n points.now) latest earliest }
 {
     let last = points[2 * (n - 1)];
     if last < earliest {

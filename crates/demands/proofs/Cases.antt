@@ -5,50 +5,50 @@ use mathlib.Core.List.{List, [], ◌∷◌}
 use Prim.Native.Nat.{ℕ}
 use native.Mathlib.Omega.{arith}
 use lib.IntN.{ℤ}
-use Rattle.text.specs.Text.{digits, decimal, signed, keyLine}
+use Rattle.text.specs.Text.{digits, decimal, signed, key_line}
 use Rattle.text.specs.Lines.{number_of, line_at}
-use Rattle.grammars.specs.Forms.{formAt}
-use Rattle.grammars.specs.Grammars.{readFor}
-use Rattle.tables.specs.TableLines.{readTable}
-use Rattle.curves.specs.Curves.{Point, point, permitted, curveMargin}
-use Rattle.rows.specs.Rows.{cost, withSwitch, withCurve}
+use Rattle.grammars.specs.Forms.{form_at}
+use Rattle.grammars.specs.Grammars.{read_for}
+use Rattle.tables.specs.TableLines.{read_table}
+use Rattle.curves.specs.Curves.{Point, point, permitted, curve_margin}
+use Rattle.rows.specs.Rows.{cost, with_switch, with_curve}
 use Rattle.rows.specs.Rows.{Row}
 use Rattle.responses.specs.Extremes.{smallest, largest}
-use Rattle.responses.specs.Figures.{blocking, isLate}
+use Rattle.responses.specs.Figures.{blocking, is_late}
 use Rattle.responses.specs.Claims.{NoneHolds}
-use Rattle.responses.proofs.Blocking.{no-blocking}
-use Rattle.responses.proofs.Sequences.{by-blocking}
-use Rattle.orders.specs.Orders.{overSet}
-use Rattle.plans.specs.Plans.{rankText, headText, planText, refusalText}
-use Rattle.plans.specs.Outcomes.{fitted, ifInTime}
-use Rattle.demands.specs.Calls.{onTable, ifOrdered}
-use Rattle.demands.specs.Cases.{HasFigures, AllSo, row11, row12, row13, starred, unstarred, ofTasks, ofHolds}
-use Rattle.demands.specs.Cases.{ofSwitch, curved13, ofCurves, ofCurveTexts}
+use Rattle.responses.proofs.Blocking.{no_blocking}
+use Rattle.responses.proofs.Sequences.{by_blocking}
+use Rattle.orders.specs.Orders.{over_set}
+use Rattle.plans.specs.Plans.{rank_text, head_text, plan_text, refusal_text}
+use Rattle.plans.specs.Outcomes.{fitted, if_in_time}
+use Rattle.demands.specs.Calls.{on_table, if_ordered}
+use Rattle.demands.specs.Cases.{HasFigures, AllSo, row11, row12, row13, starred, unstarred, of_tasks, of_holds}
+use Rattle.demands.specs.Cases.{of_switch, curved13, of_curves, of_curve_texts}
 
 -- the rows below count by their blocking time, which is that of none
-none-blocks : (below : List Row) → NoneHolds below → blocking below ≡ blocking []
-none-blocks below none = no-blocking below none ∙ sym (no-blocking [] (λ i l. absurd (omega arith)))
+none_blocks : (below : List Row) → NoneHolds below → blocking below ≡ blocking []
+none_blocks below none = no_blocking below none ∙ sym (no_blocking [] (λ i l. absurd (omega arith)))
 
 over : (t : Row) (above : List Row) {e w j : ℕ} {m : ℤ} → HasFigures t above [] e w j m
     → (below : List Row) → NoneHolds below → HasFigures t above below e w j m
 over t above h below none =
-    let same = by-blocking t above below [] (none-blocks below none) in (
-      same.late-same ∙ h.0,
-      same.earliest-same ∙ h.1,
+    let same = by_blocking t above below [] (none_blocks below none) in (
+      same.late_same ∙ h.0,
+      same.earliest_same ∙ h.1,
       same.latest-same ∙ h.2,
-      same.jitter-same ∙ h.3,
-      same.margin-same ∙ h.4,
+      same.jitter_same ∙ h.3,
+      same.margin_same ∙ h.4,
     )
 
-late-over : (t : Row) (above : List Row) → isLate t above [] ≡ true
-    → (below : List Row) → NoneHolds below → isLate t above below ≡ true
-late-over t above h below none =
-    (by-blocking t above below [] (none-blocks below none)).late-same ∙ h
+late_over : (t : Row) (above : List Row) → is_late t above [] ≡ true
+    → (below : List Row) → NoneHolds below → is_late t above below ≡ true
+late_over t above h below none =
+    (by_blocking t above below [] (none_blocks below none)).late_same ∙ h
 
-pub starred-so : AllSo starred
-unfolding digits decimal signed keyLine number_of line_at formAt readFor readTable
-    cost blocking smallest largest overSet rankText headText planText fitted onTable ifOrdered
-starred-so = (
+pub starred_so : AllSo starred
+unfolding digits decimal signed key_line number_of line_at form_at read_for read_table
+    cost blocking smallest largest over_set rank_text head_text plan_text fitted on_table if_ordered
+starred_so = (
   over (row13 57000) [] (refl, refl, refl, refl, refl),
   (
     over (row13 57000) (row12 8000 ∷ []) (refl, refl, refl, refl, refl),
@@ -57,7 +57,7 @@ starred-so = (
       (
         over (row13 57000) (row11 8000 ∷ row12 8000 ∷ []) (refl, refl, refl, refl, refl),
         (
-          late-over (row12 8000) (row13 57000 ∷ []) refl,
+          late_over (row12 8000) (row13 57000 ∷ []) refl,
           (
             over (row12 8000) (row11 8000 ∷ []) (refl, refl, refl, refl, refl),
             (refl, (refl, (refl, (refl, (refl, (refl, (refl, (refl, tt)))))))),
@@ -68,19 +68,19 @@ starred-so = (
   ),
 )
 
-pub unstarred-so : AllSo unstarred
-unfolding digits decimal signed keyLine number_of line_at formAt readFor readTable
-    cost blocking smallest largest overSet rankText headText planText refusalText fitted ifInTime onTable ifOrdered
-unstarred-so = (refl, (refl, (refl, (refl, (refl, (refl, (refl, tt)))))))
+pub unstarred_so : AllSo unstarred
+unfolding digits decimal signed key_line number_of line_at form_at read_for read_table
+    cost blocking smallest largest over_set rank_text head_text plan_text refusal_text fitted if_in_time on_table if_ordered
+unstarred_so = (refl, (refl, (refl, (refl, (refl, (refl, (refl, tt)))))))
 
-pub tasks-so : AllSo ofTasks
-unfolding digits decimal keyLine number_of line_at formAt readFor readTable refusalText onTable
-tasks-so = (refl, tt)
+pub tasks_so : AllSo of_tasks
+unfolding digits decimal key_line number_of line_at form_at read_for read_table refusal_text on_table
+tasks_so = (refl, tt)
 
-pub holds-so : AllSo ofHolds
-unfolding digits decimal signed keyLine number_of line_at formAt readFor readTable
-    cost blocking smallest largest overSet rankText headText planText fitted onTable ifOrdered
-holds-so = (
+pub holds_so : AllSo of_holds
+unfolding digits decimal signed key_line number_of line_at form_at read_for read_table
+    cost blocking smallest largest over_set rank_text head_text plan_text fitted on_table if_ordered
+holds_so = (
   (refl, refl, refl, refl, refl),
   (
     (refl, refl, refl, refl, refl),
@@ -94,22 +94,22 @@ holds-so = (
   ),
 )
 
-pub switch-so : AllSo ofSwitch
-unfolding digits decimal signed keyLine number_of line_at formAt readFor readTable
-    cost blocking smallest largest overSet rankText headText planText refusalText fitted ifInTime onTable ifOrdered
-switch-so = (
-  over (withSwitch 5 (row13 57000)) [] (refl, refl, refl, refl, refl),
+pub switch_so : AllSo of_switch
+unfolding digits decimal signed key_line number_of line_at form_at read_for read_table
+    cost blocking smallest largest over_set rank_text head_text plan_text refusal_text fitted if_in_time on_table if_ordered
+switch_so = (
+  over (with_switch 5 (row13 57000)) [] (refl, refl, refl, refl, refl),
   (
-    over (withSwitch 1 (row13 57000)) (withSwitch 1 (row12 8000) ∷ []) (refl, refl, refl, refl, refl),
+    over (with_switch 1 (row13 57000)) (with_switch 1 (row12 8000) ∷ []) (refl, refl, refl, refl, refl),
     (
-      over (withSwitch 1 (row13 57000)) (withSwitch 1 (row11 8000) ∷ withSwitch 1 (row12 8000) ∷ [])
+      over (with_switch 1 (row13 57000)) (with_switch 1 (row11 8000) ∷ with_switch 1 (row12 8000) ∷ [])
           (refl, refl, refl, refl, refl),
       (
-        over (withSwitch 2 (row13 57000)) (row11 8000 ∷ withSwitch 1 (row12 8000) ∷ []) (refl, refl, refl, refl, refl),
+        over (with_switch 2 (row13 57000)) (row11 8000 ∷ with_switch 1 (row12 8000) ∷ []) (refl, refl, refl, refl, refl),
         (
           (refl, refl, refl, refl, refl),
           (
-            late-over (withSwitch 6 (row12 8000)) (withSwitch 6 (row11 8000) ∷ []) refl,
+            late_over (with_switch 6 (row12 8000)) (with_switch 6 (row11 8000) ∷ []) refl,
             (refl, (refl, (refl, (refl, (refl, (refl, (refl, (refl, (refl, (refl, (refl, (refl, (refl, (refl, tt)))))))))))))),
           ),
         ),
@@ -128,9 +128,9 @@ judge : (c : List Point) {e w j : ℕ} {m : ℤ} → HasFigures (curved13 c) (ro
     → (below : List Row) → NoneHolds below → HasFigures (curved13 c) (row11 8000 ∷ row12 8000 ∷ []) below e w j m
 judge c h = over (curved13 c) (row11 8000 ∷ row12 8000 ∷ []) h
 
-pub curves-so : AllSo ofCurves
-unfolding cost blocking smallest largest permitted curveMargin
-curves-so =
+pub curves_so : AllSo of_curves
+unfolding cost blocking smallest largest permitted curve_margin
+curves_so =
     judge (point 30 10 ∷ []) (refl, refl, refl, refl, refl)
     also judge (point 25 12 ∷ []) (refl, refl, refl, refl, refl)
     also judge (point 25 9 ∷ []) (refl, refl, refl, refl, refl)
@@ -153,19 +153,19 @@ curves-so =
     (refl, refl, refl, refl, refl)
     also judge (point 1 20 ∷ point 2 20 ∷ point 3 20 ∷ point 4 20 ∷ point 5 20 ∷ point 6 20 ∷ point 7 20 ∷ point 8 20 ∷ [])
     (refl, refl, refl, refl, refl)
-    also over (row13 57000) (withCurve (point 0 0 ∷ []) (row11 8000) ∷ row12 8000 ∷ []) (refl, refl, refl, refl, refl)
-    also over (withSwitch 1 (curved13 (point 25 20 ∷ []))) (withSwitch 1 (row11 8000) ∷ withSwitch 1 (row12 8000) ∷ [])
+    also over (row13 57000) (with_curve (point 0 0 ∷ []) (row11 8000) ∷ row12 8000 ∷ []) (refl, refl, refl, refl, refl)
+    also over (with_switch 1 (curved13 (point 25 20 ∷ []))) (with_switch 1 (row11 8000) ∷ with_switch 1 (row12 8000) ∷ [])
     (refl, refl, refl, refl, refl)
     also (refl, refl, refl, refl, refl)
     also (refl, refl, refl, refl, refl)
-    also late-over (withCurve (point 1000000 1000000 ∷ []) (row12 8000)) (row13 57000 ∷ []) refl
+    also late_over (with_curve (point 1000000 1000000 ∷ []) (row12 8000)) (row13 57000 ∷ []) refl
     also tt
 
-pub curve-texts-so : AllSo ofCurveTexts
-unfolding digits decimal signed keyLine number_of line_at formAt readFor readTable
-    cost blocking smallest largest permitted curveMargin overSet rankText headText planText refusalText fitted ifInTime
-    onTable ifOrdered
-curve-texts-so =
+pub curve_texts_so : AllSo of_curve_texts
+unfolding digits decimal signed key_line number_of line_at form_at read_for read_table
+    cost blocking smallest largest permitted curve_margin over_set rank_text head_text plan_text refusal_text fitted if_in_time
+    on_table if_ordered
+curve_texts_so =
     refl also refl also refl also refl also refl also refl also refl also refl
     also refl also refl also refl also refl also refl also refl also refl also refl
     also refl also refl also refl also refl also refl also refl also refl also refl

@@ -7,98 +7,98 @@ use Prim.Native.Nat.{ℕ, suc, ◌≤◌, ◌<◌}
 use native.Mathlib.Omega.{arith}
 use lib.ListN.{length, take, length-take}
 use lib.Seq.{get_or-take}
-use Rattle.rows.specs.Rows.{in_range, timesInRange, all_rows, row_at, no_row}
+use Rattle.rows.specs.Rows.{in_range, times_in_range, all_rows, row_at, no_row}
 use Rattle.rows.specs.Rows.{Row}
-use Rattle.rows.proofs.Limits.{all-times, at-passes, front-passes}
-use Rattle.responses.specs.Figures.{rows_above, rowsBelow}
+use Rattle.rows.proofs.Limits.{all_times, at_passes, front_passes}
+use Rattle.responses.specs.Figures.{rows_above, rows_below}
 use Rattle.responses.specs.Claims.{Figured, AsRequest2, AsDocument01, NoSwitch, NoneHolds, SwitchUpTo, Grows}
-use Rattle.responses.proofs.Conditions.{by_condition, own-curve}
-use Rattle.responses.proofs.Responses.{figured, without-either}
-use Rattle.responses.proofs.Switches.{by-numbers, without-switch, switch-grows}
-use Rattle.responses.proofs.Sequences.{by-set}
-use Rattle.responses.proofs.Blocking.{rest-holds}
-use Rattle.boards.specs.Claims.{LastsInRange, Kept, latestAt, earliestAt, NoneLate}
+use Rattle.responses.proofs.Conditions.{by_condition, own_curve}
+use Rattle.responses.proofs.Responses.{figured, without_either}
+use Rattle.responses.proofs.Switches.{by_numbers, without_switch, switch_grows}
+use Rattle.responses.proofs.Sequences.{by_set}
+use Rattle.responses.proofs.Blocking.{rest_holds}
+use Rattle.boards.specs.Claims.{LastsInRange, Kept, latest_at, earliest_at, NoneLate}
 use Rattle.boards.proofs.Bounds as Boards
-use Rattle.boards.proofs.Runs.{board-runs}
-use Rattle.plans.specs.Entries.{entry, noEntry}
-use Rattle.plans.proofs.Entries.{entries-length, entry-at, entry-same}
+use Rattle.boards.proofs.Runs.{board_runs}
+use Rattle.plans.specs.Entries.{entry, no_entry}
+use Rattle.plans.proofs.Entries.{entries_length, entry_at_lem, entry_same}
 use Rattle.demands.specs.Demands.{entry_at, Promised}
 
 -- what each row of an order has, has each of the first
-front-each : (P : Row → Type 0) (rs : List Row) (n : ℕ) → ((i : ℕ) → i < length rs → P (row_at rs i))
+front_each : (P : Row → Type 0) (rs : List Row) (n : ℕ) → ((i : ℕ) → i < length rs → P (row_at rs i))
     → (i : ℕ) → i < length (take n rs) → P (row_at (take n rs) i)
-front-each P rs n h i l =
+front_each P rs n h i l =
     subst P (sym (get_or-take n rs i no_row (omega (arith, l, length-take n rs)))) (h i (omega (arith, l, length-take n rs)))
 
-module _ (order : List Row) (ok : all_rows in_range order ≡ true) (in-time : NoneLate order) where
-  times-ok : all_rows timesInRange order ≡ true
-  times-ok = all-times order ok
+module _ (order : List Row) (ok : all_rows in_range order ≡ true) (in_time : NoneLate order) where
+  times_ok : all_rows times_in_range order ≡ true
+  times_ok = all_times order ok
 
-  entry-is : (i : ℕ) → i < length order → entry_at order i
-      ≡ entry (row_at order i) (rows_above order i) (rowsBelow order i)
-  entry-is i h = entry-at order i noEntry h
+  entry_is : (i : ℕ) → i < length order → entry_at order i
+      ≡ entry (row_at order i) (rows_above order i) (rows_below order i)
+  entry_is i h = entry_at_lem order i no_entry h
 
-  by-formulas : (i : ℕ) → i < length order → Figured (row_at order i) (rows_above order i) (rowsBelow order i)
-  by-formulas i h =
-      figured (row_at order i) (rows_above order i) (rowsBelow order i) (at-passes timesInRange order i times-ok h)
-      (front-passes timesInRange i order times-ok)
+  by_formulas : (i : ℕ) → i < length order → Figured (row_at order i) (rows_above order i) (rows_below order i)
+  by_formulas i h =
+      figured (row_at order i) (rows_above order i) (rows_below order i) (at_passes times_in_range order i times_ok h)
+      (front_passes times_in_range i order times_ok)
 
   -- what the board keeps is what the entries say
   kept : (offset : ℕ → ℕ) (need : ℕ → ℕ → ℕ) (keeps : ℕ → Bool) → LastsInRange order need
       → Kept order offset need keeps (λ i. (entry_at order i).worst) (λ i. (entry_at order i).best)
   kept offset need keeps lasts =
-      let k = Boards.kept order offset need keeps times-ok in-time lasts in
+      let k = Boards.kept order offset need keeps times_ok in_time lasts in
       record {
-        in-time = λ i n h.
-            let t = k.in-time i n h in
-            let w : (entry_at order i).worst ≡ latestAt order i = ap (λ e. e.worst) (entry-is i h) in
+        in_time = λ i n h.
+            let t = k.in_time i n h in
+            let w : (entry_at order i).worst ≡ latest_at order i = ap (λ e. e.worst) (entry_is i h) in
             (t.0, t.1, omega (arith, t.2, w), t.3);
         once = k.once;
-        not-early = λ i r f h started done.
-            let b : (entry_at order i).best ≡ earliestAt order i = ap (λ e. e.best) (entry-is i h) in
-            omega (arith, k.not-early i r f h started done, b);
+        not_early = λ i r f h started done.
+            let b : (entry_at order i).best ≡ earliest_at order i = ap (λ e. e.best) (entry_is i h) in
+            omega (arith, k.not_early i r f h started done, b);
       }
 
-  by-sets : (i : ℕ) (above' below' : List Row) → i < length order
-      → Perm (rows_above order i) above' → Perm (rowsBelow order i) below'
+  by_sets : (i : ℕ) (above' below' : List Row) → i < length order
+      → Perm (rows_above order i) above' → Perm (rows_below order i) below'
       → entry_at order i ≡ entry (row_at order i) above' below'
-  by-sets i above' below' h p q =
+  by_sets i above' below' h p q =
       let t = row_at order i in
       let above = rows_above order i in
-      let below = rowsBelow order i in
-      entry-is i h ∙ entry-same t above above' below below' (by-set t above above' below below' p q)
+      let below = rows_below order i in
+      entry_is i h ∙ entry_same t above above' below below' (by_set t above above' below below' p q)
 
-  before-switch : NoSwitch order → (i : ℕ) → i < length order
-      → AsRequest2 (row_at order i) (rows_above order i) (rowsBelow order i)
-  before-switch none i h =
-      without-switch (row_at order i) (rows_above order i) (rowsBelow order i) (none i h)
-      (front-each (λ r. r.switch ≡ 0) order i none)
+  before_switch : NoSwitch order → (i : ℕ) → i < length order
+      → AsRequest2 (row_at order i) (rows_above order i) (rows_below order i)
+  before_switch none i h =
+      without_switch (row_at order i) (rows_above order i) (rows_below order i) (none i h)
+      (front_each (λ r. r.switch ≡ 0) order i none)
 
   as_before : NoSwitch order → NoneHolds order → (i : ℕ) → i < length order
-      → AsDocument01 (row_at order i) (rows_above order i) (rowsBelow order i)
+      → AsDocument01 (row_at order i) (rows_above order i) (rows_below order i)
   as_before free none i h =
-      without-either (row_at order i) (rows_above order i) (rowsBelow order i) (free i h)
-      (front-each (λ r. r.switch ≡ 0) order i free) (none i h) (rest-holds order (suc i) none)
+      without_either (row_at order i) (rows_above order i) (rows_below order i) (free i h)
+      (front_each (λ r. r.switch ≡ 0) order i free) (none i h) (rest_holds order (suc i) none)
 
   grows : (s : ℕ) → SwitchUpTo s order → (i : ℕ) → i < length order
-      → Grows (row_at order i) (rows_above order i) (rowsBelow order i) s
+      → Grows (row_at order i) (rows_above order i) (rows_below order i) s
   grows s up i h =
-      switch-grows (row_at order i) (rows_above order i) (rowsBelow order i) s (at-passes in_range order i ok h)
-      (front-passes timesInRange i order times-ok) (up i h) (front-each (λ r. r.switch ≤ s) order i up)
+      switch_grows (row_at order i) (rows_above order i) (rows_below order i) s (at_passes in_range order i ok h)
+      (front_passes times_in_range i order times_ok) (up i h) (front_each (λ r. r.switch ≤ s) order i up)
 
   pub promised : Promised order
   promised = record {
-    as_many = entries-length [] order;
-    entry-is = entry-is;
-    by-formulas = by-formulas;
+    as_many = entries_length [] order;
+    entry_is = entry_is;
+    by_formulas = by_formulas;
     by_condition = λ i h.
-        by_condition (row_at order i) (rows_above order i) (rowsBelow order i) (at-passes in_range order i ok h);
-    own-curve = λ i h. own-curve (row_at order i) (rows_above order i) (rowsBelow order i);
-    by-sets = by-sets;
-    by-numbers = λ i h. by-numbers (row_at order i) (rows_above order i) (rowsBelow order i);
-    without-switch = before-switch;
-    without-either = as_before;
-    switch-grows = grows;
-    by-rules = λ offset need keeps lasts. board-runs order offset need keeps times-ok lasts;
+        by_condition (row_at order i) (rows_above order i) (rows_below order i) (at_passes in_range order i ok h);
+    own_curve = λ i h. own_curve (row_at order i) (rows_above order i) (rows_below order i);
+    by_sets = by_sets;
+    by_numbers = λ i h. by_numbers (row_at order i) (rows_above order i) (rows_below order i);
+    without_switch = before_switch;
+    without_either = as_before;
+    switch_grows = grows;
+    by_rules = λ offset need keeps lasts. board_runs order offset need keeps times_ok lasts;
     kept = kept;
   }

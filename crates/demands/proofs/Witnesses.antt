@@ -6,40 +6,40 @@ use mathlib.Core.List.{List, [], ◌∷◌, map}
 use Prim.Native.Nat.{ℕ, ◌-◌, ◌*◌, ◌/◌, ◌≤◌}
 use native.Mathlib.Omega.{arith}
 use lib.ListN.{length}
-use Rattle.text.specs.Text.{digits, decimal, signed, keyLine}
+use Rattle.text.specs.Text.{digits, decimal, signed, key_line}
 use Rattle.text.specs.Lines.{number_of, line_at}
-use Rattle.grammars.specs.Forms.{formAt}
-use Rattle.grammars.specs.Grammars.{readFor}
-use Rattle.curves.specs.Curves.{wellFormed, permitted, curveMargin}
-use Rattle.rows.specs.Rows.{maxTask, maxTicks, cost}
+use Rattle.grammars.specs.Forms.{form_at}
+use Rattle.grammars.specs.Grammars.{read_for}
+use Rattle.curves.specs.Curves.{well_formed, permitted, curve_margin}
+use Rattle.rows.specs.Rows.{max_task, max_ticks, cost}
 use Rattle.rows.specs.Rows.{Row}
-use Rattle.tables.specs.TableLines.{TableRead, readTable}
+use Rattle.tables.specs.TableLines.{TableRead, read_table}
 use Rattle.responses.specs.Extremes.{smallest, largest}
-use Rattle.responses.specs.Figures.{worstLoad, bestLoad, worstIn, bestIn, blocking, isLate, latest, earliest, marginAt}
+use Rattle.responses.specs.Figures.{worst_load, best_load, worst_in, best_in, blocking, is_late, latest, earliest, margin_at}
 use Rattle.responses.specs.Claims.{Figured, switched}
 use Rattle.responses.proofs.Responses.{figured}
-use Rattle.responses.proofs.Sums.{interference-mono}
-use Rattle.orders.specs.Orders.{overSet}
+use Rattle.responses.proofs.Sums.{interference_mono}
+use Rattle.orders.specs.Orders.{over_set}
 use Rattle.plans.specs.declared.Entry.{Entry}
 use Rattle.plans.specs.Entries.{entry, entries}
-use Rattle.plans.specs.Plans.{rankText, headText, planText, rankRoom}
-use Rattle.plans.specs.Outcomes.{refuses, ifInTime}
-use Rattle.demands.specs.Calls.{onTable, planned, reviewed}
+use Rattle.plans.specs.Plans.{rank_text, head_text, plan_text, rank_room}
+use Rattle.plans.specs.Outcomes.{refuses, if_in_time}
+use Rattle.demands.specs.Calls.{on_table, planned, reviewed}
 use Rattle.demands.specs.Cases.{table, pointed}
-use Rattle.boards.specs.Witnesses.{exampleOrder}
-use Rattle.boards.proofs.Witnesses.{runs-met}
-use Rattle.demands.specs.Witnesses.{example, exampleRows, timelyText, lateOrder, lateText, malformed}
-use Rattle.demands.specs.Witnesses.{tenth, tenths, mostText, switchedText, looseOrder, curvedText, curvedRows}
+use Rattle.boards.specs.Witnesses.{example_order}
+use Rattle.boards.proofs.Witnesses.{runs_met}
+use Rattle.demands.specs.Witnesses.{example, example_rows, timely_text, late_order, late_text, malformed}
+use Rattle.demands.specs.Witnesses.{tenth, tenths, most_text, switched_text, loose_order, curved_text, curved_rows}
 use Rattle.demands.specs.Witnesses.{Met, Excluded}
-use Rattle.demands.proofs.Outcomes.{same-refusal, not-both}
-use Rattle.demands.proofs.Texts.{failing, telling, fails-only}
+use Rattle.demands.proofs.Outcomes.{same_refusal, not_both}
+use Rattle.demands.proofs.Texts.{failing, telling, fails_only}
 use Rattle.demands.proofs.Planner as Planner
 use Rattle.demands.proofs.Reviewer as Reviewer
 
 -- ---- a rank that fills its room: W is the longest period, and E a tenth of it
 module _ where
   abbrev lowest : Row
-  lowest = tenth maxTask
+  lowest = tenth max_task
 
   abbrev above : List Row
   above = tenths 9
@@ -48,50 +48,50 @@ module _ where
   unfolding cost
   figures = figured lowest above [] refl refl
 
-  whole-period : (isLate lowest above [] ≡ false) × (latest lowest above [] ≤ maxTicks)
+  whole_period : (is_late lowest above [] ≡ false) × (latest lowest above [] ≤ max_ticks)
   unfolding cost blocking
-  whole-period = figures.latest-least maxTicks (omega arith) refl (omega arith)
+  whole_period = figures.latest_least max_ticks (omega arith) refl (omega arith)
 
-  latest-whole : latest lowest above [] ≡ maxTicks
+  latest_whole : latest lowest above [] ≡ max_ticks
   unfolding cost blocking
-  latest-whole =
-      let w = figures.latest-fixed whole-period.0 in
-      let once : worstIn 1 above ≡ 9 * (maxTicks / 10) = refl in
-      omega (arith, w.0, w.2, once, interference-mono 0 1 (latest lowest above []) (map worstLoad above) w.1)
+  latest_whole =
+      let w = figures.latest_fixed whole_period.0 in
+      let once : worst_in 1 above ≡ 9 * (max_ticks / 10) = refl in
+      omega (arith, w.0, w.2, once, interference_mono 0 1 (latest lowest above []) (map worst_load above) w.1)
 
-  earliest-tenth : earliest lowest above [] ≡ maxTicks / 10
-  earliest-tenth =
-      let e = figures.earliest-fixed (omega arith) whole-period.0 in
-      let none : bestIn maxTicks above ≡ 0 = refl in
+  earliest_tenth : earliest lowest above [] ≡ max_ticks / 10
+  earliest_tenth =
+      let e = figures.earliest_fixed (omega arith) whole_period.0 in
+      let none : best_in max_ticks above ≡ 0 = refl in
       omega (
         arith,
         e.0,
         none,
-        interference-mono 1 (earliest lowest above []) maxTicks (map bestLoad above)
-            (omega (arith, e.2, latest-whole)),
+        interference_mono 1 (earliest lowest above []) max_ticks (map best_load above)
+            (omega (arith, e.2, latest_whole)),
       )
 
   -- the entry of any two responses
   abbrev entry_of : ℕ → ℕ → Entry
-  entry_of w e = record { task = maxTask; best = e; worst = w; jitter = w - e; margin = marginAt lowest w e }
+  entry_of w e = record { task = max_task; best = e; worst = w; jitter = w - e; margin = margin_at lowest w e }
 
-  filled-then : length (rankText 10 (entry_of maxTicks (maxTicks / 10))) ≡ rankRoom
-  unfolding digits decimal signed keyLine rankText
-  filled-then = refl
+  filled_then : length (rank_text 10 (entry_of max_ticks (max_ticks / 10))) ≡ rank_room
+  unfolding digits decimal signed key_line rank_text
+  filled_then = refl
 
-  filled : length (rankText 10 (entry lowest above [])) ≡ rankRoom
-  filled = ap₂ (λ (w e : ℕ). length (rankText 10 (entry_of w e))) latest-whole earliest-tenth ∙ filled-then
+  filled : length (rank_text 10 (entry lowest above [])) ≡ rank_room
+  filled = ap₂ (λ (w e : ℕ). length (rank_text 10 (entry_of w e))) latest_whole earliest_tenth ∙ filled_then
 
 pub met : Met
-unfolding digits decimal signed keyLine number_of line_at formAt readFor readTable
-    cost blocking smallest largest wellFormed permitted curveMargin overSet rankText headText planText ifInTime onTable
+unfolding digits decimal signed key_line number_of line_at form_at read_for read_table
+    cost blocking smallest largest well_formed permitted curve_margin over_set rank_text head_text plan_text if_in_time on_table
 met =
-    let late-told = telling true lateText refl in
-    let late = Reviewer.review-demands lateText 0 in
-    let late-given = late.given 7 exampleRows (11 ∷ 13 ∷ 12 ∷ []) late-told in
-    let timely-told = telling true timelyText refl in
-    let timely = Reviewer.review-demands timelyText 0 in
-    let plan-long : length (planText 7 (entries exampleOrder)) ≡ 176 = refl in
+    let late_told = telling true late_text refl in
+    let late = Reviewer.review_demands late_text 0 in
+    let late_given = late.given 7 example_rows (11 ∷ 13 ∷ 12 ∷ []) late_told in
+    let timely_told = telling true timely_text refl in
+    let timely = Reviewer.review_demands timely_text 0 in
+    let plan_long : length (plan_text 7 (entries example_order)) ≡ 176 = refl in
     record {
       missing = failing false _ 0 refl;
       trailing = failing false _ 0 refl;
@@ -102,73 +102,73 @@ met =
       impossible = failing true _ 5 refl;
       disorderly = failing false _ 10 refl;
       tells = telling false example refl;
-      by-rule = Planner.rule-of example 0 refl exampleOrder refl;
-      short = omega (arith, plan-long);
-      every-order-fails = (Planner.choice (table "beta=8000" "beta=8000" "beta=54999") refl).none_passes refl;
-      tells-late = late-told;
-      given-late = late-given;
-      first-late = ((late.accepted 7 exampleRows (11 ∷ 13 ∷ 12 ∷ []) late-told lateOrder late-given).seven 2).0 refl;
-      tells-timely = timely-told;
-      given-timely = timely.given 7 exampleRows (12 ∷ 11 ∷ 13 ∷ []) timely-told;
-      none-late = runs-met.none-late;
-      tells-most = telling false mostText refl;
-      record-short = omega arith;
-      beside-most = refl;
-      beside-more = refl;
-      limits-met = refl;
-      worst-past = refl;
-      best-past = refl;
-      hold-past = refl;
-      switch-most = refl;
-      switch-past = refl;
-      curve-met = refl;
-      curve-most = refl;
-      delay-not-above = refl;
-      allow-above = refl;
-      delay-past = refl;
-      allow-past = refl;
-      points-past = refl;
-      tells-curved = telling false curvedText refl;
-      by-rule-curved = Planner.rule-of curvedText 0 refl curvedRows refl;
-      line-fails = (Planner.choice (pointed ("points=0" ∷ [])) refl).none_passes refl;
-      lent-whole = refl;
-      lent_rows = refl;
-      lent-second = refl;
-      tells-switched = telling false switchedText refl;
-      by-rule-switched = Planner.rule-of switchedText 0 refl (switched 1 looseOrder) refl;
-      beside-switched = refl;
-      room-is = refl;
-      head-filled = refl;
-      rank-in-limits = refl;
-      rank-timely = whole-period.0;
-      rank-filled = filled;
+      by_rule = Planner.rule_of example 0 refl example_order refl;
+      short = omega (arith, plan_long);
+      every_order_fails = (Planner.choice (table "beta=8000" "beta=8000" "beta=54999") refl).none_passes refl;
+      tells_late = late_told;
+      given_late = late_given;
+      first_late_lem = ((late.accepted 7 example_rows (11 ∷ 13 ∷ 12 ∷ []) late_told late_order late_given).seven 2).0 refl;
+      tells_timely = timely_told;
+      given_timely = timely.given 7 example_rows (12 ∷ 11 ∷ 13 ∷ []) timely_told;
+      none_late = runs_met.none_late;
+      tells_most = telling false most_text refl;
+      record_short = omega arith;
+      beside_most = refl;
+      beside_more = refl;
+      limits_met = refl;
+      worst_past = refl;
+      best_past = refl;
+      hold_past = refl;
+      switch_most = refl;
+      switch_past = refl;
+      curve_met = refl;
+      curve_most = refl;
+      delay_not_above = refl;
+      allow_above = refl;
+      delay_past = refl;
+      allow_past = refl;
+      points_past = refl;
+      tells_curved = telling false curved_text refl;
+      by_rule_curved = Planner.rule_of curved_text 0 refl curved_rows refl;
+      line_fails = (Planner.choice (pointed ("points=0" ∷ [])) refl).none_passes refl;
+      lent_whole = refl;
+      lent_rows_lem = refl;
+      lent_second = refl;
+      tells_switched = telling false switched_text refl;
+      by_rule_switched = Planner.rule_of switched_text 0 refl (switched 1 loose_order) refl;
+      beside_switched = refl;
+      room_is = refl;
+      head_filled = refl;
+      rank_in_limits = refl;
+      rank_timely = whole_period.0;
+      rank_filled = filled;
     }
 
 -- a text that is no table has its refusal only
-malformed-only : (room : ℕ) → planned malformed room ≡ refuses 2 1
-unfolding number_of line_at formAt readFor readTable onTable
-malformed-only room = refl
+malformed_only : (room : ℕ) → planned malformed room ≡ refuses 2 1
+unfolding number_of line_at form_at read_for read_table on_table
+malformed_only room = refl
 
-example-accepted : (readTable false example).refused ≡ 0
-unfolding number_of line_at formAt readFor readTable
-example-accepted = refl
+example_accepted : (read_table false example).refused ≡ 0
+unfolding number_of line_at form_at read_for read_table
+example_accepted = refl
 
-late-only : (room : ℕ) → reviewed lateText room ≡ refuses 7 3
-unfolding number_of line_at formAt readFor readTable cost blocking smallest ifInTime onTable
-late-only room = refl
+late_only : (room : ℕ) → reviewed late_text room ≡ refuses 7 3
+unfolding number_of line_at form_at read_for read_table cost blocking smallest if_in_time on_table
+late_only room = refl
 
 pub excluded : Excluded
 excluded = record {
-  two-for-a-table = λ room d.
-      let e = fails-only false example 2 77 ((d.refused 2 77).0 (refl, refl)) in
-      let z : ◌≡◌ {A = ℕ} 0 2 = sym example-accepted ∙ ap (λ (a : TableRead). a.refused) e in
+  two_for_a_table = λ room d.
+      let e = fails_only false example 2 77 ((d.refused 2 77).0 (refl, refl)) in
+      let z : ◌≡◌ {A = ℕ} 0 2 = sym example_accepted ∙ ap (λ (a : TableRead). a.refused) e in
       omega arith;
-  empty-plan = λ room d. not-both (Planner.decided malformed room _ d ∙ malformed-only room);
+  empty_plan = λ room d. not_both (Planner.decided malformed room _ d ∙ malformed_only room);
   no_line = λ room d.
-      let z : ◌≡◌ {A = ℕ} 0 1 = (same-refusal (Planner.decided malformed room _ d ∙ malformed-only room)).1 in
+      let z : ◌≡◌ {A = ℕ} 0 1 = (same_refusal (Planner.decided malformed room _ d ∙ malformed_only room)).1 in
       omega arith;
-  seven-with-no-rank = λ text room d. Reviewer.seven-ranked text room (sym (Reviewer.decided text room _ d));
-  nine-for-late = λ room d.
-      let z : ◌≡◌ {A = ℕ} 9 7 = (same-refusal (Reviewer.decided lateText room _ d ∙ late-only room)).0 in
+  seven_with_no_rank = λ text room d. Reviewer.seven_ranked text room (sym (Reviewer.decided text room _ d));
+  nine_for_late = λ room d.
+      let z : ◌≡◌ {A = ℕ} 9 7 = (same_refusal (Reviewer.decided late_text room _ d ∙ late_only room)).0 in
       omega arith;
 }

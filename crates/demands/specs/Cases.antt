@@ -6,14 +6,14 @@ use Rattle.std.proofs.Math.Option.{Option, none, some}
 use Prim.Native.String.{String}
 use Rattle.text.specs.Text.{lined}
 use Rattle.curves.specs.Curves.{Point, point}
-use Rattle.rows.specs.Rows.{row, withSwitch, withCurve, tasksOf}
+use Rattle.rows.specs.Rows.{row, with_switch, with_curve, tasks_of}
 use Rattle.rows.specs.Rows.{Row}
-use Rattle.responses.specs.Figures.{latest, isLate, earliest, jitter, margin}
+use Rattle.responses.specs.Figures.{latest, is_late, earliest, jitter, margin}
 use Rattle.responses.specs.Claims.{NoneHolds}
-use Rattle.orders.specs.Stability.{chosenOrder}
-use Rattle.plans.specs.Plans.{planRoom}
+use Rattle.orders.specs.Stability.{chosen_order}
+use Rattle.plans.specs.Plans.{plan_room}
 use Rattle.plans.specs.Outcomes.{writes, refuses}
-use Rattle.demands.specs.Calls.{planned, plannerPrints, reviewerPrints}
+use Rattle.demands.specs.Calls.{planned, planner_prints, reviewer_prints}
 
 -- a row under rows above it, over any rows that hold nothing, and its E, W, jitter and margin; a late row; a row
 -- between rows above it and below it; a table's rows and the tasks of its order; a text and its whole plan; a text and
@@ -28,14 +28,14 @@ pub data Case : Type 0 where
   planner : List ℕ → List ℕ → Case
   reviewer : List ℕ → List ℕ → Case
 
-abbrev pub tasksIn : Option (List Row) → Option (List ℕ)
-tasksIn none = none
-tasksIn (some os) = some (tasksOf os)
+abbrev pub tasks_in : Option (List Row) → Option (List ℕ)
+tasks_in none = none
+tasks_in (some os) = some (tasks_of os)
 
 -- a row that is not late, and its figures
 abbrev pub HasFigures : Row → List Row → List Row → ℕ → ℕ → ℕ → ℤ → Type 0
 HasFigures t above below e w j m =
-    (isLate t above below ≡ false)
+    (is_late t above below ≡ false)
     × (earliest t above below ≡ e)
     × (latest t above below ≡ w)
     × (jitter t above below ≡ j)
@@ -44,12 +44,12 @@ HasFigures t above below e w j m =
 abbrev pub IsSo : Case → Type 0
 IsSo (figures t above e w j m) = (below : List Row) → NoneHolds below → HasFigures t above below e w j m
 IsSo (between t above below e w j m) = HasFigures t above below e w j m
-IsSo (late t above) = (below : List Row) → NoneHolds below → isLate t above below ≡ true
-IsSo (order rows tasks) = tasksIn (chosenOrder rows) ≡ some tasks
-IsSo (plan text output) = planned text planRoom ≡ writes output
-IsSo (refusal text number place) = planned text planRoom ≡ refuses number place
-IsSo (planner text output) = plannerPrints text ≡ output
-IsSo (reviewer text output) = reviewerPrints text ≡ output
+IsSo (late t above) = (below : List Row) → NoneHolds below → is_late t above below ≡ true
+IsSo (order rows tasks) = tasks_in (chosen_order rows) ≡ some tasks
+IsSo (plan text output) = planned text plan_room ≡ writes output
+IsSo (refusal text number place) = planned text plan_room ≡ refuses number place
+IsSo (planner text output) = planner_prints text ≡ output
+IsSo (reviewer text output) = reviewer_prints text ≡ output
 
 abbrev pub AllSo : List Case → Type 0
 AllSo [] = Unit {0}
@@ -65,8 +65,8 @@ row12 beta = row 12 18 2 2 1000 beta 0 0
 abbrev pub row13 : ℕ → Row
 row13 beta = row 13 200 19 17 3000 beta 0 0
 
-abbrev pub tableUnder : String → String → String → String → List ℕ
-tableUnder switch beta11 beta12 beta13 = lined (
+abbrev pub table_under : String → String → String → String → List ℕ
+table_under switch beta11 beta12 beta13 = lined (
     "board=7" ∷ "tasks=3" ∷ switch
     ∷ "task=11" ∷ "period=24" ∷ "worst=6" ∷ "best=6" ∷ "alpha=1000" ∷ beta11 ∷ "hold=0" ∷ "points=0"
     ∷ "task=12" ∷ "period=18" ∷ "worst=2" ∷ "best=2" ∷ "alpha=1000" ∷ beta12 ∷ "hold=0" ∷ "points=0"
@@ -74,11 +74,11 @@ tableUnder switch beta11 beta12 beta13 = lined (
     ∷ [])
 
 abbrev pub table : String → String → String → List ℕ
-table beta11 beta12 beta13 = tableUnder "switch=0" beta11 beta12 beta13
+table beta11 beta12 beta13 = table_under "switch=0" beta11 beta12 beta13
 
 -- its plan, with the margin of task 13
-abbrev pub planWith : String → List ℕ
-planWith margin13 = lined (
+abbrev pub plan_with : String → List ℕ
+plan_with margin13 = lined (
     "plan=1" ∷ "board=7" ∷ "tasks=3"
     ∷ "rank=1" ∷ "task=12" ∷ "best=2" ∷ "worst=2" ∷ "jitter=0" ∷ "margin=6000"
     ∷ "rank=2" ∷ "task=11" ∷ "best=6" ∷ "worst=8" ∷ "jitter=2" ∷ "margin=0"
@@ -101,8 +101,8 @@ starred =
     ∷ late (row12 8000) (row13 57000 ∷ [])
     ∷ figures (row12 8000) (row11 8000 ∷ []) 2 8 6 (pos 0)
     ∷ order (row11 8000 ∷ row12 8000 ∷ row13 57000 ∷ []) (12 ∷ 11 ∷ 13 ∷ [])
-    ∷ plan (table "beta=8000" "beta=8000" "beta=57000") (planWith "margin=2000")
-    ∷ plan (table "beta=8000" "beta=8000" "beta=55000") (planWith "margin=0")
+    ∷ plan (table "beta=8000" "beta=8000" "beta=57000") (plan_with "margin=2000")
+    ∷ plan (table "beta=8000" "beta=8000" "beta=55000") (plan_with "margin=0")
     ∷ refusal (table "beta=8000" "beta=8000" "beta=54999") 8 0
     ∷ order (row11 7999 ∷ row12 8000 ∷ row13 57000 ∷ []) (11 ∷ 12 ∷ 13 ∷ [])
     ∷ refusal (table "beta=7999" "beta=7999" "beta=57000") 8 0
@@ -114,8 +114,8 @@ starred =
 
 -- ---- the other cases; that worst = period passes is a starred one
 -- the paper's task 13 under task 11
-abbrev pub elevenAbove : List ℕ
-elevenAbove = lined (
+abbrev pub eleven_above : List ℕ
+eleven_above = lined (
     "board=7" ∷ "tasks=2" ∷ "switch=0"
     ∷ "task=11" ∷ "period=24" ∷ "worst=6" ∷ "best=6" ∷ "alpha=1000" ∷ "beta=8000" ∷ "hold=0" ∷ "points=0"
     ∷ "task=13" ∷ "period=200" ∷ "worst=19" ∷ "best=17" ∷ "alpha=3000" ∷ "beta=57000" ∷ "hold=0" ∷ "points=0"
@@ -126,12 +126,12 @@ abbrev pub unstarred : List Case
 unstarred =
     reviewer (table "beta=8000" "beta=8000" "beta=57000" ++ lined ("rank=11" ∷ "rank=13" ∷ "rank=12" ∷ []))
     (lined ("plan=0" ∷ "refusal=7" ∷ "line=3" ∷ []))
-    ∷ planner (table "beta=8000" "beta=8000" "beta=57000") (planWith "margin=2000")
+    ∷ planner (table "beta=8000" "beta=8000" "beta=57000") (plan_with "margin=2000")
     ∷ planner [] (lined ("plan=0" ∷ "refusal=1" ∷ "line=1" ∷ []))
     ∷ planner (lined ("board=07" ∷ [])) (lined ("plan=0" ∷ "refusal=2" ∷ "line=1" ∷ []))
     ∷ planner (lined ("board=7" ∷ "tasks=17" ∷ [])) (lined ("plan=0" ∷ "refusal=3" ∷ "line=2" ∷ []))
     ∷ planner (alone "worst=11" "beta=10000") (lined ("plan=0" ∷ "refusal=4" ∷ "line=6" ∷ []))
-    ∷ reviewer elevenAbove
+    ∷ reviewer eleven_above
     (lined (
     "plan=1" ∷ "board=7" ∷ "tasks=2"
     ∷ "rank=1" ∷ "task=11" ∷ "best=6" ∷ "worst=6" ∷ "jitter=0" ∷ "margin=2000"
@@ -140,8 +140,8 @@ unstarred =
     ∷ []
 
 -- ---- sixteen tasks are not too many: it is the line after them that is missing
-abbrev pub ofTasks : List Case
-ofTasks = planner (lined ("board=7" ∷ "tasks=16" ∷ [])) (lined ("plan=0" ∷ "refusal=1" ∷ "line=3" ∷ [])) ∷ []
+abbrev pub of_tasks : List Case
+of_tasks = planner (lined ("board=7" ∷ "tasks=16" ∷ [])) (lined ("plan=0" ∷ "refusal=1" ∷ "line=3" ∷ [])) ∷ []
 
 -- ---- holds
 -- the paper's task 13 with a hold
@@ -156,8 +156,8 @@ bus beta hold = lined (
     ∷ "task=2" ∷ "period=20" ∷ "worst=5" ∷ "best=3" ∷ "alpha=1000" ∷ "beta=20000" ∷ hold ∷ "points=0"
     ∷ [])
 
-abbrev pub ofHolds : List Case
-ofHolds =
+abbrev pub of_holds : List Case
+of_holds =
     -- the largest hold below less 1; a hold of 1 blocks nobody, nor does one above or the task's own
     between (row11 8000) (row12 8000 ∷ []) (holding13 5 ∷ []) 6 12 6 (negsuc 3999)
     ∷ between (row11 8000) (row12 8000 ∷ []) (holding13 1 ∷ []) 6 8 2 (pos 0)
@@ -179,35 +179,35 @@ ofHolds =
 
 -- ---- the switch
 -- one task with a period of 10, with the lines before it, its worst, its best and its hold, and no points
-abbrev pub aloneUnder : List String → String → String → String → List ℕ
-aloneUnder head worst best hold =
+abbrev pub alone_under : List String → String → String → String → List ℕ
+alone_under head worst best hold =
     lined head
     ++ lined ("task=1" ∷ "period=10" ∷ worst ∷ best ∷ "alpha=1000" ∷ "beta=10000" ∷ hold ∷ "points=0" ∷ [])
 
 -- under a switch, by its line
-abbrev pub oneUnder : String → String → String → String → List ℕ
-oneUnder switch worst best hold = aloneUnder ("board=7" ∷ "tasks=1" ∷ switch ∷ []) worst best hold
+abbrev pub one_under : String → String → String → String → List ℕ
+one_under switch worst best hold = alone_under ("board=7" ∷ "tasks=1" ∷ switch ∷ []) worst best hold
 
-abbrev pub refusedAt : String → String → List ℕ
-refusedAt number line = lined ("plan=0" ∷ number ∷ line ∷ [])
+abbrev pub refused_at : String → String → List ℕ
+refused_at number line = lined ("plan=0" ∷ number ∷ line ∷ [])
 
-abbrev pub ofSwitch : List Case
-ofSwitch =
+abbrev pub of_switch : List Case
+of_switch =
     -- once for the task's own job, once for each job above, in W; in no E
-    figures (withSwitch 5 (row13 57000)) [] 17 24 7 (pos 19000)
-    ∷ figures (withSwitch 1 (row13 57000)) (withSwitch 1 (row12 8000) ∷ []) 19 26 7 (pos 17000)
-    ∷ figures (withSwitch 1 (row13 57000)) (withSwitch 1 (row11 8000) ∷ withSwitch 1 (row12 8000) ∷ []) 25 43 18
+    figures (with_switch 5 (row13 57000)) [] 17 24 7 (pos 19000)
+    ∷ figures (with_switch 1 (row13 57000)) (with_switch 1 (row12 8000) ∷ []) 19 26 7 (pos 17000)
+    ∷ figures (with_switch 1 (row13 57000)) (with_switch 1 (row11 8000) ∷ with_switch 1 (row12 8000) ∷ []) 25 43 18
     (negsuc 21999)
     -- each row's own
-    ∷ figures (withSwitch 2 (row13 57000)) (row11 8000 ∷ withSwitch 1 (row12 8000) ∷ []) 25 42 17 (negsuc 18999)
+    ∷ figures (with_switch 2 (row13 57000)) (row11 8000 ∷ with_switch 1 (row12 8000) ∷ []) 25 42 17 (negsuc 18999)
     -- not in the blocking time
-    ∷ between (withSwitch 1 (row11 8000)) (withSwitch 1 (row12 8000) ∷ []) (withSwitch 1 (holding13 5) ∷ []) 6 14 8
+    ∷ between (with_switch 1 (row11 8000)) (with_switch 1 (row12 8000) ∷ []) (with_switch 1 (holding13 5) ∷ []) 6 14 8
     (negsuc 5999)
     -- a task that fits its period can be late by it
-    ∷ late (withSwitch 6 (row12 8000)) (withSwitch 6 (row11 8000) ∷ [])
+    ∷ late (with_switch 6 (row12 8000)) (with_switch 6 (row11 8000) ∷ [])
     -- document 01's example has no order under a switch of 1; with greater betas it has
-    ∷ refusal (tableUnder "switch=1" "beta=8000" "beta=8000" "beta=57000") 8 0
-    ∷ plan (tableUnder "switch=1" "beta=10000" "beta=10000" "beta=79000")
+    ∷ refusal (table_under "switch=1" "beta=8000" "beta=8000" "beta=57000") 8 0
+    ∷ plan (table_under "switch=1" "beta=10000" "beta=10000" "beta=79000")
     (lined (
     "plan=1" ∷ "board=7" ∷ "tasks=3"
     ∷ "rank=1" ∷ "task=12" ∷ "best=2" ∷ "worst=3" ∷ "jitter=1" ∷ "margin=7000"
@@ -215,7 +215,7 @@ ofSwitch =
     ∷ "rank=3" ∷ "task=13" ∷ "best=25" ∷ "worst=43" ∷ "jitter=18" ∷ "margin=0"
     ∷ []))
     ∷ reviewer
-    (tableUnder "switch=1" "beta=8000" "beta=8000" "beta=57000" ++ lined ("rank=12" ∷ "rank=11" ∷ "rank=13" ∷ []))
+    (table_under "switch=1" "beta=8000" "beta=8000" "beta=57000" ++ lined ("rank=12" ∷ "rank=11" ∷ "rank=13" ∷ []))
     (lined (
     "plan=1" ∷ "board=7" ∷ "tasks=3"
     ∷ "rank=1" ∷ "task=12" ∷ "best=2" ∷ "worst=3" ∷ "jitter=1" ∷ "margin=5000"
@@ -223,32 +223,32 @@ ofSwitch =
     ∷ "rank=3" ∷ "task=13" ∷ "best=25" ∷ "worst=43" ∷ "jitter=18" ∷ "margin=-22000"
     ∷ []))
     -- worst and switch together at the period, and past it
-    ∷ plan (oneUnder "switch=3" "worst=7" "best=7" "hold=7")
+    ∷ plan (one_under "switch=3" "worst=7" "best=7" "hold=7")
     (lined (
     "plan=1" ∷ "board=7" ∷ "tasks=1"
     ∷ "rank=1" ∷ "task=1" ∷ "best=7" ∷ "worst=10" ∷ "jitter=3" ∷ "margin=0"
     ∷ []))
-    ∷ refusal (oneUnder "switch=3" "worst=8" "best=7" "hold=0") 4 6
-    ∷ refusal (oneUnder "switch=1000" "worst=1" "best=1" "hold=0") 4 6
+    ∷ refusal (one_under "switch=3" "worst=8" "best=7" "hold=0") 4 6
+    ∷ refusal (one_under "switch=1000" "worst=1" "best=1" "hold=0") 4 6
     -- best and hold are held to worst alone
-    ∷ refusal (oneUnder "switch=3" "worst=7" "best=8" "hold=0") 4 7
-    ∷ refusal (oneUnder "switch=3" "worst=7" "best=7" "hold=8") 4 10
+    ∷ refusal (one_under "switch=3" "worst=7" "best=8" "hold=0") 4 7
+    ∷ refusal (one_under "switch=3" "worst=7" "best=7" "hold=8") 4 10
     -- the line: past its limit, no number, missing, doubled, before its place and behind it
-    ∷ planner (oneUnder "switch=1001" "worst=7" "best=7" "hold=0") (refusedAt "refusal=3" "line=3")
-    ∷ planner (oneUnder "switch=" "worst=7" "best=7" "hold=0") (refusedAt "refusal=2" "line=3")
-    ∷ planner (aloneUnder ("board=7" ∷ "tasks=1" ∷ []) "worst=7" "best=7" "hold=0") (refusedAt "refusal=1" "line=3")
-    ∷ planner (aloneUnder ("board=7" ∷ "tasks=1" ∷ "switch=0" ∷ "switch=0" ∷ []) "worst=7" "best=7" "hold=0")
-    (refusedAt "refusal=1" "line=4")
-    ∷ planner (aloneUnder ("board=7" ∷ "switch=0" ∷ "tasks=1" ∷ []) "worst=7" "best=7" "hold=0")
-    (refusedAt "refusal=1" "line=2")
-    ∷ planner (oneUnder "switch=0" "worst=7" "best=7" "hold=0" ++ lined ("switch=0" ∷ []))
-    (refusedAt "refusal=1" "line=12")
+    ∷ planner (one_under "switch=1001" "worst=7" "best=7" "hold=0") (refused_at "refusal=3" "line=3")
+    ∷ planner (one_under "switch=" "worst=7" "best=7" "hold=0") (refused_at "refusal=2" "line=3")
+    ∷ planner (alone_under ("board=7" ∷ "tasks=1" ∷ []) "worst=7" "best=7" "hold=0") (refused_at "refusal=1" "line=3")
+    ∷ planner (alone_under ("board=7" ∷ "tasks=1" ∷ "switch=0" ∷ "switch=0" ∷ []) "worst=7" "best=7" "hold=0")
+    (refused_at "refusal=1" "line=4")
+    ∷ planner (alone_under ("board=7" ∷ "switch=0" ∷ "tasks=1" ∷ []) "worst=7" "best=7" "hold=0")
+    (refused_at "refusal=1" "line=2")
+    ∷ planner (one_under "switch=0" "worst=7" "best=7" "hold=0" ++ lined ("switch=0" ∷ []))
+    (refused_at "refusal=1" "line=12")
     ∷ []
 
 -- ---- curves
 -- the paper's task 13 with a curve: at its E of 25 below 11 and 12 the jitter of 10 is judged
 abbrev pub curved13 : List Point → Row
-curved13 c = withCurve c (row13 57000)
+curved13 c = with_curve c (row13 57000)
 
 -- below 11 and 12, with its margin
 abbrev pub judged : List Point → ℤ → Case
@@ -260,14 +260,14 @@ pointed lines =
     lined ("board=7" ∷ "tasks=1" ∷ "switch=0"
     ∷ "task=1" ∷ "period=10" ∷ "worst=10" ∷ "best=7" ∷ "alpha=1000" ∷ "beta=9999" ∷ "hold=0" ∷ lines)
 
-abbrev pub pointedPlan : String → List ℕ
-pointedPlan margin = lined (
+abbrev pub pointed_plan : String → List ℕ
+pointed_plan margin = lined (
     "plan=1" ∷ "board=7" ∷ "tasks=1"
     ∷ "rank=1" ∷ "task=1" ∷ "best=7" ∷ "worst=10" ∷ "jitter=3" ∷ margin
     ∷ [])
 
-abbrev pub ofCurves : List Case
-ofCurves =
+abbrev pub of_curves : List Case
+of_curves =
     -- one point: before its delay and at it its allow; past it 1,000 for each tick
     judged (point 30 10 ∷ []) (pos 0)
     ∷ judged (point 25 12 ∷ []) (pos 2000)
@@ -297,29 +297,29 @@ ofCurves =
     ∷ judged (point 1 20 ∷ point 2 20 ∷ point 3 20 ∷ point 4 20 ∷ point 5 20 ∷ point 6 20 ∷ point 7 20 ∷ point 8 20 ∷ [])
     (negsuc 16999)
     -- only a curve of its own counts
-    ∷ figures (row13 57000) (withCurve (point 0 0 ∷ []) (row11 8000) ∷ row12 8000 ∷ []) 25 35 10 (pos 2000)
+    ∷ figures (row13 57000) (with_curve (point 0 0 ∷ []) (row11 8000) ∷ row12 8000 ∷ []) 25 35 10 (pos 2000)
     -- under a switch, with a hold of its own, and over one
-    ∷ figures (withSwitch 1 (curved13 (point 25 20 ∷ []))) (withSwitch 1 (row11 8000) ∷ withSwitch 1 (row12 8000) ∷ [])
+    ∷ figures (with_switch 1 (curved13 (point 25 20 ∷ []))) (with_switch 1 (row11 8000) ∷ with_switch 1 (row12 8000) ∷ [])
     25 43 18 (pos 2000)
-    ∷ between (withCurve (point 17 18 ∷ []) (holding13 2)) (row11 8000 ∷ row12 8000 ∷ []) [] 17 35 18 (pos 0)
-    ∷ between (withCurve (point 6 6 ∷ []) (row11 8000)) (row12 8000 ∷ []) (holding13 5 ∷ []) 6 12 6 (pos 0)
+    ∷ between (with_curve (point 17 18 ∷ []) (holding13 2)) (row11 8000 ∷ row12 8000 ∷ []) [] 17 35 18 (pos 0)
+    ∷ between (with_curve (point 6 6 ∷ []) (row11 8000)) (row12 8000 ∷ []) (holding13 5 ∷ []) 6 12 6 (pos 0)
     -- no curve makes a late task timely
-    ∷ late (withCurve (point 1000000 1000000 ∷ []) (row12 8000)) (row13 57000 ∷ [])
+    ∷ late (with_curve (point 1000000 1000000 ∷ []) (row12 8000)) (row13 57000 ∷ [])
     ∷ []
 
 -- ---- curves in a text: the line of the points is its eleventh, and the pairs follow
-abbrev pub ofCurveTexts : List Case
-ofCurveTexts =
+abbrev pub of_curve_texts : List Case
+of_curve_texts =
     -- a text whose line has no order, and whose curve has: alpha and beta are read and not used
     refusal (pointed ("points=0" ∷ [])) 8 0
-    ∷ plan (pointed ("points=1" ∷ "delay=7" ∷ "allow=3" ∷ [])) (pointedPlan "margin=0")
-    ∷ plan (pointed ("points=2" ∷ "delay=6" ∷ "allow=4" ∷ "delay=9" ∷ "allow=3" ∷ [])) (pointedPlan "margin=666")
+    ∷ plan (pointed ("points=1" ∷ "delay=7" ∷ "allow=3" ∷ [])) (pointed_plan "margin=0")
+    ∷ plan (pointed ("points=2" ∷ "delay=6" ∷ "allow=4" ∷ "delay=9" ∷ "allow=3" ∷ [])) (pointed_plan "margin=666")
     ∷ refusal (pointed ("points=1" ∷ "delay=7" ∷ "allow=2" ∷ [])) 8 0
     ∷ refusal (pointed ("points=1" ∷ "delay=6" ∷ "allow=1000" ∷ [])) 8 0
     -- the reviewer writes a negative margin
     ∷ reviewer (pointed ("points=2" ∷ "delay=6" ∷ "allow=3" ∷ "delay=9" ∷ "allow=2" ∷ "rank=1" ∷ []))
-    (pointedPlan "margin=-334")
-    ∷ reviewer (pointed ("points=1" ∷ "delay=5" ∷ "allow=9" ∷ "rank=1" ∷ [])) (pointedPlan "margin=-2000")
+    (pointed_plan "margin=-334")
+    ∷ reviewer (pointed ("points=1" ∷ "delay=5" ∷ "allow=9" ∷ "rank=1" ∷ [])) (pointed_plan "margin=-2000")
     -- 11 on the line of a delay and of an allow, each held to the point before it; not on those of a first point
     ∷ refusal (pointed ("points=2" ∷ "delay=7" ∷ "allow=3" ∷ "delay=7" ∷ "allow=3" ∷ [])) 11 14
     ∷ refusal (pointed ("points=2" ∷ "delay=7" ∷ "allow=3" ∷ "delay=6" ∷ "allow=3" ∷ [])) 11 14
@@ -333,13 +333,13 @@ ofCurveTexts =
     ∷ refusal (pointed ("points=2" ∷ "delay=7" ∷ "allow=3" ∷ "delay=07" ∷ [])) 2 14
     ∷ refusal (pointed ("points=2" ∷ "delay=7" ∷ "allow=3" ∷ "allow=3" ∷ [])) 1 14
     -- both sides of the limits of a delay, of an allow and of the points
-    ∷ plan (pointed ("points=1" ∷ "delay=1000000" ∷ "allow=1000000" ∷ [])) (pointedPlan "margin=999997000")
+    ∷ plan (pointed ("points=1" ∷ "delay=1000000" ∷ "allow=1000000" ∷ [])) (pointed_plan "margin=999997000")
     ∷ refusal (pointed ("points=1" ∷ "delay=1000001" ∷ "allow=3" ∷ [])) 3 12
     ∷ refusal (pointed ("points=1" ∷ "delay=7" ∷ "allow=1000001" ∷ [])) 3 13
     ∷ plan
     (pointed ("points=8" ∷ "delay=0" ∷ "allow=9" ∷ "delay=1" ∷ "allow=9" ∷ "delay=2" ∷ "allow=8" ∷ "delay=3" ∷ "allow=8"
     ∷ "delay=4" ∷ "allow=7" ∷ "delay=5" ∷ "allow=6" ∷ "delay=6" ∷ "allow=5" ∷ "delay=7" ∷ "allow=4" ∷ []))
-    (pointedPlan "margin=1000")
+    (pointed_plan "margin=1000")
     ∷ refusal (pointed ("points=9" ∷ [])) 3 11
     -- as many pairs as the points say, and the line of the points itself
     ∷ refusal (pointed ("points=1" ∷ "delay=7" ∷ "allow=3" ∷ "delay=8" ∷ "allow=3" ∷ [])) 1 14

@@ -3,61 +3,61 @@
 use Rattle.std.specs.Prelude.{◌≡◌, Bool, true, false, ◌↔◌, ℕ, suc, ◌≤◌, ◌<◌, pos, length, get_or}
 use mathlib.Core.List.{List, [], ◌∷◌, ◌++◌, Perm}
 use Rattle.std.specs.Int.Signed.{le_z}
-use Rattle.basics.specs.Basics.{isIn}
-use Rattle.rows.specs.Rows.{tasksOf, rowsFor, row_at}
+use Rattle.basics.specs.Basics.{is_in}
+use Rattle.rows.specs.Rows.{tasks_of, rows_for, row_at}
 use Rattle.rows.specs.Rows.{Row}
-use Rattle.tables.specs.Claims.{Tells, Fails, tableRefusals, rankedRefusals, Read}
-use Rattle.responses.specs.Figures.{rows_above, rowsBelow, isLate}
+use Rattle.tables.specs.Claims.{Tells, Fails, table_refusals, ranked_refusals, Read}
+use Rattle.responses.specs.Figures.{rows_above, rows_below, is_late}
 use Rattle.responses.specs.Claims.{Figured, ByCondition, CurveCounts, ByNumbers, AsRequest2, AsDocument01, NoSwitch}
 use Rattle.responses.specs.Claims.{NoneHolds, SwitchUpTo, Grows}
-use Rattle.orders.specs.Orders.{Possible, positionIn, positionsUp, notAfter, Chosen}
-use Rattle.orders.specs.Stability.{stable, orderStable}
+use Rattle.orders.specs.Orders.{Possible, position_in, positions_up, not_after, Chosen}
+use Rattle.orders.specs.Stability.{stable, order_stable}
 use Rattle.boards.specs.Claims.{LastsInRange, Kept, NoneLate}
 use Rattle.boards.specs.Runs.{BoardRuns}
 use Rattle.plans.specs.declared.Entry.{Entry}
 use Rattle.plans.specs.declared.Answer.{Answer}
-use Rattle.plans.specs.Entries.{entry, entries, noEntry}
-use Rattle.plans.specs.Plans.{planText, planRoom}
+use Rattle.plans.specs.Entries.{entry, entries, no_entry}
+use Rattle.plans.specs.Plans.{plan_text, plan_room}
 use Rattle.plans.specs.Outcomes.{Outcome, writes, refuses, Written}
 use Rattle.demands.specs.Calls.{planned, reviewed}
 
 -- ---- an order whose plan is written
 -- rank i of a plan, counted from 0
 abbrev pub entry_at : List Row → ℕ → Entry
-entry_at order i = get_or (entries order) i noEntry
+entry_at order i = get_or (entries order) i no_entry
 
 pub record Promised (order : List Row) : Type 0 where
   -- demand 2: rank i's entry has the figures of its row between the rows above it and those below it, and they are
   -- those of the formulas
   pub as_many : length (entries order) ≡ length order
-  pub entry-is :
-      (i : ℕ) → i < length order → entry_at order i ≡ entry (row_at order i) (rows_above order i) (rowsBelow order i)
-  pub by-formulas : (i : ℕ) → i < length order → Figured (row_at order i) (rows_above order i) (rowsBelow order i)
+  pub entry_is :
+      (i : ℕ) → i < length order → entry_at order i ≡ entry (row_at order i) (rows_above order i) (rows_below order i)
+  pub by_formulas : (i : ℕ) → i < length order → Figured (row_at order i) (rows_above order i) (rows_below order i)
   -- the margin is that of its row's stability condition, its curve or with no points its line, and of no other row's
-  pub by_condition : (i : ℕ) → i < length order → ByCondition (row_at order i) (rows_above order i) (rowsBelow order i)
-  pub own-curve : (i : ℕ) → i < length order → CurveCounts (row_at order i) (rows_above order i) (rowsBelow order i)
+  pub by_condition : (i : ℕ) → i < length order → ByCondition (row_at order i) (rows_above order i) (rows_below order i)
+  pub own_curve : (i : ℕ) → i < length order → CurveCounts (row_at order i) (rows_above order i) (rows_below order i)
   -- by which rows are above and which below, and not by their sequence
-  pub by-sets :
+  pub by_sets :
       (i : ℕ) (above' below' : List Row) → i < length order
-      → Perm (rows_above order i) above' → Perm (rowsBelow order i) below'
+      → Perm (rows_above order i) above' → Perm (rows_below order i) below'
       → entry_at order i ≡ entry (row_at order i) above' below'
   -- with the switch beside each `worst` and nowhere else; with a switch of 0 those before it, and with every hold 0 or 1
   -- too, those of document 01
-  pub by-numbers : (i : ℕ) → i < length order → ByNumbers (row_at order i) (rows_above order i) (rowsBelow order i)
-  pub without-switch :
+  pub by_numbers : (i : ℕ) → i < length order → ByNumbers (row_at order i) (rows_above order i) (rows_below order i)
+  pub without_switch :
       NoSwitch order → (i : ℕ) → i < length order
-      → AsRequest2 (row_at order i) (rows_above order i) (rowsBelow order i)
-  pub without-either :
+      → AsRequest2 (row_at order i) (rows_above order i) (rows_below order i)
+  pub without_either :
       NoSwitch order → NoneHolds order → (i : ℕ) → i < length order
-      → AsDocument01 (row_at order i) (rows_above order i) (rowsBelow order i)
+      → AsDocument01 (row_at order i) (rows_above order i) (rows_below order i)
   -- under a greater switch no `worst` line of the same order falls and no `best` line changes, and what is stable there
   -- is stable here
-  pub switch-grows :
+  pub switch_grows :
       (s : ℕ) → SwitchUpTo s order → (i : ℕ) → i < length order
-      → Grows (row_at order i) (rows_above order i) (rowsBelow order i) s
+      → Grows (row_at order i) (rows_above order i) (rows_below order i) s
   -- demand 3: on every board, for all first releases, job lengths and stretches, the run is by the rules, and it keeps
   -- the `worst` and `best` lines
-  pub by-rules :
+  pub by_rules :
       (offset : ℕ → ℕ) (need : ℕ → ℕ → ℕ) (keeps : ℕ → Bool) → LastsInRange order need
       → BoardRuns order offset need keeps
   pub kept :
@@ -66,22 +66,22 @@ pub record Promised (order : List Row) : Type 0 where
 
 -- what the plan of an order comes to: 9 exactly where the room is shorter, and else its text
 pub record PlanOf (room board : ℕ) (order : List Row) (w : Outcome) : Type 0 where
-  pub nine : (w ≡ refuses 9 0) ↔ (room < length (planText board (entries order)))
-  pub written : (w ≡ writes (planText board (entries order))) ↔ (length (planText board (entries order)) ≤ room)
+  pub nine : (w ≡ refuses 9 0) ↔ (room < length (plan_text board (entries order)))
+  pub written : (w ≡ writes (plan_text board (entries order))) ↔ (length (plan_text board (entries order)) ≤ room)
   pub promised : Promised order
 
 -- ---- the planner
 -- no possible order of the rows is stable
 abbrev pub EveryOrderFails : List Row → Type 0
-EveryOrderFails rows = (os : List Row) → Possible os rows → orderStable os ≡ false
+EveryOrderFails rows = (os : List Row) → Possible os rows → order_stable os ≡ false
 
 -- the order that the rule chooses: stable, and not after any other stable one
 pub record ByRule (rows order : List Row) : Type 0 where
   pub possible : Possible order rows
-  pub is-stable : orderStable order ≡ true
-  pub not_after :
-      (os : List Row) → Possible os rows → orderStable os ≡ true
-      → notAfter (positionsUp (positionIn rows) order) (positionsUp (positionIn rows) os) ≡ true
+  pub is_stable_lem : order_stable order ≡ true
+  pub not_after_lem :
+      (os : List Row) → Possible os rows → order_stable os ≡ true
+      → not_after (positions_up (position_in rows) order) (positions_up (position_in rows) os) ≡ true
 
 -- an accepted table: "no order" exactly where every order fails; else the plan of the order that the rule chooses
 pub record TablePlan (room board : ℕ) (rows : List Row) (w : Outcome) : Type 0 where
@@ -92,51 +92,51 @@ pub record TablePlan (room board : ℕ) (rows : List Row) (w : Outcome) : Type 0
       → (i : ℕ) → i < length order → le_z (pos 0) (entry_at order i).margin ≡ true
   pub chosen : Chosen stable rows
 
-abbrev pub plannerRefusals : List ℕ
-plannerRefusals = tableRefusals ++ (8 ∷ 9 ∷ [])
+abbrev pub planner_refusals : List ℕ
+planner_refusals = table_refusals ++ (8 ∷ 9 ∷ [])
 
 pub record PlanDemands (text : List ℕ) (room : ℕ) (w : Outcome) : Type 0 where
   -- demand 1: a text is refused exactly for its reason, with its line, or accepted as it is written
   pub read : Read false text
-  pub listed : (n p : ℕ) → w ≡ refuses n p → isIn n plannerRefusals ≡ true
-  pub refused : (n k : ℕ) → ((w ≡ refuses n k) × (isIn n tableRefusals ≡ true)) ↔ Fails false text n k
+  pub listed : (n p : ℕ) → w ≡ refuses n p → is_in n planner_refusals ≡ true
+  pub refused : (n k : ℕ) → ((w ≡ refuses n k) × (is_in n table_refusals ≡ true)) ↔ Fails false text n k
   -- demands 2 and 3
   pub accepted : (board : ℕ) (rows : List Row) → Tells false text board rows [] → TablePlan room board rows w
   -- a program's buffer has room for every plan
-  pub has_room : planRoom ≤ room → (p : ℕ) → w ≡ refuses 9 p → ⊥
+  pub has_room : plan_room ≤ room → (p : ℕ) → w ≡ refuses 9 p → ⊥
 
 -- ---- the reviewer
 -- the order given: each row once and nothing else, its tasks those of the rank lines
 pub record Given (rows : List Row) (tasks : List ℕ) (order : List Row) : Type 0 where
   pub possible : Possible order rows
-  pub tasks-are : tasksOf order ≡ tasks
+  pub tasks_are : tasks_of order ≡ tasks
 
 -- the first late rank from the top, counted from 0
 pub record FirstLate (order : List Row) (k : ℕ) : Type 0 where
   pub there : k < length order
-  pub late : isLate (row_at order k) (rows_above order k) (rowsBelow order k) ≡ true
-  pub above-in-time : (j : ℕ) → j < k → isLate (row_at order j) (rows_above order j) (rowsBelow order j) ≡ false
+  pub late : is_late (row_at order k) (rows_above order k) (rows_below order k) ≡ true
+  pub above_in_time : (j : ℕ) → j < k → is_late (row_at order j) (rows_above order j) (rows_below order j) ≡ false
 
 -- an accepted text: 7 exactly for the first late rank, counted from 1; else the plan of the order given
 pub record OrderReview (room board : ℕ) (order : List Row) (w : Outcome) : Type 0 where
   pub seven : (k : ℕ) → (w ≡ refuses 7 (suc k)) ↔ FirstLate order k
-  pub in-time : NoneLate order → PlanOf room board order w
+  pub in_time : NoneLate order → PlanOf room board order w
 
-abbrev pub reviewerRefusals : List ℕ
-reviewerRefusals = rankedRefusals ++ (7 ∷ 9 ∷ [])
+abbrev pub reviewer_refusals : List ℕ
+reviewer_refusals = ranked_refusals ++ (7 ∷ 9 ∷ [])
 
 pub record ReviewDemands (text : List ℕ) (room : ℕ) (w : Outcome) : Type 0 where
   pub read : Read true text
-  pub listed : (n p : ℕ) → w ≡ refuses n p → isIn n reviewerRefusals ≡ true
-  pub refused : (n k : ℕ) → ((w ≡ refuses n k) × (isIn n rankedRefusals ≡ true)) ↔ Fails true text n k
+  pub listed : (n p : ℕ) → w ≡ refuses n p → is_in n reviewer_refusals ≡ true
+  pub refused : (n k : ℕ) → ((w ≡ refuses n k) × (is_in n ranked_refusals ≡ true)) ↔ Fails true text n k
   -- the rows of the rank lines' tasks are an order given, and any such is reviewed
   pub given :
       (board : ℕ) (rows : List Row) (tasks : List ℕ) → Tells true text board rows tasks
-      → Given rows tasks (rowsFor tasks rows)
+      → Given rows tasks (rows_for tasks rows)
   pub accepted :
       (board : ℕ) (rows : List Row) (tasks : List ℕ) → Tells true text board rows tasks
       → (order : List Row) → Given rows tasks order → OrderReview room board order w
-  pub has_room : planRoom ≤ room → (p : ℕ) → w ≡ refuses 9 p → ⊥
+  pub has_room : plan_room ≤ room → (p : ℕ) → w ≡ refuses 9 p → ⊥
 
 -- ---- what the public calls promise, of the bytes of their buffer before and after them and of what they return: they
 -- come from one outcome, which meets the demands; and no other outcome meets them

@@ -3,21 +3,21 @@
 -- would admit, each excluded.
 use Rattle.std.specs.Prelude.{◌≡◌, true, false, List, [], ◌∷◌, ◌++◌, map, ℕ, zero, suc, ◌+◌, ◌-◌, ◌*◌, ◌/◌, ◌^◌, ◌≤◌, ◌<◌, length, drop}
 use Prim.Native.String.{String}
-use Rattle.text.specs.Text.{bytes, lined, decimal, keyLine}
-use Rattle.rows.specs.Rows.{maxTask, maxTicks, minAlpha, maxBeta, minHold, minSwitch, maxSwitch, maxTasks, maxBuffer}
+use Rattle.text.specs.Text.{bytes, lined, decimal, key_line}
+use Rattle.rows.specs.Rows.{max_task, max_ticks, min_alpha, max_beta, min_hold, min_switch, max_switch, max_tasks, max_buffer}
 use Rattle.curves.specs.Curves.{Point, point}
-use Rattle.rows.specs.Rows.{row, rowWith, withSwitch, withCurve, in_range}
+use Rattle.rows.specs.Rows.{row, row_with, with_switch, with_curve, in_range}
 use Rattle.rows.specs.Rows.{Row}
-use Rattle.rows.specs.Numbers.{fieldCount, rows_of, row_in}
+use Rattle.rows.specs.Numbers.{field_count, rows_of, row_in}
 use Rattle.boards.specs.Claims.{NoneLate}
-use Rattle.boards.specs.Witnesses.{exampleOrder}
-use Rattle.responses.specs.Figures.{isLate, inLimits}
+use Rattle.boards.specs.Witnesses.{example_order}
+use Rattle.responses.specs.Figures.{is_late, in_limits}
 use Rattle.responses.specs.Claims.{switched}
 use Rattle.plans.specs.Entries.{entry, entries}
-use Rattle.plans.specs.Plans.{rankText, headText, planText, headRoom, rankRoom, planRoom}
+use Rattle.plans.specs.Plans.{rank_text, head_text, plan_text, head_room, rank_room, plan_room}
 use Rattle.plans.specs.Outcomes.{writes, refuses}
-use Rattle.demands.specs.Cases.{row11, row12, row13, tableUnder, table, pointed}
-use Rattle.tables.specs.TableLines.{maxBoard}
+use Rattle.demands.specs.Cases.{row11, row12, row13, table_under, table, pointed}
+use Rattle.tables.specs.TableLines.{max_board}
 use Rattle.tables.specs.Claims.{Tells, Fails}
 use Rattle.demands.specs.Demands.{EveryOrderFails, ByRule, PlanDemands}
 use Rattle.demands.specs.Demands.{Given, FirstLate, ReviewDemands}
@@ -26,164 +26,164 @@ use Rattle.demands.specs.Demands.{Given, FirstLate, ReviewDemands}
 abbrev pub example : List ℕ
 example = table "beta=8000" "beta=8000" "beta=57000"
 
-abbrev pub exampleRows : List Row
-exampleRows = row11 8000 ∷ row12 8000 ∷ row13 57000 ∷ []
+abbrev pub example_rows : List Row
+example_rows = row11 8000 ∷ row12 8000 ∷ row13 57000 ∷ []
 
-abbrev pub timelyText : List ℕ
-timelyText = example ++ lined ("rank=12" ∷ "rank=11" ∷ "rank=13" ∷ [])
+abbrev pub timely_text : List ℕ
+timely_text = example ++ lined ("rank=12" ∷ "rank=11" ∷ "rank=13" ∷ [])
 
 -- and an order of it in which the lowest task is late
-abbrev pub lateOrder : List Row
-lateOrder = row11 8000 ∷ row13 57000 ∷ row12 8000 ∷ []
+abbrev pub late_order : List Row
+late_order = row11 8000 ∷ row13 57000 ∷ row12 8000 ∷ []
 
-abbrev pub lateText : List ℕ
-lateText = example ++ lined ("rank=11" ∷ "rank=13" ∷ "rank=12" ∷ [])
+abbrev pub late_text : List ℕ
+late_text = example ++ lined ("rank=11" ∷ "rank=13" ∷ "rank=12" ∷ [])
 
 -- a text that is no table; a table of two tasks up to its first period, and more lines
 abbrev pub malformed : List ℕ
 malformed = lined ("board=07" ∷ [])
 
-abbrev pub twoTasks : List String → List ℕ
-twoTasks more = lined ("board=7" ∷ "tasks=2" ∷ "switch=0" ∷ "task=1" ∷ "period=10" ∷ more)
+abbrev pub two_tasks : List String → List ℕ
+two_tasks more = lined ("board=7" ∷ "tasks=2" ∷ "switch=0" ∷ "task=1" ∷ "period=10" ∷ more)
 
 -- a task more than a table can have
-abbrev pub tooMany : List ℕ
-tooMany = lined ("board=7" ∷ []) ++ keyLine (bytes "tasks=") (decimal (suc maxTasks))
+abbrev pub too_many : List ℕ
+too_many = lined ("board=7" ∷ []) ++ key_line (bytes "tasks=") (decimal (suc max_tasks))
 
 -- tasks that take a tenth of the longest period each; as many as a table can have, as text too
 abbrev pub tenth : ℕ → Row
-tenth task = row task maxTicks (maxTicks / 10) (maxTicks / 10) minAlpha maxBeta minHold minSwitch
+tenth task = row task max_ticks (max_ticks / 10) (max_ticks / 10) min_alpha max_beta min_hold min_switch
 
 abbrev pub tenths : ℕ → List Row
 tenths zero = []
 tenths (suc k) = tenth (suc k) ∷ tenths k
 
-abbrev pub tenthLines : ℕ → List ℕ
-tenthLines zero = []
-tenthLines (suc k) =
-    keyLine (bytes "task=") (decimal (suc k))
+abbrev pub tenth_lines : ℕ → List ℕ
+tenth_lines zero = []
+tenth_lines (suc k) =
+    key_line (bytes "task=") (decimal (suc k))
     ++ lined (
     "period=1000000" ∷ "worst=100000" ∷ "best=100000" ∷ "alpha=1000" ∷ "beta=200000000000" ∷ "hold=0" ∷ "points=0" ∷ [])
-    ++ tenthLines k
+    ++ tenth_lines k
 
-abbrev pub mostText : List ℕ
-mostText =
-    lined ("board=7" ∷ []) ++ keyLine (bytes "tasks=") (decimal maxTasks) ++ lined ("switch=0" ∷ [])
-    ++ tenthLines maxTasks
+abbrev pub most_text : List ℕ
+most_text =
+    lined ("board=7" ∷ []) ++ key_line (bytes "tasks=") (decimal max_tasks) ++ lined ("switch=0" ∷ [])
+    ++ tenth_lines max_tasks
 
 -- the example's rows with greater betas: as a table under a switch, in its sequence, and in that of its order
-abbrev pub switchedText : List ℕ
-switchedText = tableUnder "switch=1" "beta=10000" "beta=10000" "beta=79000"
+abbrev pub switched_text : List ℕ
+switched_text = table_under "switch=1" "beta=10000" "beta=10000" "beta=79000"
 
-abbrev pub looseRows : List Row
-looseRows = row11 10000 ∷ row12 10000 ∷ row13 79000 ∷ []
+abbrev pub loose_rows : List Row
+loose_rows = row11 10000 ∷ row12 10000 ∷ row13 79000 ∷ []
 
-abbrev pub looseOrder : List Row
-looseOrder = row12 10000 ∷ row11 10000 ∷ row13 79000 ∷ []
+abbrev pub loose_order : List Row
+loose_order = row12 10000 ∷ row11 10000 ∷ row13 79000 ∷ []
 
 -- a task whose line refuses it and whose curve does not, as a table, and its row
-abbrev pub curvedText : List ℕ
-curvedText = pointed ("points=1" ∷ "delay=7" ∷ "allow=3" ∷ [])
+abbrev pub curved_text : List ℕ
+curved_text = pointed ("points=1" ∷ "delay=7" ∷ "allow=3" ∷ [])
 
-abbrev pub curvedRows : List Row
-curvedRows = rowWith (point 7 3 ∷ []) 1 10 10 7 1000 9999 0 0 ∷ []
+abbrev pub curved_rows : List Row
+curved_rows = row_with (point 7 3 ∷ []) 1 10 10 7 1000 9999 0 0 ∷ []
 
 -- two rows as numbers: one with a point of the eight that there is room for, and one with none under a switch
-abbrev pub lentNumbers : List ℕ
-lentNumbers =
+abbrev pub lent_numbers : List ℕ
+lent_numbers =
     1 ∷ 10 ∷ 10 ∷ 7 ∷ 1000 ∷ 9999 ∷ 0 ∷ 1
     ∷ 7 ∷ 3 ∷ 0 ∷ 0 ∷ 0 ∷ 0 ∷ 0 ∷ 0 ∷ 0 ∷ 0 ∷ 0 ∷ 0 ∷ 0 ∷ 0 ∷ 0 ∷ 0 ∷ 0
     ∷ 2 ∷ 20 ∷ 5 ∷ 4 ∷ 1000 ∷ 9000 ∷ 3 ∷ 0
     ∷ 0 ∷ 0 ∷ 0 ∷ 0 ∷ 0 ∷ 0 ∷ 0 ∷ 0 ∷ 0 ∷ 0 ∷ 0 ∷ 0 ∷ 0 ∷ 0 ∷ 0 ∷ 0 ∷ 6
     ∷ []
 
-abbrev pub lentRows : List Row
-lentRows = curvedRows ++ (row 2 20 5 4 1000 9000 3 6 ∷ [])
+abbrev pub lent_rows : List Row
+lent_rows = curved_rows ++ (row 2 20 5 4 1000 9000 3 6 ∷ [])
 
 -- n points, each a tick behind the one before it
-abbrev pub fallingFrom : ℕ → List Point
-fallingFrom zero = []
-fallingFrom (suc n) = point (10 - n) n ∷ fallingFrom n
+abbrev pub falling_from : ℕ → List Point
+falling_from zero = []
+falling_from (suc n) = point (10 - n) n ∷ falling_from n
 
-abbrev pub withPoints : List Point → Row
-withPoints c = rowWith c 1 10 7 7 1000 0 7 3
+abbrev pub with_points : List Point → Row
+with_points c = row_with c 1 10 7 7 1000 0 7 3
 
 pub record Met : Type 0 where
   -- refusals 1 to 6 and 11, each at its line
   pub missing : Fails false [] 1 1
   pub trailing : Fails false (example ++ bytes "x") 1 28
   pub no_number : Fails false malformed 2 1
-  pub out_of_range : Fails false tooMany 3 2
-  pub exceeding : Fails false (twoTasks ("worst=11" ∷ [])) 4 6
+  pub out_of_range : Fails false too_many 3 2
+  pub exceeding : Fails false (two_tasks ("worst=11" ∷ [])) 4 6
   pub repeated :
-      Fails false (twoTasks (
+      Fails false (two_tasks (
       "worst=10" ∷ "best=1" ∷ "alpha=1000" ∷ "beta=0" ∷ "hold=0" ∷ "points=0" ∷ "task=1" ∷ [])) 5 12
   pub impossible : Fails true (example ++ lined ("rank=11" ∷ "rank=11" ∷ [])) 6 29
   pub disorderly :
-      Fails false (twoTasks (
+      Fails false (two_tasks (
       "worst=10" ∷ "best=1" ∷ "alpha=1000" ∷ "beta=0" ∷ "hold=0"
       ∷ "points=2" ∷ "delay=5" ∷ "allow=0" ∷ "delay=5" ∷ [])) 11 14
   -- a table with an order, in a room that is too short too, and one with none
-  pub tells : Tells false example 7 exampleRows []
-  pub by-rule : ByRule exampleRows exampleOrder
-  pub short : 0 < length (planText 7 (entries exampleOrder))
-  pub every-order-fails : EveryOrderFails (row11 8000 ∷ row12 8000 ∷ row13 54999 ∷ [])
+  pub tells : Tells false example 7 example_rows []
+  pub by_rule : ByRule example_rows example_order
+  pub short : 0 < length (plan_text 7 (entries example_order))
+  pub every_order_fails : EveryOrderFails (row11 8000 ∷ row12 8000 ∷ row13 54999 ∷ [])
   -- an order given with a late task, and one without
-  pub tells-late : Tells true lateText 7 exampleRows (11 ∷ 13 ∷ 12 ∷ [])
-  pub given-late : Given exampleRows (11 ∷ 13 ∷ 12 ∷ []) lateOrder
-  pub first-late : FirstLate lateOrder 2
-  pub tells-timely : Tells true timelyText 7 exampleRows (12 ∷ 11 ∷ 13 ∷ [])
-  pub given-timely : Given exampleRows (12 ∷ 11 ∷ 13 ∷ []) exampleOrder
-  pub none-late : NoneLate exampleOrder
+  pub tells_late : Tells true late_text 7 example_rows (11 ∷ 13 ∷ 12 ∷ [])
+  pub given_late : Given example_rows (11 ∷ 13 ∷ 12 ∷ []) late_order
+  pub first_late_lem : FirstLate late_order 2
+  pub tells_timely : Tells true timely_text 7 example_rows (12 ∷ 11 ∷ 13 ∷ [])
+  pub given_timely : Given example_rows (12 ∷ 11 ∷ 13 ∷ []) example_order
+  pub none_late : NoneLate example_order
   -- as many tasks as a table can have; a byte for each set of them is no longer than a buffer may be
-  pub tells-most : Tells false mostText 7 (tenths maxTasks) []
-  pub record-short : 2 ^ maxTasks ≤ maxBuffer
+  pub tells_most : Tells false most_text 7 (tenths max_tasks) []
+  pub record_short : 2 ^ max_tasks ≤ max_buffer
   -- a row's figures are asked for beside one row fewer, and beside no more
-  pub beside-most : inLimits (tenth maxTask) (tenths (maxTasks - 1)) [] ≡ true
-  pub beside-more : inLimits (tenth maxTask) (tenths maxTasks) [] ≡ false
+  pub beside_most : in_limits (tenth max_task) (tenths (max_tasks - 1)) [] ≡ true
+  pub beside_more : in_limits (tenth max_task) (tenths max_tasks) [] ≡ false
   -- a row at its limits under a switch, and a tick past each; a switch at its limit, and past it
-  pub limits-met : in_range (row 1 10 7 7 1000 0 7 3) ≡ true
-  pub worst-past : in_range (row 1 10 8 7 1000 0 7 3) ≡ false
-  pub best-past : in_range (row 1 10 7 8 1000 0 7 3) ≡ false
-  pub hold-past : in_range (row 1 10 7 7 1000 0 8 3) ≡ false
-  pub switch-most : in_range (row 1 maxTicks 7 7 1000 0 7 maxSwitch) ≡ true
-  pub switch-past : in_range (row 1 maxTicks 7 7 1000 0 7 (suc maxSwitch)) ≡ false
+  pub limits_met : in_range (row 1 10 7 7 1000 0 7 3) ≡ true
+  pub worst_past : in_range (row 1 10 8 7 1000 0 7 3) ≡ false
+  pub best_past : in_range (row 1 10 7 8 1000 0 7 3) ≡ false
+  pub hold_past : in_range (row 1 10 7 7 1000 0 8 3) ≡ false
+  pub switch_most : in_range (row 1 max_ticks 7 7 1000 0 7 max_switch) ≡ true
+  pub switch_past : in_range (row 1 max_ticks 7 7 1000 0 7 (suc max_switch)) ≡ false
   -- a curve at its limits, and past each: a delay not above the one before it, an allow above the one before it, a delay
   -- and an allow past the limit, a point too many
-  pub curve-met : in_range (withPoints (point 0 1000000 ∷ point 1 1000000 ∷ point 1000000 0 ∷ [])) ≡ true
-  pub curve-most : in_range (withPoints (fallingFrom 8)) ≡ true
-  pub delay-not-above : in_range (withPoints (point 5 5 ∷ point 5 4 ∷ [])) ≡ false
-  pub allow-above : in_range (withPoints (point 5 5 ∷ point 6 6 ∷ [])) ≡ false
-  pub delay-past : in_range (withPoints (point 1000001 0 ∷ [])) ≡ false
-  pub allow-past : in_range (withPoints (point 0 1000001 ∷ [])) ≡ false
-  pub points-past : in_range (withPoints (fallingFrom 9)) ≡ false
+  pub curve_met : in_range (with_points (point 0 1000000 ∷ point 1 1000000 ∷ point 1000000 0 ∷ [])) ≡ true
+  pub curve_most : in_range (with_points (falling_from 8)) ≡ true
+  pub delay_not_above : in_range (with_points (point 5 5 ∷ point 5 4 ∷ [])) ≡ false
+  pub allow_above : in_range (with_points (point 5 5 ∷ point 6 6 ∷ [])) ≡ false
+  pub delay_past : in_range (with_points (point 1000001 0 ∷ [])) ≡ false
+  pub allow_past : in_range (with_points (point 0 1000001 ∷ [])) ≡ false
+  pub points_past : in_range (with_points (falling_from 9)) ≡ false
   -- a table with a curve, with an order that its line does not have
-  pub tells-curved : Tells false curvedText 7 curvedRows []
-  pub by-rule-curved : ByRule curvedRows curvedRows
-  pub line-fails : EveryOrderFails (map (withCurve []) curvedRows)
+  pub tells_curved : Tells false curved_text 7 curved_rows []
+  pub by_rule_curved : ByRule curved_rows curved_rows
+  pub line_fails : EveryOrderFails (map (with_curve []) curved_rows)
   -- rows as they are lent, with their curve and their switch
-  pub lent-whole : length lentNumbers ≡ fieldCount * 2
-  pub lent_rows : rows_of 2 lentNumbers ≡ lentRows
-  pub lent-second : row_in lentNumbers 1 ∷ [] ≡ drop 1 lentRows
+  pub lent_whole : length lent_numbers ≡ field_count * 2
+  pub lent_rows_lem : rows_of 2 lent_numbers ≡ lent_rows
+  pub lent_second : row_in lent_numbers 1 ∷ [] ≡ drop 1 lent_rows
   -- a table under a switch, with an order; figures of rows that have different ones
-  pub tells-switched : Tells false switchedText 7 (switched 1 looseRows) []
-  pub by-rule-switched : ByRule (switched 1 looseRows) (switched 1 looseOrder)
-  pub beside-switched :
-      inLimits (withSwitch 2 (row13 57000)) (row11 8000 ∷ withSwitch 1 (row12 8000) ∷ []) [] ≡ true
+  pub tells_switched : Tells false switched_text 7 (switched 1 loose_rows) []
+  pub by_rule_switched : ByRule (switched 1 loose_rows) (switched 1 loose_order)
+  pub beside_switched :
+      in_limits (with_switch 2 (row13 57000)) (row11 8000 ∷ with_switch 1 (row12 8000) ∷ []) [] ≡ true
   -- the room of a plan's parts is no more than it must be: lines before the ranks, and those of a rank, that fill it
-  pub room-is : planRoom ≡ headRoom + maxTasks * rankRoom
-  pub head-filled : length (headText maxBoard maxTasks) ≡ headRoom
-  pub rank-in-limits : inLimits (tenth maxTask) (tenths 9) [] ≡ true
-  pub rank-timely : isLate (tenth maxTask) (tenths 9) [] ≡ false
-  pub rank-filled : length (rankText 10 (entry (tenth maxTask) (tenths 9) [])) ≡ rankRoom
+  pub room_is : plan_room ≡ head_room + max_tasks * rank_room
+  pub head_filled : length (head_text max_board max_tasks) ≡ head_room
+  pub rank_in_limits : in_limits (tenth max_task) (tenths 9) [] ≡ true
+  pub rank_timely : is_late (tenth max_task) (tenths 9) [] ≡ false
+  pub rank_filled : length (rank_text 10 (entry (tenth max_task) (tenths 9) [])) ≡ rank_room
 
 pub record Excluded : Type 0 where
   -- a refusal of the text for a table that is accepted
-  pub two-for-a-table : (room : ℕ) → PlanDemands example room (refuses 2 77) → ⊥
+  pub two_for_a_table : (room : ℕ) → PlanDemands example room (refuses 2 77) → ⊥
   -- a plan of nothing, or a refusal with no line, for a text that is no table
-  pub empty-plan : (room : ℕ) → PlanDemands malformed room (writes (planText 0 [])) → ⊥
+  pub empty_plan : (room : ℕ) → PlanDemands malformed room (writes (plan_text 0 [])) → ⊥
   pub no_line : (room : ℕ) → PlanDemands malformed room (refuses 2 0) → ⊥
   -- 7 with no rank, for every text
-  pub seven-with-no-rank : (text : List ℕ) (room : ℕ) → ReviewDemands text room (refuses 7 0) → ⊥
+  pub seven_with_no_rank : (text : List ℕ) (room : ℕ) → ReviewDemands text room (refuses 7 0) → ⊥
   -- 9 for an order with a late task, however short the room
-  pub nine-for-late : (room : ℕ) → ReviewDemands lateText room (refuses 9 0) → ⊥
+  pub nine_for_late : (room : ℕ) → ReviewDemands late_text room (refuses 9 0) → ⊥

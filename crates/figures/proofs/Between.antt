@@ -12,25 +12,25 @@ use borrow.Author.Tests.{leb-true, ltb-true, le-leb, lt-leb, lt-ltb, le-ltb}
 use Rattle.basics.specs.Basics.{pick}
 use mathlib.Core.Logic.{inl, inr}
 use Rattle.basics.proofs.Tests.{le-or-lt, and_left, and_right}
-use Rattle.rows.specs.Rows.{Row, maxTasks, row_at, in_range, all_rows}
-use Rattle.rows.specs.inside.Numbers.{fieldCount, row_in, rows_of, rowsIn}
-use Rattle.rows.proofs.RowNumbers.{rows-length, rows-at, rows_are}
+use Rattle.rows.specs.Rows.{Row, max_tasks, row_at, in_range, all_rows}
+use Rattle.rows.specs.inside.Numbers.{field_count, row_in, rows_of, rows_in}
+use Rattle.rows.proofs.RowNumbers.{rows_length, rows_at_lem, rows_are}
 use Rattle.analysis.proofs.Filling.{rows_long, row_is}
-use Rattle.responses.specs.Figures.{rows_above, rowsBelow, maxOthers, figuresUnder, noFigures, figuresOf}
+use Rattle.responses.specs.Figures.{rows_above, rows_below, max_others, figures_under, no_figures, figures_of}
 use Rattle.responses.specs.Figures as F
 use Rattle.responses.specs.Claims.{FiguresSay, RowFigures}
 use Rattle.responses.specs.declared.Figures.{Figures}
 use Rattle.responses.proofs.Conditions.{by_condition}
-use Rattle.responses.proofs.Responses.{limits-times, figured}
-use Rattle.responses.proofs.Switches.{by-numbers, switch-grows}
-use Rattle.responses.proofs.Sequences.{figures-permuted, figures-below}
-use Rattle.figures.specs.inside.Limits.{inLimits}
+use Rattle.responses.proofs.Responses.{limits_times, figured}
+use Rattle.responses.proofs.Switches.{by_numbers, switch_grows}
+use Rattle.responses.proofs.Sequences.{figures_permuted, figures_below}
+use Rattle.figures.specs.inside.Limits.{in_limits}
 
 -- ---- rows at the positions 0, 1, 2, .. are those of the numbers, in their sequence
-pub in-sequence : (ns ps : List ℕ) (n : ℕ) → n ≤ length ps → ((i : ℕ) → i < n → get_or ps i 0 ≡ i)
-    → rowsIn ns (take n ps) ≡ rows_of n ns
-in-sequence ns ps n held is =
-    let rows = rowsIn ns (take n ps) in
+pub in_sequence : (ns ps : List ℕ) (n : ℕ) → n ≤ length ps → ((i : ℕ) → i < n → get_or ps i 0 ≡ i)
+    → rows_in ns (take n ps) ≡ rows_of n ns
+in_sequence ns ps n held is =
+    let rows = rows_in ns (take n ps) in
     let long = rows_long ns ps n held in
     sym (ap (λ m. rows_of m ns) (sym long)
     ∙ rows_are ns rows (λ i l.
@@ -42,13 +42,13 @@ regrouped true x a b = refl
 regrouped false true a b = refl
 regrouped false false a b = refl
 
-all-around : (f : Row → Bool) (rows : List Row) (i : ℕ) → i < length rows
-    → all_rows f rows ≡ (f (row_at rows i) && (all_rows f (rows_above rows i) && all_rows f (rowsBelow rows i)))
-all-around f [] i h = absurd (omega arith)
-all-around f (r ∷ rows) zero h = refl
-all-around f (r ∷ rows) (suc i) h =
-    ap (λ b. f r && b) (all-around f rows i (omega arith))
-    ∙ regrouped (f r) (f (row_at rows i)) (all_rows f (rows_above rows i)) (all_rows f (rowsBelow rows i))
+all_around : (f : Row → Bool) (rows : List Row) (i : ℕ) → i < length rows
+    → all_rows f rows ≡ (f (row_at rows i) && (all_rows f (rows_above rows i) && all_rows f (rows_below rows i)))
+all_around f [] i h = absurd (omega arith)
+all_around f (r ∷ rows) zero h = refl
+all_around f (r ∷ rows) (suc i) h =
+    ap (λ b. f r && b) (all_around f rows i (omega arith))
+    ∙ regrouped (f r) (f (row_at rows i)) (all_rows f (rows_above rows i)) (all_rows f (rows_below rows i))
 
 none_left : (a b c : Bool) → (a && (b && (c && false))) ≡ false
 none_left true true true = refl
@@ -56,52 +56,52 @@ none_left true true false = refl
 none_left true false c = refl
 none_left false b c = refl
 
-with-true : (a b c : Bool) → (a && (b && (c && true))) ≡ (a && (b && c))
-with-true true true true = refl
-with-true true true false = refl
-with-true true false c = refl
-with-true false b c = refl
+with_true : (a b c : Bool) → (a && (b && (c && true))) ≡ (a && (b && c))
+with_true true true true = refl
+with_true true true false = refl
+with_true true false c = refl
+with_true false b c = refl
 
 -- ---- the test
 module _ (ns : List ℕ) (n i : ℕ) where
   abbrev ranged : Bool
   ranged = all_rows in_range (rows_of n ns)
 
-  pub too_many : maxTasks < n → inLimits ns n i ≡ false
+  pub too_many : max_tasks < n → in_limits ns n i ≡ false
   too_many h =
-      ap (λ b. b && (ltb i n && (leb (fieldCount * n) (length ns) && ranged))) (lt-leb n maxTasks h)
+      ap (λ b. b && (ltb i n && (leb (field_count * n) (length ns) && ranged))) (lt-leb n max_tasks h)
 
-  pub not_there : n ≤ maxTasks → n ≤ i → inLimits ns n i ≡ false
+  pub not_there : n ≤ max_tasks → n ≤ i → in_limits ns n i ≡ false
   not_there few h =
-      ap₂ (λ a b. a && (b && (leb (fieldCount * n) (length ns) && ranged))) (le-leb n maxTasks few) (le-ltb i n h)
+      ap₂ (λ a b. a && (b && (leb (field_count * n) (length ns) && ranged))) (le-leb n max_tasks few) (le-ltb i n h)
 
-  pub by-room : n ≤ maxTasks → i < n → inLimits ns n i ≡ (leb (fieldCount * n) (length ns) && ranged)
-  by-room few there =
-      ap₂ (λ a b. a && (b && (leb (fieldCount * n) (length ns) && ranged))) (le-leb n maxTasks few) (lt-ltb i n there)
+  pub by_room : n ≤ max_tasks → i < n → in_limits ns n i ≡ (leb (field_count * n) (length ns) && ranged)
+  by_room few there =
+      ap₂ (λ a b. a && (b && (leb (field_count * n) (length ns) && ranged))) (le-leb n max_tasks few) (lt-ltb i n there)
 
-  pub too_short : n ≤ maxTasks → i < n → length ns < fieldCount * n → inLimits ns n i ≡ false
-  too_short few there h = by-room few there ∙ ap (λ b. b && ranged) (lt-leb (fieldCount * n) (length ns) h)
+  pub too_short : n ≤ max_tasks → i < n → length ns < field_count * n → in_limits ns n i ≡ false
+  too_short few there h = by_room few there ∙ ap (λ b. b && ranged) (lt-leb (field_count * n) (length ns) h)
 
-  pub by_rows : n ≤ maxTasks → i < n → fieldCount * n ≤ length ns → inLimits ns n i ≡ ranged
-  by_rows few there h = by-room few there ∙ ap (λ b. b && ranged) (le-leb (fieldCount * n) (length ns) h)
+  pub by_rows : n ≤ max_tasks → i < n → field_count * n ≤ length ns → in_limits ns n i ≡ ranged
+  by_rows few there h = by_room few there ∙ ap (λ b. b && ranged) (le-leb (field_count * n) (length ns) h)
 
   -- what a test that is passed says
   pub record InLimits : Type 0 where
-    pub few : n ≤ maxTasks
+    pub few : n ≤ max_tasks
     pub there : i < n
-    pub held : fieldCount * n ≤ length ns
-    pub in-range : all_rows in_range (rows_of n ns) ≡ true
+    pub held : field_count * n ≤ length ns
+    pub is_in_range : all_rows in_range (rows_of n ns) ≡ true
 
-  pub in-limits : inLimits ns n i ≡ true → InLimits
-  in-limits h =
-      let room = leb (fieldCount * n) (length ns) in
-      let rest = and_right (leb n maxTasks) (ltb i n && (room && ranged)) h in
+  pub in_limits_lem : in_limits ns n i ≡ true → InLimits
+  in_limits_lem h =
+      let room = leb (field_count * n) (length ns) in
+      let rest = and_right (leb n max_tasks) (ltb i n && (room && ranged)) h in
       let last = and_right (ltb i n) (room && ranged) rest in
       record {
-        few = leb-true n maxTasks (and_left (leb n maxTasks) (ltb i n && (room && ranged)) h);
+        few = leb-true n max_tasks (and_left (leb n max_tasks) (ltb i n && (room && ranged)) h);
         there = ltb-true i n (and_left (ltb i n) (room && ranged) rest);
-        held = leb-true (fieldCount * n) (length ns) (and_left room ranged last);
-        in-range = and_right room ranged last;
+        held = leb-true (field_count * n) (length ns) (and_left room ranged last);
+        is_in_range = and_right room ranged last;
       }
 
   -- ---- and that of a table's limits is the same
@@ -112,64 +112,64 @@ module _ (ns : List ℕ) (n i : ℕ) where
   above = rows_above (rows_of n ns) i
 
   abbrev below : List Row
-  below = rowsBelow (rows_of n ns) i
+  below = rows_below (rows_of n ns) i
 
   others : i < n → suc (length above + length below) ≡ n
   others there =
-      omega (arith, length-take i (rows_of n ns), length-drop (suc i) (rows_of n ns), rows-length n ns)
+      omega (arith, length-take i (rows_of n ns), length-drop (suc i) (rows_of n ns), rows_length n ns)
 
   -- of so many rows, the one at i and the rest
   around : i < n → ranged ≡ (in_range t && (all_rows in_range above && all_rows in_range below))
   around there =
-      all-around in_range (rows_of n ns) i (omega (arith, rows-length n ns))
-      ∙ ap (λ r. in_range r && (all_rows in_range above && all_rows in_range below)) (rows-at n i ns there)
+      all_around in_range (rows_of n ns) i (omega (arith, rows_length n ns))
+      ∙ ap (λ r. in_range r && (all_rows in_range above && all_rows in_range below)) (rows_at_lem n i ns there)
 
-  pub same-limits : fieldCount * n ≤ length ns → i < n → F.inLimits t above below ≡ inLimits ns n i
-  same-limits held there = elim (le-or-lt n maxTasks) [
+  pub same_limits : field_count * n ≤ length ns → i < n → F.in_limits t above below ≡ in_limits ns n i
+  same_limits held there = elim (le-or-lt n max_tasks) [
     | inl few ↦
         ap (λ b. in_range t && (all_rows in_range above && (all_rows in_range below && b)))
-        (le-leb (length above + length below) maxOthers (omega (arith, few, others there)))
-        ∙ with-true (in_range t) (all_rows in_range above) (all_rows in_range below)
+        (le-leb (length above + length below) max_others (omega (arith, few, others there)))
+        ∙ with_true (in_range t) (all_rows in_range above) (all_rows in_range below)
         ∙ sym (by_rows few there held ∙ around there)
     | inr many ↦
         ap (λ b. in_range t && (all_rows in_range above && (all_rows in_range below && b)))
-        (lt-leb (length above + length below) maxOthers (omega (arith, many, others there)))
+        (lt-leb (length above + length below) max_others (omega (arith, many, others there)))
         ∙ none_left (in_range t) (all_rows in_range above) (all_rows in_range below)
         ∙ sym (too_many many)
   ]
 
   -- ---- the answer
-  say : (x : Figures) → x ≡ figuresOf t above below → FiguresSay t above below x
+  say : (x : Figures) → x ≡ figures_of t above below → FiguresSay t above below x
   say x is = record {
     answer = is;
-    by-formulas = λ h. let k = limits-times t above below h in figured t above below k.0 k.1;
+    by_formulas = λ h. let k = limits_times t above below h in figured t above below k.0 k.1;
     by_condition = λ h. by_condition t above below (own h);
-    by-numbers = by-numbers t above below;
-    switch-grows = λ h s mine others.
-        switch-grows t above below s (own h) (limits-times t above below h).1 mine others;
-    any-sequence = λ above' below' p q. is ∙ figures-permuted t p q;
-    by-blocking = λ below' b h. is ∙ figures-below t above below below' b h;
+    by_numbers = by_numbers t above below;
+    switch_grows = λ h s mine others.
+        switch_grows t above below s (own h) (limits_times t above below h).1 mine others;
+    any_sequence = λ above' below' p q. is ∙ figures_permuted t p q;
+    by_blocking = λ below' b h. is ∙ figures_below t above below below' b h;
   }
     where
-      own : F.inLimits t above below ≡ true → in_range t ≡ true
+      own : F.in_limits t above below ≡ true → in_range t ≡ true
       own h =
           and_left (in_range t) (all_rows in_range above
-          && (all_rows in_range below && leb (length above + length below) maxOthers)) h
+          && (all_rows in_range below && leb (length above + length below) max_others)) h
 
-  pub refused : (x : Figures) → x ≡ noFigures → inLimits ns n i ≡ false → RowFigures ns n i x
+  pub refused : (x : Figures) → x ≡ no_figures → in_limits ns n i ≡ false → RowFigures ns n i x
   refused x e h = record {
     held = λ room there.
-        say x (e ∙ ap (λ b. pick b (figuresUnder t above below) noFigures) (sym (same-limits room there ∙ h)));
-    not-held = λ l. e;
-    no-such-row = λ l. e;
+        say x (e ∙ ap (λ b. pick b (figures_under t above below) no_figures) (sym (same_limits room there ∙ h)));
+    not_held = λ l. e;
+    no_such_row = λ l. e;
   }
 
-  pub answered : (x : Figures) → x ≡ figuresUnder t above below → inLimits ns n i ≡ true → RowFigures ns n i x
+  pub answered : (x : Figures) → x ≡ figures_under t above below → in_limits ns n i ≡ true → RowFigures ns n i x
   answered x e h =
-      let k = in-limits h in
+      let k = in_limits_lem h in
       record {
         held = λ room there.
-            say x (e ∙ ap (λ b. pick b (figuresUnder t above below) noFigures) (sym (same-limits room there ∙ h)));
-        not-held = λ l. absurd (omega (arith, l, k.held));
-        no-such-row = λ l. absurd (omega (arith, l, k.there));
+            say x (e ∙ ap (λ b. pick b (figures_under t above below) no_figures) (sym (same_limits room there ∙ h)));
+        not_held = λ l. absurd (omega (arith, l, k.held));
+        no_such_row = λ l. absurd (omega (arith, l, k.there));
       }

@@ -1,11 +1,11 @@
 // A row's figures between the rows above it and below it: rows are lent as numbers, highest first, and, where they are
 // in the limits of a table, the times of those above are put into the columns of the analysis.
 ghost use Rattle.std.specs.Prelude.{◌≡◌, ℕ, ◌*◌, ◌≤◌, ◌<◌, length, get_or};
-ghost use Rattle.rows.specs.Rows.{maxTasks, in_range, all_rows};
-ghost use Rattle.rows.specs.inside.Numbers.{fieldCount, rows_of};
-ghost use Rattle.responses.specs.Figures.{noFigures};
+ghost use Rattle.rows.specs.Rows.{max_tasks, in_range, all_rows};
+ghost use Rattle.rows.specs.inside.Numbers.{field_count, rows_of};
+ghost use Rattle.responses.specs.Figures.{no_figures};
 ghost use Rattle.responses.specs.Claims.{RowFigures};
-ghost use Rattle.figures.specs.inside.Limits.{inLimits};
+ghost use Rattle.figures.specs.inside.Limits.{in_limits};
 
 use analysis::{blocking_from, figures_under, fill_columns};
 use responses::Figures;
@@ -13,7 +13,7 @@ use rows::{FIELDS, MAX_TASKS, in_range_at};
 
 // Of rows that are out of range or too many, and of a row that is not there.
 fn no_figures() -> Figures
-    ensures { result ≡ noFigures }
+    ensures { result ≡ no_figures }
 {
     Figures {
         figured: false,
@@ -28,7 +28,7 @@ fn no_figures() -> Figures
 
 // Whether each of n rows is in range.
 fn all_in_range(numbers: &[u64], n: usize) -> bool
-    requires { fieldCount * n ≤ length numbers.now }
+    requires { field_count * n ≤ length numbers.now }
     ensures { result ≡ all_rows in_range (rows_of n numbers.now) }
 {
     let mut i = 0;
@@ -43,7 +43,7 @@ fn all_in_range(numbers: &[u64], n: usize) -> bool
 
 // Whether row i is one of n rows that are there and in the limits of a table.
 fn in_limits(rows: &[u64], n: usize, i: usize) -> bool
-    ensures { result ≡ inLimits rows.now n i }
+    ensures { result ≡ in_limits rows.now n i }
 {
     if MAX_TASKS < n {
         return false;
@@ -59,7 +59,7 @@ fn in_limits(rows: &[u64], n: usize, i: usize) -> bool
 
 // The positions of rows in their own sequence.
 fn positions() -> [usize; MAX_TASKS]
-    ensures { (i : ℕ) → i < maxTasks → get_or result i 0 ≡ i }
+    ensures { (i : ℕ) → i < max_tasks → get_or result i 0 ≡ i }
 {
     let mut positions = [0usize; MAX_TASKS];
     for i in 0..MAX_TASKS {

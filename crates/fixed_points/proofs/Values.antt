@@ -9,49 +9,49 @@ use native.Mathlib.Omega.{arith}
 use borrow.Author.Tests.{le-leb, lt-leb}
 use Rattle.basics.specs.Basics.{pick}
 use Rattle.responses.specs.Extremes.{smallest}
-use Rattle.responses.specs.Interference.{ceiling, Load, load, interference, leastFixed}
+use Rattle.responses.specs.Interference.{ceiling, Load, load, interference, least_fixed}
 use Rattle.basics.proofs.Tests.{le-or-lt}
-use Rattle.responses.proofs.Sums.{Periods, ceiling-one, interference-mono}
-use Rattle.responses.proofs.FixedPoints.{demand-mono, least-is, least-none}
-use Rattle.fixed_points.specs.inside.Loads.{loadsFrom, loads, Columns}
-use Rattle.fixed_points.specs.inside.Values.{oneJobEach, firstValue, nextValue, value_at}
+use Rattle.responses.proofs.Sums.{Periods, ceiling_one, interference_mono}
+use Rattle.responses.proofs.FixedPoints.{demand_mono, least_is, least_none}
+use Rattle.fixed_points.specs.inside.Loads.{loads_from, loads, Columns}
+use Rattle.fixed_points.specs.inside.Values.{one_job_each, first_value, next_value, value_at}
 
 -- ---- the first value
 -- a window of a tick meets one job of each task
-pub one-tick : (ls : List Load) → Periods ls → interference 0 1 ls ≡ oneJobEach ls
-one-tick [] ps = refl
-one-tick (l ∷ ls) ps =
-    let one : ceiling 1 l.period - 0 ≡ 1 = omega (arith, ceiling-one 1 l.period (omega arith) ps.0) in
-    rw one (omega (arith, one-tick ls ps.1))
+pub one_tick : (ls : List Load) → Periods ls → interference 0 1 ls ≡ one_job_each ls
+one_tick [] ps = refl
+one_tick (l ∷ ls) ps =
+    let one : ceiling 1 l.period - 0 ≡ 1 = omega (arith, ceiling_one 1 l.period (omega arith) ps.0) in
+    rw one (omega (arith, one_tick ls ps.1))
 
 -- a longer one no less
-one-job-met : (w : ℕ) (ls : List Load) → Periods ls → 1 ≤ w → oneJobEach ls ≤ interference 0 w ls
-one-job-met w ls ps h = omega (arith, one-tick ls ps, interference-mono 0 1 w ls h)
+one_job_met : (w : ℕ) (ls : List Load) → Periods ls → 1 ≤ w → one_job_each ls ≤ interference 0 w ls
+one_job_met w ls ps h = omega (arith, one_tick ls ps, interference_mono 0 1 w ls h)
 
 -- so every solution from 1 on is at or above the first value, and none is missed
-pub first-least : (base w : ℕ) (ls : List Load) → Periods ls → 1 ≤ w → w ≡ base + interference 0 w ls
-    → firstValue base ls ≤ w
-first-least base w ls ps h e = omega (arith, e, one-job-met w ls ps h)
+pub first_least : (base w : ℕ) (ls : List Load) → Periods ls → 1 ≤ w → w ≡ base + interference 0 w ls
+    → first_value base ls ≤ w
+first_least base w ls ps h e = omega (arith, e, one_job_met w ls ps h)
 
 -- one above it, a solution can be missed: a task of one tick below one that takes a tick of every two finishes after 2
 -- ticks at the latest, which is the first value; but 3 solves its equation too, and the search would end there
-pub one-above-misses : let ls = load 2 1 ∷ [] in
-    (firstValue 1 ls ≡ 2) × (leastFixed 1 10 ls ≡ 2) × (nextValue 1 10 ls 3 ≡ 3)
+pub one_above_misses : let ls = load 2 1 ∷ [] in
+    (first_value 1 ls ≡ 2) × (least_fixed 1 10 ls ≡ 2) × (next_value 1 10 ls 3 ≡ 3)
 unfolding smallest
-one-above-misses = (refl, refl, refl)
+one_above_misses = (refl, refl, refl)
 
 -- ---- the value after w
-pub next-within : (base limit w : ℕ) (ls : List Load) → w ≤ limit
-    → nextValue base limit ls w ≡ base + interference 0 w ls
-next-within base limit w ls h = ap (λ b. pick b (base + interference 0 w ls) w) (le-leb w limit h)
+pub next_within : (base limit w : ℕ) (ls : List Load) → w ≤ limit
+    → next_value base limit ls w ≡ base + interference 0 w ls
+next_within base limit w ls h = ap (λ b. pick b (base + interference 0 w ls) w) (le-leb w limit h)
 
-pub next_past : (base limit w : ℕ) (ls : List Load) → limit < w → nextValue base limit ls w ≡ w
+pub next_past : (base limit w : ℕ) (ls : List Load) → limit < w → next_value base limit ls w ≡ w
 next_past base limit w ls h = ap (λ b. pick b (base + interference 0 w ls) w) (lt-leb w limit h)
 
 -- the request's case: the values for task 13 below tasks 11 and 12 are 27 and 35, which is followed by itself
-pub task-13 : let value = value_at 19 200 (load 24 6 ∷ load 18 2 ∷ []) in
+pub task_13 : let value = value_at 19 200 (load 24 6 ∷ load 18 2 ∷ []) in
     (value 0 ≡ 27) × (value 1 ≡ 35) × (value 2 ≡ 35)
-task-13 = (refl, refl, refl)
+task_13 = (refl, refl, refl)
 
 -- ---- where the search stands: at a value that takes no less than itself, with no solution below it
 pub record Searching (base limit : ℕ) (ls : List Load) (w : ℕ) : Type 0 where
@@ -60,18 +60,18 @@ pub record Searching (base limit : ℕ) (ls : List Load) (w : ℕ) : Type 0 wher
   pub none_below : (v : ℕ) → 1 ≤ v → v ≡ base + interference 0 v ls → v ≤ limit → w ≤ v
 
 module _ (base limit : ℕ) (ls : List Load) where
-  begins : 1 ≤ base → Periods ls → Searching base limit ls (firstValue base ls)
+  begins : 1 ≤ base → Periods ls → Searching base limit ls (first_value base ls)
   begins h ps = record {
     some = omega arith;
-    rises = omega (arith, one-job-met (firstValue base ls) ls ps (omega arith));
-    none_below = λ v k e l. first-least base v ls ps k e;
+    rises = omega (arith, one_job_met (first_value base ls) ls ps (omega arith));
+    none_below = λ v k e l. first_least base v ls ps k e;
   }
 
-  steps_on : (w : ℕ) → Searching base limit ls w → Searching base limit ls (nextValue base limit ls w)
+  steps_on : (w : ℕ) → Searching base limit ls w → Searching base limit ls (next_value base limit ls w)
   steps_on w s = elim (le-or-lt w limit) [
     | inl l ↦ (
-        let up = demand-mono 0 base ls in
-        rw (next-within base limit w ls l) (record {
+        let up = demand_mono 0 base ls in
+        rw (next_within base limit w ls l) (record {
           some = omega (arith, s.some, s.rises);
           rises = up w (base + interference 0 w ls) s.rises;
           none_below = λ v h e k. omega (arith, up w v (s.none_below v h e k), e);
@@ -85,19 +85,19 @@ module _ (base limit : ℕ) (ls : List Load) where
 
   module _ (w : ℕ) (s : Searching base limit ls w) where
     -- a value that is not followed by itself is within the limit, and followed by a greater one
-    pub moves : (nextValue base limit ls w ≡ w → ⊥) → (w ≤ limit) × (w < nextValue base limit ls w)
+    pub moves : (next_value base limit ls w ≡ w → ⊥) → (w ≤ limit) × (w < next_value base limit ls w)
     moves h = elim (le-or-lt w limit) [
-      | inl l ↦ (l, omega (arith, next-within base limit w ls l, s.rises, h))
+      | inl l ↦ (l, omega (arith, next_within base limit w ls l, s.rises, h))
       | inr l ↦ absurd (h (next_past base limit w ls l))
     ]
 
     -- one that is, is W or shows the task late
-    pub ends_at : nextValue base limit ls w ≡ w → w ≤ limit → w ≡ leastFixed base limit ls
+    pub ends_at : next_value base limit ls w ≡ w → w ≤ limit → w ≡ least_fixed base limit ls
     ends_at e l =
-        least-is base limit ls w s.some (sym e ∙ next-within base limit w ls l) l s.none_below
+        least_is base limit ls w s.some (sym e ∙ next_within base limit w ls l) l s.none_below
 
-    pub ends-late : limit < w → 0 ≡ leastFixed base limit ls
-    ends-late l = least-none base limit ls (λ v h e k. omega (arith, s.none_below v h e k))
+    pub ends_late : limit < w → 0 ≡ least_fixed base limit ls
+    ends_late l = least_none base limit ls (λ v h e k. omega (arith, s.none_below v h e k))
 
 -- ---- a search that has come to a value by some steps, each to a greater one
 pub record Reached (base limit : ℕ) (ls : List Load) (w k : ℕ) : Type 0 where
@@ -106,31 +106,31 @@ pub record Reached (base limit : ℕ) (ls : List Load) (w k : ℕ) : Type 0 wher
   pub moved : (j : ℕ) → j < k → value_at base limit ls j < value_at base limit ls (suc j)
 
 module _ (base limit : ℕ) (ls : List Load) (some : 1 ≤ base) (ps : Periods ls) where
-  pub reached-first : (w : ℕ) → w ≡ firstValue base ls → Reached base limit ls w 0
-  reached-first w e = record { value-is = e; few = omega (arith, e); moved = λ j l. absurd (omega arith) }
+  pub reached_first : (w : ℕ) → w ≡ first_value base ls → Reached base limit ls w 0
+  reached_first w e = record { value-is = e; few = omega (arith, e); moved = λ j l. absurd (omega arith) }
 
   module _ (w k : ℕ) (r : Reached base limit ls w k) where
     pub stands : Searching base limit ls w
     stands = rw r.value-is (searching base limit ls some ps k)
 
-    pub reached-next : (next : ℕ) → next ≡ nextValue base limit ls w → w < next → Reached base limit ls next (k + 1)
-    reached-next next e h =
-        let e' : next ≡ value_at base limit ls (suc k) = e ∙ ap (nextValue base limit ls) r.value-is in
+    pub reached_next : (next : ℕ) → next ≡ next_value base limit ls w → w < next → Reached base limit ls next (k + 1)
+    reached_next next e h =
+        let e' : next ≡ value_at base limit ls (suc k) = e ∙ ap (next_value base limit ls) r.value-is in
         rw (add-one k) (record {
           value-is = e';
           few = omega (arith, r.few, h);
           moved = λ j l. elim (le-or-lt k j) [
-            | inl m ↦ (let j-is : j ≡ k = omega arith in rw j-is (omega (arith, r.value-is, e', h)))
+            | inl m ↦ (let j_is : j ≡ k = omega arith in rw j_is (omega (arith, r.value-is, e', h)))
             | inr m ↦ r.moved j m
           ];
         })
 
 -- ---- the columns' own
 module _ (n : ℕ) (ps cs : List ℕ) (k : Columns n ps cs) where
-  periods-from : (m i : ℕ) → i + m ≤ n → Periods (loadsFrom i m ps cs)
-  unfolding loadsFrom
-  periods-from zero i h = tt
-  periods-from (suc m) i h = (k.period-some i (omega arith), periods-from m (suc i) (omega arith))
+  periods_from : (m i : ℕ) → i + m ≤ n → Periods (loads_from i m ps cs)
+  unfolding loads_from
+  periods_from zero i h = tt
+  periods_from (suc m) i h = (k.period_some i (omega arith), periods_from m (suc i) (omega arith))
 
-  pub periods-some : Periods (loads n ps cs)
-  periods-some = periods-from n 0 (omega arith)
+  pub periods_some : Periods (loads n ps cs)
+  periods_some = periods_from n 0 (omega arith)

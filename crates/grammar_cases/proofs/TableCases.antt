@@ -6,16 +6,16 @@ use Prim.Native.Nat.{ℕ}
 use Prim.Native.String.{String}
 use Rattle.text.specs.Text.{lined}
 use Rattle.text.specs.Lines.{line_at, number_of}
-use Rattle.grammars.specs.Forms.{formAt}
-use Rattle.grammars.specs.Grammars.{readFor}
+use Rattle.grammars.specs.Forms.{form_at}
+use Rattle.grammars.specs.Grammars.{read_for}
 use Rattle.curves.specs.Curves.{Point, point}
-use Rattle.rows.specs.Rows.{row, rowWith}
+use Rattle.rows.specs.Rows.{row, row_with}
 use Rattle.rows.specs.Rows.{Row}
-use Rattle.tables.specs.TableLines.{readTable, table_of, turnedDown}
+use Rattle.tables.specs.TableLines.{read_table, table_of, turned_down}
 
 -- the table with another line for its third task, and the lines behind its beta
-abbrev paperWith : String → List String → List ℕ
-paperWith third more =
+abbrev paper_with : String → List String → List ℕ
+paper_with third more =
     lined
     ("board=7" ∷ "tasks=3" ∷ "switch=0"
     ∷ "task=11" ∷ "period=24" ∷ "worst=6" ∷ "best=6" ∷ "alpha=1000" ∷ "beta=8000" ∷ "hold=0" ∷ "points=0"
@@ -24,87 +24,87 @@ paperWith third more =
 
 -- with lines behind the table
 abbrev paper : String → List String → List ℕ
-paper third more = paperWith third ("hold=0" ∷ "points=0" ∷ more)
+paper third more = paper_with third ("hold=0" ∷ "points=0" ∷ more)
 
-abbrev paperRows : ℕ → List Row
-paperRows hold =
+abbrev paper_rows : ℕ → List Row
+paper_rows hold =
     row 11 24 6 6 1000 8000 0 0 ∷ row 12 18 2 2 1000 8000 0 0 ∷ row 13 200 19 17 3000 57000 hold 0 ∷ []
 
-paper-table : readTable false (paper "task=13" []) ≡ table_of 7 (paperRows 0) []
-unfolding readTable readFor formAt line_at number_of
-paper-table = refl
+paper_table : read_table false (paper "task=13" []) ≡ table_of 7 (paper_rows 0) []
+unfolding read_table read_for form_at line_at number_of
+paper_table = refl
 
-ranked-table : readTable true (paper "task=13" ("rank=12" ∷ "rank=11" ∷ "rank=13" ∷ []))
-    ≡ table_of 7 (paperRows 0) (12 ∷ 11 ∷ 13 ∷ [])
-unfolding readTable readFor formAt line_at number_of
-ranked-table = refl
+ranked_table : read_table true (paper "task=13" ("rank=12" ∷ "rank=11" ∷ "rank=13" ∷ []))
+    ≡ table_of 7 (paper_rows 0) (12 ∷ 11 ∷ 13 ∷ [])
+unfolding read_table read_for form_at line_at number_of
+ranked_table = refl
 
-ranks-missing : readTable true (paper "task=13" []) ≡ turnedDown 1 28
-unfolding readTable readFor formAt line_at number_of
-ranks-missing = refl
+ranks_missing : read_table true (paper "task=13" []) ≡ turned_down 1 28
+unfolding read_table read_for form_at line_at number_of
+ranks_missing = refl
 
-trailing-bytes : readTable false (paper "task=13" ("rank=12" ∷ [])) ≡ turnedDown 1 28
-unfolding readTable readFor formAt line_at number_of
-trailing-bytes = refl
+trailing_bytes : read_table false (paper "task=13" ("rank=12" ∷ [])) ≡ turned_down 1 28
+unfolding read_table read_for form_at line_at number_of
+trailing_bytes = refl
 
-repeated-task : readTable false (paper "task=11" []) ≡ turnedDown 5 20
-unfolding readTable readFor formAt line_at number_of
-repeated-task = refl
+repeated_task : read_table false (paper "task=11" []) ≡ turned_down 5 20
+unfolding read_table read_for form_at line_at number_of
+repeated_task = refl
 
-repeated-rank : readTable true (paper "task=13" ("rank=12" ∷ "rank=12" ∷ "rank=13" ∷ [])) ≡ turnedDown 6 29
-unfolding readTable readFor formAt line_at number_of
-repeated-rank = refl
+repeated_rank : read_table true (paper "task=13" ("rank=12" ∷ "rank=12" ∷ "rank=13" ∷ [])) ≡ turned_down 6 29
+unfolding read_table read_for form_at line_at number_of
+repeated_rank = refl
 
 -- ---- the line of a hold
-hold-worst : readTable false (paperWith "task=13" ("hold=19" ∷ "points=0" ∷ [])) ≡ table_of 7 (paperRows 19) []
-unfolding readTable readFor formAt line_at number_of
-hold-worst = refl
+hold_worst : read_table false (paper_with "task=13" ("hold=19" ∷ "points=0" ∷ [])) ≡ table_of 7 (paper_rows 19) []
+unfolding read_table read_for form_at line_at number_of
+hold_worst = refl
 
-past-worst : readTable false (paperWith "task=13" ("hold=20" ∷ [])) ≡ turnedDown 4 26
-unfolding readTable readFor formAt line_at number_of
-past-worst = refl
+past_worst : read_table false (paper_with "task=13" ("hold=20" ∷ [])) ≡ turned_down 4 26
+unfolding read_table read_for form_at line_at number_of
+past_worst = refl
 
-past-limit : readTable false (paperWith "task=13" ("hold=1000001" ∷ [])) ≡ turnedDown 3 26
-unfolding readTable readFor formAt line_at number_of
-past-limit = refl
+past_limit : read_table false (paper_with "task=13" ("hold=1000001" ∷ [])) ≡ turned_down 3 26
+unfolding read_table read_for form_at line_at number_of
+past_limit = refl
 
-missing-hold : readTable false (paperWith "task=13" []) ≡ turnedDown 1 26
-unfolding readTable readFor formAt line_at number_of
-missing-hold = refl
+missing_hold : read_table false (paper_with "task=13" []) ≡ turned_down 1 26
+unfolding read_table read_for form_at line_at number_of
+missing_hold = refl
 
 -- one task with the largest times
-hold-limit : readTable false (lined
+hold_limit : read_table false (lined
     ("board=7" ∷ "tasks=1" ∷ "switch=0"
     ∷ "task=1" ∷ "period=1000000" ∷ "worst=1000000" ∷ "best=1" ∷ "alpha=1000" ∷ "beta=0" ∷ "hold=1000000"
     ∷ "points=0" ∷ []))
     ≡ table_of 7 (row 1 1000000 1000000 1 1000 0 1000000 0 ∷ []) []
-unfolding readTable readFor formAt line_at number_of
-hold-limit = refl
+unfolding read_table read_for form_at line_at number_of
+hold_limit = refl
 
 -- ---- the line of the switch: its number is in each row, and a worst time has to leave room for it
-abbrev switchedTable : String → String → List ℕ
-switchedTable switch worst =
+abbrev switched_table : String → String → List ℕ
+switched_table switch worst =
     lined
     ("board=7" ∷ "tasks=2" ∷ switch
     ∷ "task=1" ∷ "period=1010" ∷ "worst=10" ∷ "best=10" ∷ "alpha=1000" ∷ "beta=0" ∷ "hold=0" ∷ "points=0"
     ∷ "task=2" ∷ "period=2000" ∷ worst ∷ "best=1" ∷ "alpha=1000" ∷ "beta=0" ∷ "hold=0" ∷ "points=0" ∷ [])
 
-switch-limit : readTable false (switchedTable "switch=1000" "worst=1000")
+switch_limit : read_table false (switched_table "switch=1000" "worst=1000")
     ≡ table_of 7 (row 1 1010 10 10 1000 0 0 1000 ∷ row 2 2000 1000 1 1000 0 0 1000 ∷ []) []
-unfolding readTable readFor formAt line_at number_of
-switch-limit = refl
+unfolding read_table read_for form_at line_at number_of
+switch_limit = refl
 
-past-switch : readTable false (switchedTable "switch=1001" "worst=1000") ≡ turnedDown 3 3
-unfolding readTable readFor formAt line_at number_of
-past-switch = refl
+past_switch : read_table false (switched_table "switch=1001" "worst=1000") ≡ turned_down 3 3
+unfolding read_table read_for form_at line_at number_of
+past_switch = refl
 
-past-period : readTable false (switchedTable "switch=1000" "worst=1001") ≡ turnedDown 4 14
-unfolding readTable readFor formAt line_at number_of
-past-period = refl
+past_period : read_table false (switched_table "switch=1000" "worst=1001") ≡ turned_down 4 14
+unfolding read_table read_for form_at line_at number_of
+past_period = refl
 
-missing-switch : readTable false (switchedTable "task=1" "worst=1000") ≡ turnedDown 1 3
-unfolding readTable readFor formAt line_at number_of
-missing-switch = refl
+missing_switch : read_table false (switched_table "task=1" "worst=1000") ≡ turned_down 1 3
+unfolding read_table read_for form_at line_at number_of
+missing_switch = refl
 
 -- ---- the lines of points: as many as are said, in a row of eight and in one of two, and the row behind them
 abbrev rising : List String
@@ -112,8 +112,8 @@ rising =
     "delay=0" ∷ "allow=1000000" ∷ "delay=1" ∷ "allow=1000000" ∷ "delay=2" ∷ "allow=7" ∷ "delay=3" ∷ "allow=6"
     ∷ "delay=4" ∷ "allow=5" ∷ "delay=5" ∷ "allow=5" ∷ "delay=6" ∷ "allow=0" ∷ []
 
-abbrev ofEight : List String → List ℕ
-ofEight last =
+abbrev of_eight : List String → List ℕ
+of_eight last =
     lined
     ("board=7" ∷ "tasks=2" ∷ "switch=0"
     ∷ "task=1" ∷ "period=10" ∷ "worst=1" ∷ "best=1" ∷ "alpha=1000" ∷ "beta=0" ∷ "hold=0" ∷ "points=8"
@@ -129,23 +129,23 @@ eight =
     point 0 1000000 ∷ point 1 1000000 ∷ point 2 7 ∷ point 3 6 ∷ point 4 5 ∷ point 5 5 ∷ point 6 0
     ∷ point 1000000 0 ∷ []
 
-points-read : readTable false (ofEight ("delay=1000000" ∷ "allow=0" ∷ second))
-    ≡ table_of 7 (rowWith eight 1 10 1 1 1000 0 0 0 ∷ rowWith (point 0 4 ∷ point 9 4 ∷ []) 2 10 1 1 1000 0 0 0 ∷ []) []
-unfolding readTable readFor formAt line_at number_of
-points-read = refl
+points_read : read_table false (of_eight ("delay=1000000" ∷ "allow=0" ∷ second))
+    ≡ table_of 7 (row_with eight 1 10 1 1 1000 0 0 0 ∷ row_with (point 0 4 ∷ point 9 4 ∷ []) 2 10 1 1 1000 0 0 0 ∷ []) []
+unfolding read_table read_for form_at line_at number_of
+points_read = refl
 
-last-allow-above : readTable false (ofEight ("delay=1000000" ∷ "allow=1" ∷ [])) ≡ turnedDown 11 27
-unfolding readTable readFor formAt line_at number_of
-last-allow-above = refl
+last_allow_above : read_table false (of_eight ("delay=1000000" ∷ "allow=1" ∷ [])) ≡ turned_down 11 27
+unfolding read_table read_for form_at line_at number_of
+last_allow_above = refl
 
-last-delay-not-above : readTable false (ofEight ("delay=6" ∷ [])) ≡ turnedDown 11 26
-unfolding readTable readFor formAt line_at number_of
-last-delay-not-above = refl
+last_delay_not_above : read_table false (of_eight ("delay=6" ∷ [])) ≡ turned_down 11 26
+unfolding read_table read_for form_at line_at number_of
+last_delay_not_above = refl
 
-last-delay-past : readTable false (ofEight ("delay=1000001" ∷ [])) ≡ turnedDown 3 26
-unfolding readTable readFor formAt line_at number_of
-last-delay-past = refl
+last_delay_past : read_table false (of_eight ("delay=1000001" ∷ [])) ≡ turned_down 3 26
+unfolding read_table read_for form_at line_at number_of
+last_delay_past = refl
 
-ninth-point : readTable false (ofEight ("delay=7" ∷ "allow=0" ∷ "delay=8" ∷ [])) ≡ turnedDown 1 28
-unfolding readTable readFor formAt line_at number_of
-ninth-point = refl
+ninth_point : read_table false (of_eight ("delay=7" ∷ "allow=0" ∷ "delay=8" ∷ [])) ≡ turned_down 1 28
+unfolding read_table read_for form_at line_at number_of
+ninth_point = refl

@@ -3,25 +3,25 @@
 -- and leaves.
 use Rattle.std.specs.Prelude.{List, [], ◌∷◌, ◌++◌, ℕ, zero, suc, ◌^◌, ◌≤◌, ◌<◌, ltb, ℤ, length}
 use Rattle.basics.specs.Basics.{pick}
-use Rattle.text.specs.Text.{bytes, decimal, signed, keyLine}
-use Rattle.text.specs.Lines.{maxDigits}
+use Rattle.text.specs.Text.{bytes, decimal, signed, key_line}
+use Rattle.text.specs.Lines.{max_digits}
 use Rattle.grammars.specs.Forms.{natural, integer, size}
-use Rattle.grammars.specs.Grammars.{Expected, the_end, a-line, Grammar}
+use Rattle.grammars.specs.Grammars.{Expected, the_end, a_line, Grammar}
 
 -- how many marks there may be
-abbrev pub maxMarks : ℕ
-maxMarks = 3
+abbrev pub max_marks : ℕ
+max_marks = 3
 
 -- the range of a mark
-abbrev pub minMark : ℕ
-minMark = 1
+abbrev pub min_mark : ℕ
+min_mark = 1
 
-abbrev pub maxMark : ℕ
-maxMark = 100
+abbrev pub max_mark : ℕ
+max_mark = 100
 
 -- the refusal of a mark that is not above the one before it
-abbrev pub notAbove : ℕ
-notAbove = 21
+abbrev pub not_above : ℕ
+not_above = 21
 
 -- a mark and its drift
 pub record Mark : Type 0 where
@@ -29,41 +29,41 @@ pub record Mark : Type 0 where
   pub drift : ℤ
 
 -- the last of some marks, or what stands before them
-abbrev pub lastFrom : ℕ → List Mark → ℕ
-lastFrom v [] = v
-lastFrom v (m ∷ ms) = lastFrom m.mark ms
+abbrev pub last_from : ℕ → List Mark → ℕ
+last_from v [] = v
+last_from v (m ∷ ms) = last_from m.mark ms
 
 -- what has been read: the marks so far, and how many are left after the one that is being read
 pub data Stage : Type 0 where
   at_count : Stage
   at_mark : (left : ℕ) (marks : List Mark) → Stage
-  at-drift : (left : ℕ) (marks : List Mark) (mark : ℕ) → Stage
+  at_drift : (left : ℕ) (marks : List Mark) (mark : ℕ) → Stage
   at-end : (marks : List Mark) → Stage
 
 -- as many marks, then the end
-abbrev pub marksStage : ℕ → List Mark → Stage
-marksStage zero ms = at-end ms
-marksStage (suc n) ms = at_mark n ms
+abbrev pub marks_stage : ℕ → List Mark → Stage
+marks_stage zero ms = at-end ms
+marks_stage (suc n) ms = at_mark n ms
 
 -- the line that is expected
 abbrev pub expected : Stage → Expected
-expected at_count = a-line (bytes "marks=") (natural 0 maxMarks)
-expected (at_mark n ms) = a-line (bytes "mark=") (natural minMark maxMark)
-expected (at-drift n ms v) = a-line (bytes "drift=") integer
+expected at_count = a_line (bytes "marks=") (natural 0 max_marks)
+expected (at_mark n ms) = a_line (bytes "mark=") (natural min_mark max_mark)
+expected (at_drift n ms v) = a_line (bytes "drift=") integer
 expected (at-end ms) = the_end
 
 -- the refusal of a number in its range, 0 for none
 abbrev pub fault : Stage → ℤ → ℕ
 fault at_count z = 0
-fault (at_mark n ms) z = pick (ltb (lastFrom 0 ms) (size z)) 0 notAbove
-fault (at-drift n ms v) z = 0
+fault (at_mark n ms) z = pick (ltb (last_from 0 ms) (size z)) 0 not_above
+fault (at_drift n ms v) z = 0
 fault (at-end ms) z = 0
 
 -- what is to be read after a number
 abbrev pub after : Stage → ℤ → Stage
-after at_count z = marksStage (size z) []
-after (at_mark n ms) z = at-drift n ms (size z)
-after (at-drift n ms v) z = marksStage n (ms ++ (record { mark = v; drift = z } ∷ []))
+after at_count z = marks_stage (size z) []
+after (at_mark n ms) z = at_drift n ms (size z)
+after (at_drift n ms v) z = marks_stage n (ms ++ (record { mark = v; drift = z } ∷ []))
 after (at-end ms) z = at-end ms
 
 -- the grammar
@@ -74,8 +74,8 @@ toy = record { expected = expected; fault = fault; after = after }
 -- a mark above a number, in its range, with a drift that can be written
 pub record Above (v : ℕ) (m : Mark) : Type 0 where
   pub above : v < m.mark
-  pub in-range : m.mark ≤ maxMark
-  pub drift-fits : size m.drift < 10 ^ maxDigits
+  pub is_in_range : m.mark ≤ max_mark
+  pub drift_fits : size m.drift < 10 ^ max_digits
 
 -- each is above the one before it, the first above a number
 pub data Rising : ℕ → List Mark → Type 0 where
@@ -83,11 +83,11 @@ pub data Rising : ℕ → List Mark → Type 0 where
   next : {v : ℕ} {m : Mark} {ms : List Mark} → Above v m → Rising m.mark ms → Rising v (m ∷ ms)
 
 -- the two lines of each mark
-abbrev pub marksText : List Mark → List ℕ
-marksText [] = []
-marksText (m ∷ ms) =
-    keyLine (bytes "mark=") (decimal m.mark) ++ (keyLine (bytes "drift=") (signed m.drift) ++ marksText ms)
+abbrev pub marks_text : List Mark → List ℕ
+marks_text [] = []
+marks_text (m ∷ ms) =
+    key_line (bytes "mark=") (decimal m.mark) ++ (key_line (bytes "drift=") (signed m.drift) ++ marks_text ms)
 
 -- the whole text
-abbrev pub toyText : List Mark → List ℕ
-toyText ms = keyLine (bytes "marks=") (decimal (length ms)) ++ marksText ms
+abbrev pub toy_text : List Mark → List ℕ
+toy_text ms = key_line (bytes "marks=") (decimal (length ms)) ++ marks_text ms

@@ -11,11 +11,11 @@ use Rattle.text.specs.contracts.Line as T
 use Rattle.grammars.specs.inside.Answers.{unless, tested}
 
 -- every case of a line's answer but its number
-abbrev noNumbers : List ℕ
-noNumbers = 1 ∷ 2 ∷ []
+abbrev no_numbers : List ℕ
+no_numbers = 1 ∷ 2 ∷ []
 
 abbrev pub NoNumber : Line → Type 0
-NoNumber l = OneOf noNumbers (tag_of T.the_type l)
+NoNumber l = OneOf no_numbers (tag_of T.the_type l)
 
 -- where there is no test, every answer stays
 pub no_test : (l : Line) (k : ℕ) → l ≡ tested (λ v. 0) l k
@@ -25,17 +25,17 @@ no_test (L.Refused n j) k = refl
 
 -- and so does an answer that is no number
 pub untested : (fault : ℕ → ℕ) (l : Line) (k : ℕ) → NoNumber l → l ≡ tested fault l k
-untested fault (L.Number v next) k none = absurd (miss noNumbers 0 tt none)
+untested fault (L.Number v next) k none = absurd (miss no_numbers 0 tt none)
 untested fault L.End k none = refl
 untested fault (L.Refused n j) k none = refl
 
 -- a number that passes its test is the line's own
-pub tested-number : (fault : ℕ → ℕ) (l : Line) (k v next : ℕ) → tested fault l k ≡ L.Number v next
+pub tested_number : (fault : ℕ → ℕ) (l : Line) (k v next : ℕ) → tested fault l k ≡ L.Number v next
     → l ≡ L.Number v next
-tested-number fault (L.Number u past) k v next e = by-fault (fault u) e
+tested_number fault (L.Number u past) k v next e = by_fault (fault u) e
   where
-    by-fault : (n : ℕ) → unless n (L.Number u past) k ≡ L.Number v next → L.Number u past ≡ L.Number v next
-    by-fault zero h = h
-    by-fault (suc n) h = let z : ◌≡◌ {A = ℕ} 0 1 = cc in absurd (omega arith)
-tested-number fault L.End k v next e = e
-tested-number fault (L.Refused n j) k v next e = e
+    by_fault : (n : ℕ) → unless n (L.Number u past) k ≡ L.Number v next → L.Number u past ≡ L.Number v next
+    by_fault zero h = h
+    by_fault (suc n) h = let z : ◌≡◌ {A = ℕ} 0 1 = cc in absurd (omega arith)
+tested_number fault L.End k v next e = e
+tested_number fault (L.Refused n j) k v next e = e

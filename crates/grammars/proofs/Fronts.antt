@@ -4,20 +4,20 @@ use mathlib.Core.Path.{◌≡◌, refl, sym, ap, subst, ◌∙◌}
 use mathlib.Core.List.{List, [], ◌++◌, append_assoc}
 use Prim.Native.Nat.{ℕ, suc}
 use lib.IntN.{ℤ}
-use Rattle.text.specs.Text.{signed, keyLine}
+use Rattle.text.specs.Text.{signed, key_line}
 use Rattle.grammars.specs.Grammars.{Grammar}
 use Rattle.grammars.specs.Reasons.{Passes, Reaches, begin, line}
 use Rattle.grammars.specs.Reasons.{Refused, trailing, missing, malformed, out_of_range, faulty}
 
 -- a number that passes in a state passes in any that expects the same and refuses the same
-pub passes-as : {S T : Type 0} {g : Grammar S} {h : Grammar T} {s : S} {t : T} → h.expected t ≡ g.expected s
+pub passes_as : {S T : Type 0} {g : Grammar S} {h : Grammar T} {s : S} {t : T} → h.expected t ≡ g.expected s
     → ((z : ℤ) → h.fault t z ≡ g.fault s z) → {key : List ℕ} {z : ℤ} → Passes g s key z → Passes h t key z
-passes-as same faults {z = z} p = record {
+passes_as same faults {z = z} p = record {
   form = p.form;
-  is-expected = same ∙ p.is-expected;
+  is_expected = same ∙ p.is_expected;
   is_number = p.is_number;
-  in-range = p.in-range;
-  no-fault = faults z ∙ p.no-fault;
+  is_in_range = p.is_in_range;
+  no_fault = faults z ∙ p.no_fault;
 }
 
 -- and what is refused in it is refused there
@@ -35,12 +35,12 @@ pub record Front {S : Type 0} (g : Grammar S) (start : S) (text : List ℕ) (k :
   pub joins : text ≡ front ++ here
   pub before : (more : List ℕ) → Reaches g start (front ++ more) k s more
 
-pub in-front : {S : Type 0} {g : Grammar S} {start : S} {text : List ℕ} {k : ℕ} {s : S} {here : List ℕ}
+pub in_front : {S : Type 0} {g : Grammar S} {start : S} {text : List ℕ} {k : ℕ} {s : S} {here : List ℕ}
     → Reaches g start text k s here → Front g start text k s here
-in-front begin = record { front = []; joins = refl; before = λ more. begin }
-in-front {g = g} {start = start} (line {k = k} {s = s} key z rest r p is) =
-    let f = in-front r in
-    let this = keyLine key (signed z) in
+in_front begin = record { front = []; joins = refl; before = λ more. begin }
+in_front {g = g} {start = start} (line {k = k} {s = s} key z rest r p is) =
+    let f = in_front r in
+    let this = key_line key (signed z) in
     record {
       front = f.front ++ this;
       joins = f.joins ∙ ap (λ x. f.front ++ x) is ∙ sym (append_assoc f.front this rest);

@@ -1,7 +1,7 @@
 -- What is claimed of every grammar and every text: a text is accepted as it is written or refused for its reason, and
 -- the other way round, the lines decide the answer.
 use Rattle.std.specs.Prelude.{◌≡◌, List, [], ◌++◌, ℕ, ℤ}
-use Rattle.text.specs.Text.{signed, keyLine}
+use Rattle.text.specs.Text.{signed, key_line}
 use Rattle.grammars.specs.Grammars.{Grammar, the_end, accepted, refused, read}
 use Rattle.grammars.specs.Reasons.{Passes, Reaches, Refused}
 
@@ -35,4 +35,4 @@ pub data Writes {S : Type 0} (g : Grammar S) : S → List ℕ → S → Type 0 w
   then : {s t : S} {rest : List ℕ} (key : List ℕ) (z : ℤ)
       → Passes g s key z
       → Writes g (g.after s z) rest t
-      → Writes g s (keyLine key (signed z) ++ rest) t
+      → Writes g s (key_line key (signed z) ++ rest) t

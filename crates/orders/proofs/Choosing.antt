@@ -14,8 +14,8 @@ use lib.Seq.{append_snoc}
 use Rattle.rows.specs.Rows.{Row}
 use Rattle.basics.proofs.Tests.{test_of, and_left, and_right, and_both}
 use Rattle.orders.specs.Orders as O
-use Rattle.orders.specs.Orders.{Taken, here, later, Possible, nothing, positionsUp, notAfter, tried}
-use Rattle.orders.proofs.Possible.{swapped, taken-length, possible-self, with-lowest, Lowest, lowest-of}
+use Rattle.orders.specs.Orders.{Taken, here, later, Possible, nothing, positions_up, not_after, tried}
+use Rattle.orders.proofs.Possible.{swapped, taken_length, possible_self, with_lowest, Lowest, lowest_of_lem}
 
 pub some_or_none : (o : Option (List Row)) → ((os : List Row) × (o ≡ some os)) ⊎ (o ≡ none)
 some_or_none none = inr refl
@@ -23,38 +23,38 @@ some_or_none (some os) = inl (os, refl)
 
 -- ---- one row tried
 module _ (r : Row) (next : Option (List Row)) where
-  pub tried-lowest :
+  pub tried_lowest :
       (b : Bool) (above : Option (List Row)) (os : List Row) →
       b ≡ true →
       above ≡ some os →
       tried b above r next ≡ some (os ++ (r ∷ []))
-  tried-lowest b above os p q = rw (p, q)
+  tried_lowest b above os p q = rw (p, q)
 
-  pub tried-fails : (b : Bool) (above : Option (List Row)) → b ≡ false → tried b above r next ≡ next
-  tried-fails b above p = rw p
+  pub tried_fails : (b : Bool) (above : Option (List Row)) → b ≡ false → tried b above r next ≡ next
+  tried_fails b above p = rw p
 
-  pub tried-none : (b : Bool) (above : Option (List Row)) → above ≡ none → tried b above r next ≡ next
-  tried-none true above p = rw p
-  tried-none false above p = refl
+  pub tried_none : (b : Bool) (above : Option (List Row)) → above ≡ none → tried b above r next ≡ next
+  tried_none true above p = rw p
+  tried_none false above p = refl
 
 pub same_some : {xs ys : List Row} → some xs ≡ some ys → xs ≡ ys
 same_some e = cc
 
 -- the lowest row's position comes first
-pub positions-lowest :
+pub positions_lowest :
     (position : Row → ℕ) (os : List Row) (r : Row) →
-    positionsUp position (os ++ (r ∷ [])) ≡ position r ∷ positionsUp position os
-positions-lowest position [] r = refl
-positions-lowest position (x ∷ os) r = ap (λ (l : List ℕ). l ++ (position x ∷ [])) (positions-lowest position os r)
+    positions_up position (os ++ (r ∷ [])) ≡ position r ∷ positions_up position os
+positions_lowest position [] r = refl
+positions_lowest position (x ∷ os) r = ap (λ (l : List ℕ). l ++ (position x ∷ [])) (positions_lowest position os r)
 
-pub earlier-first : (x y : ℕ) (xs ys : List ℕ) → x < y → notAfter (x ∷ xs) (y ∷ ys) ≡ true
-earlier-first x y xs ys l = ap (λ (b : Bool). b || (eqb x y && notAfter xs ys)) (lt-ltb x y l)
+pub earlier_first : (x y : ℕ) (xs ys : List ℕ) → x < y → not_after (x ∷ xs) (y ∷ ys) ≡ true
+earlier_first x y xs ys l = ap (λ (b : Bool). b || (eqb x y && not_after xs ys)) (lt-ltb x y l)
 
-pub same_first : (x : ℕ) (xs ys : List ℕ) → notAfter xs ys ≡ true → notAfter (x ∷ xs) (x ∷ ys) ≡ true
+pub same_first : (x : ℕ) (xs ys : List ℕ) → not_after xs ys ≡ true → not_after (x ∷ xs) (x ∷ ys) ≡ true
 same_first x xs ys h = ap₂ (λ (a b : Bool). ltb x x || (a && b)) (eq-eqb x x refl) h ∙ or-true (ltb x x)
 
-pub compare : {xs ys xs' ys' : List ℕ} → xs ≡ xs' → ys ≡ ys' → notAfter xs' ys' ≡ true → notAfter xs ys ≡ true
-compare p q h = ap₂ notAfter p q ∙ h
+pub compare : {xs ys xs' ys' : List ℕ} → xs ≡ xs' → ys ≡ ys' → not_after xs' ys' ≡ true → not_after xs ys ≡ true
+compare p q h = ap₂ not_after p q ∙ h
 
 -- positions rise strictly along a set
 abbrev pub Rising : (Row → ℕ) → List Row → Type 0
@@ -62,18 +62,18 @@ Rising position [] = Unit {0}
 Rising position (x ∷ rs) =
     ((r : Row) (rest : List Row) → Taken r rs rest → position x < position r) × Rising position rs
 
-pub rising-rest :
+pub rising_rest :
     (position : Row → ℕ) {r : Row} {rs rest : List Row} →
     Taken r rs rest →
     Rising position rs →
     Rising position rest
-rising-rest position here up = up.1
-rising-rest position (later t) up =
-    ((λ y more s. up.0 y (swapped t s).between (swapped t s).second), rising-rest position t up.1)
+rising_rest position here up = up.1
+rising_rest position (later t) up =
+    ((λ y more s. up.0 y (swapped t s).between (swapped t s).second), rising_rest position t up.1)
 
 module _ (test : Row → List Row → List Row → Bool) where
-  abbrev passesBetween : List Row → List Row → List Row → Bool
-  passesBetween = O.passesBetween test
+  abbrev passes_between : List Row → List Row → List Row → Bool
+  passes_between = O.passes_between test
 
   -- ---- the choice of the lowest row
   module _ (order : List Row → List Row → Option (List Row)) (below : List Row) where
@@ -90,13 +90,13 @@ module _ (test : Row → List Row → List Row → Bool) where
       pub goes : Goes lowest (before ++ rest) above
       pub order_is : os ≡ above ++ (lowest ∷ [])
 
-    pub picked_of : (before rs os : List Row) → O.lowestOf test order before rs below ≡ some os → Picked before rs os
+    pub picked_of : (before rs os : List Row) → O.lowest_of test order before rs below ≡ some os → Picked before rs os
     picked_of before [] os h = let z : ◌≡◌ {A = ℕ} 0 1 = cc in absurd (omega arith)
     picked_of before (r ∷ rs) os h =
         let rest = before ++ rs in
         let b = test r rest below in
         let up = order rest (r ∷ below) in
-        let next = O.lowestOf test order (before ++ (r ∷ [])) rs below in
+        let next = O.lowest_of test order (before ++ (r ∷ [])) rs below in
         let pass : tried b up r next ≡ next → Picked before (r ∷ rs) os =
         λ e. pass_on r rs (picked_of (before ++ (r ∷ [])) rs os (sym e ∙ h)) in
         elim (test_of b) [
@@ -107,11 +107,11 @@ module _ (test : Row → List Row → List Row → Bool) where
               above = a.0;
               taken = here;
               goes = record { fits = p; above = a.1 };
-              order_is = same_some (sym h ∙ tried-lowest r next b up a.0 p a.1);
+              order_is = same_some (sym h ∙ tried_lowest r next b up a.0 p a.1);
             }
-            | inr q ↦ pass (tried-none r next b up q)
+            | inr q ↦ pass (tried_none r next b up q)
           ]
-          | inr p ↦ pass (tried-fails r next b up p)
+          | inr p ↦ pass (tried_fails r next b up p)
         ]
       where
         pass_on : (r : Row) (rs : List Row) → Picked (before ++ (r ∷ [])) rs os → Picked before (r ∷ rs) os
@@ -129,7 +129,7 @@ module _ (test : Row → List Row → List Row → Bool) where
       pub record Earlier (before rs : List Row) (r : Row) : Type 0 where
         pub lowest : Row
         pub above : List Row
-        pub found : O.lowestOf test order before rs below ≡ some (above ++ (lowest ∷ []))
+        pub found : O.lowest_of test order before rs below ≡ some (above ++ (lowest ∷ []))
         pub earlier : position lowest < position r
 
       pub picked_first :
@@ -137,14 +137,14 @@ module _ (test : Row → List Row → List Row → Bool) where
           Rising position rs →
           Taken r rs rest →
           Goes r (before ++ rest) os →
-          (O.lowestOf test order before rs below ≡ some (os ++ (r ∷ []))) ⊎ Earlier before rs r
+          (O.lowest_of test order before rs below ≡ some (os ++ (r ∷ []))) ⊎ Earlier before rs r
       picked_first {r} {rest = rs} before os up here g =
-          inl (tried-lowest r (O.lowestOf test order (before ++ (r ∷ [])) rs below) (test r (before ++ rs) below)
+          inl (tried_lowest r (O.lowest_of test order (before ++ (r ∷ [])) rs below) (test r (before ++ rs) below)
           (order (before ++ rs) (r ∷ below)) os g.fits g.above)
       picked_first {r} before os up (later {x = x} {rs = rs} {rest = rest} t) g =
           let b = test x (before ++ rs) below in
           let o = order (before ++ rs) (x ∷ below) in
-          let next = O.lowestOf test order (before ++ (x ∷ [])) rs below in
+          let next = O.lowest_of test order (before ++ (x ∷ [])) rs below in
           let g' = subst (λ (l : List Row). Goes r l os) (sym (append_snoc before x rest)) g in
           let ih = picked_first (before ++ (x ∷ [])) os up.1 t g' in
           let pass : tried b o x next ≡ next → (tried b o x next ≡ some (os ++ (r ∷ []))) ⊎ Earlier before (x ∷ rs) r =
@@ -158,120 +158,120 @@ module _ (test : Row → List Row → List Row → Bool) where
                 lowest = x;
                 above = a.0;
                 found =
-                    tried-lowest x next b o a.0 p a.1;
+                    tried_lowest x next b o a.0 p a.1;
                 earlier = up.0 r rest t;
               })
-              | inr q ↦ pass (tried-none x next b o q)
+              | inr q ↦ pass (tried_none x next b o q)
             ]
-            | inr p ↦ pass (tried-fails x next b o p)
+            | inr p ↦ pass (tried_fails x next b o p)
           ]
 
   -- ---- an order with a row below it
-  pub passes-lowest :
+  pub passes_lowest :
       (above os : List Row) (r : Row) (below : List Row) →
-      passesBetween above (os ++ (r ∷ [])) below ≡ (passesBetween above os (r ∷ below) && test r (above ++ os) below)
-  passes-lowest above [] r below = simp append-nil (and-true (test r above below))
-  passes-lowest above (x ∷ os) r below =
-      let p = passesBetween (above ++ (x ∷ [])) os (r ∷ below) in
-      let ih = passes-lowest (above ++ (x ∷ [])) os r below in
+      passes_between above (os ++ (r ∷ [])) below ≡ (passes_between above os (r ∷ below) && test r (above ++ os) below)
+  passes_lowest above [] r below = simp append-nil (and-true (test r above below))
+  passes_lowest above (x ∷ os) r below =
+      let p = passes_between (above ++ (x ∷ [])) os (r ∷ below) in
+      let ih = passes_lowest (above ++ (x ∷ [])) os r below in
       ap₂ (λ (l : List Row) (b : Bool). test x above l && b) (append_snoc os r below) ih
       ∙ ap (λ (l : List Row). test x above (os ++ (r ∷ below)) && (p && test r l below)) (append_snoc above x os)
       ∙ sym (and_assoc (test x above (os ++ (r ∷ below))) p (test r (above ++ (x ∷ os)) below))
 
   -- ---- the order that is found
-  module _ (by-sets : O.BySets test) where
+  module _ (by_sets : O.BySets test) where
     pub record Sound (os rs below : List Row) : Type 0 where
       pub possible : Possible os rs
-      pub passing : passesBetween [] os below ≡ true
+      pub passing : passes_between [] os below ≡ true
 
     -- the lowest row's test sees the order above it as its set
-    lowest-test :
+    lowest_test :
         {os rest : List Row} (r : Row) (below : List Row) →
         Possible os rest →
         test r os below ≡ test r rest below
-    lowest-test r below p = by-sets r _ _ below below p (possible-self below)
+    lowest_test r below p = by_sets r _ _ below below p (possible_self below)
 
     -- a row that passes under a set goes below an order of it
-    pub sound-lowest :
+    pub sound_lowest :
         {r : Row} {os rs rest : List Row} (below : List Row) →
         Taken r rs rest →
         test r rest below ≡ true →
         Sound os rest (r ∷ below) →
         Sound (os ++ (r ∷ [])) rs below
-    sound-lowest {r} {os} below t h s = record {
-      possible = with-lowest t s.possible;
-      passing = passes-lowest [] os r below
-          ∙ and_both (passesBetween [] os (r ∷ below)) (test r os below) s.passing
-          (lowest-test r below s.possible ∙ h);
+    sound_lowest {r} {os} below t h s = record {
+      possible = with_lowest t s.possible;
+      passing = passes_lowest [] os r below
+          ∙ and_both (passes_between [] os (r ∷ below)) (test r os below) s.passing
+          (lowest_test r below s.possible ∙ h);
     }
 
     -- and the other way round
-    pub lowest-sound :
+    pub lowest_sound :
         {os rs : List Row} (below : List Row) (l : Lowest os rs) →
-        passesBetween [] os below ≡ true →
-        (test l.lowest l.rest below ≡ true) × (passesBetween [] l.above (l.lowest ∷ below) ≡ true)
-    lowest-sound below l h =
+        passes_between [] os below ≡ true →
+        (test l.lowest l.rest below ≡ true) × (passes_between [] l.above (l.lowest ∷ below) ≡ true)
+    lowest_sound below l h =
         let r = l.lowest in
-        let a = passesBetween [] l.above (r ∷ below) in
+        let a = passes_between [] l.above (r ∷ below) in
         let b = test r l.above below in
         let both : (a && b) ≡ true =
-        sym (ap (λ (os : List Row). passesBetween [] os below) l.order_is ∙ passes-lowest [] l.above r below)
+        sym (ap (λ (os : List Row). passes_between [] os below) l.order_is ∙ passes_lowest [] l.above r below)
         ∙ h in
-        (sym (lowest-test r below l.possible) ∙ and_right a b both, and_left a b both)
+        (sym (lowest_test r below l.possible) ∙ and_right a b both, and_left a b both)
 
     pub sound :
         (n : ℕ) (rs below os : List Row) →
         length rs ≡ n →
-        O.orderFrom test n rs below ≡ some os →
+        O.order_from test n rs below ≡ some os →
         Sound os rs below
     sound zero [] below os e h =
         subst (λ (l : List Row). Sound l [] below) (same_some h) (record { possible = nothing; passing = refl })
     sound zero (x ∷ rs) below os e h = absurd (omega arith)
     sound (suc n) rs below os e h =
-        let p = picked_of (O.orderFrom test n) below [] rs os h in
-        let short : length p.rest ≡ n = omega (arith, taken-length p.taken) in
+        let p = picked_of (O.order_from test n) below [] rs os h in
+        let short : length p.rest ≡ n = omega (arith, taken_length p.taken) in
         let ih = sound n p.rest (p.lowest ∷ below) p.above short p.goes.above in
         subst (λ (l : List Row). Sound l rs below) (sym p.order_is)
-        (sound-lowest below p.taken p.goes.fits ih)
+        (sound_lowest below p.taken p.goes.fits ih)
 
     module _ (position : Row → ℕ) where
       pub record First (n : ℕ) (rs below ps : List Row) : Type 0 where
         pub order : List Row
-        pub found : O.orderFrom test n rs below ≡ some order
-        pub not_after : notAfter (positionsUp position order) (positionsUp position ps) ≡ true
+        pub found : O.order_from test n rs below ≡ some order
+        pub not_after_lem : not_after (positions_up position order) (positions_up position ps) ≡ true
 
       pub complete :
           (n : ℕ) (rs below ps : List Row) →
           length rs ≡ n →
           Rising position rs →
           Possible ps rs →
-          passesBetween [] ps below ≡ true →
+          passes_between [] ps below ≡ true →
           First n rs below ps
-      complete zero rs below ps e up p h = record { order = []; found = refl; not_after = refl }
+      complete zero rs below ps e up p h = record { order = []; found = refl; not_after_lem = refl }
       complete (suc n) rs below ps e up p h =
-          let l = lowest-of n ps rs e p in
+          let l = lowest_of_lem n ps rs e p in
           let r = l.lowest in
-          let both = lowest-sound below l h in
-          let short : length l.rest ≡ n = omega (arith, taken-length l.taken) in
-          let ih = complete n l.rest (r ∷ below) l.above short (rising-rest position l.taken up) l.possible
+          let both = lowest_sound below l h in
+          let short : length l.rest ≡ n = omega (arith, taken_length l.taken) in
+          let ih = complete n l.rest (r ∷ below) l.above short (rising_rest position l.taken up) l.possible
           both.1 in
-          let positions : positionsUp position ps ≡ position r ∷ positionsUp position l.above =
-          ap (positionsUp position) l.order_is ∙ positions-lowest position l.above r in
-          let goes : Goes (O.orderFrom test n) below r l.rest ih.order =
+          let positions : positions_up position ps ≡ position r ∷ positions_up position l.above =
+          ap (positions_up position) l.order_is ∙ positions_lowest position l.above r in
+          let goes : Goes (O.order_from test n) below r l.rest ih.order =
           record { fits = both.0; above = ih.found } in
           ⊎_elim
           (λ f. record {
             order = ih.order ++ (r ∷ []);
             found = f;
-            not_after = compare (positions-lowest position ih.order r) positions
-                (same_first (position r) (positionsUp position ih.order) (positionsUp position l.above)
-                ih.not_after);
+            not_after_lem = compare (positions_lowest position ih.order r) positions
+                (same_first (position r) (positions_up position ih.order) (positions_up position l.above)
+                ih.not_after_lem);
           })
           (λ f. record {
             order = f.above ++ (f.lowest ∷ []);
             found = f.found;
-            not_after = compare (positions-lowest position f.above f.lowest) positions
-                (earlier-first (position f.lowest) (position r) (positionsUp position f.above)
-                (positionsUp position l.above) f.earlier);
+            not_after_lem = compare (positions_lowest position f.above f.lowest) positions
+                (earlier_first (position f.lowest) (position r) (positions_up position f.above)
+                (positions_up position l.above) f.earlier);
           })
-          (picked_first (O.orderFrom test n) below position [] ih.order up l.taken goes)
+          (picked_first (O.order_from test n) below position [] ih.order up l.taken goes)

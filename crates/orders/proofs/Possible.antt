@@ -9,7 +9,7 @@ use lib.ListN.{length}
 use Rattle.basics.proofs.Tests.{and_both}
 use Rattle.rows.specs.Rows.{all_rows}
 use Rattle.rows.specs.Rows.{Row}
-use Rattle.rows.proofs.Limits.{head-passes, tail-passes}
+use Rattle.rows.proofs.Limits.{head_passes, tail_passes}
 use Rattle.orders.specs.Orders.{Taken, here, later, Possible, nothing, first}
 
 -- ---- rows of a set
@@ -29,29 +29,29 @@ swapped (later s) (later t) =
     let w = swapped s t in
     record { between = _; second = later w.second; first = later w.first }
 
-pub taken-length : {r : Row} {rs rest : List Row} → Taken r rs rest → length rs ≡ suc (length rest)
-taken-length here = refl
-taken-length (later t) = ap suc (taken-length t)
+pub taken_length : {r : Row} {rs rest : List Row} → Taken r rs rest → length rs ≡ suc (length rest)
+taken_length here = refl
+taken_length (later t) = ap suc (taken_length t)
 
 -- ---- possible orders
-pub possible-self : (rs : List Row) → Possible rs rs
-possible-self [] = nothing
-possible-self (r ∷ rs) = first here (possible-self rs)
+pub possible_self : (rs : List Row) → Possible rs rs
+possible_self [] = nothing
+possible_self (r ∷ rs) = first here (possible_self rs)
 
-pub possible-length : {os rs : List Row} → Possible os rs → length os ≡ length rs
-possible-length nothing = refl
-possible-length (first t p) = ap suc (possible-length p) ∙ sym (taken-length t)
+pub possible_length : {os rs : List Row} → Possible os rs → length os ≡ length rs
+possible_length nothing = refl
+possible_length (first t p) = ap suc (possible_length p) ∙ sym (taken_length t)
 
 -- a row below an order of the rest
-pub with-lowest :
+pub with_lowest :
     {r : Row} {os rs rest : List Row} →
     Taken r rs rest →
     Possible os rest →
     Possible (os ++ (r ∷ [])) rs
-with-lowest t nothing = first t nothing
-with-lowest t (first s p) =
+with_lowest t nothing = first t nothing
+with_lowest t (first s p) =
     let w = swapped t s in
-    first w.second (with-lowest w.first p)
+    first w.second (with_lowest w.first p)
 
 pub record Lowest (os rs : List Row) : Type 0 where
   pub above : List Row
@@ -61,11 +61,11 @@ pub record Lowest (os rs : List Row) : Type 0 where
   pub taken : Taken lowest rs rest
   pub possible : Possible above rest
 
-lowest-row : {x : Row} {os rs : List Row} → Possible (x ∷ os) rs → Lowest (x ∷ os) rs
-lowest-row {x} (first t nothing) =
+lowest_row : {x : Row} {os rs : List Row} → Possible (x ∷ os) rs → Lowest (x ∷ os) rs
+lowest_row {x} (first t nothing) =
     record { above = []; lowest = x; rest = []; order_is = refl; taken = t; possible = nothing }
-lowest-row {x} (first t (first s p)) =
-    let l = lowest-row (first s p) in
+lowest_row {x} (first t (first s p)) =
+    let l = lowest_row (first s p) in
     let w = swapped t l.taken in
     record {
       above = x ∷ l.above;
@@ -77,27 +77,27 @@ lowest-row {x} (first t (first s p)) =
     }
 
 -- an order has a lowest row, and is possible without it
-pub lowest-of : (n : ℕ) (os rs : List Row) → length rs ≡ suc n → Possible os rs → Lowest os rs
-lowest-of n [] rs e p = absurd (omega (arith, possible-length p))
-lowest-of n (x ∷ os) rs e p = lowest-row p
+pub lowest_of_lem : (n : ℕ) (os rs : List Row) → length rs ≡ suc n → Possible os rs → Lowest os rs
+lowest_of_lem n [] rs e p = absurd (omega (arith, possible_length p))
+lowest_of_lem n (x ∷ os) rs e p = lowest_row p
 
 -- what holds of every row of a set holds of every row of an order of it
-taken-passes :
+taken_passes :
     (f : Row → Bool) {r : Row} {rs rest : List Row} →
     Taken r rs rest →
     all_rows f rs ≡ true →
     (f r ≡ true) × (all_rows f rest ≡ true)
-taken-passes f {r} (here {rs = rs}) h = (head-passes f r rs h, tail-passes f r rs h)
-taken-passes f (later {x = x} {rs = rs} {rest = rest} t) h =
-    let ih = taken-passes f t (tail-passes f x rs h) in
-    (ih.0, and_both (f x) (all_rows f rest) (head-passes f x rs h) ih.1)
+taken_passes f {r} (here {rs = rs}) h = (head_passes f r rs h, tail_passes f r rs h)
+taken_passes f (later {x = x} {rs = rs} {rest = rest} t) h =
+    let ih = taken_passes f t (tail_passes f x rs h) in
+    (ih.0, and_both (f x) (all_rows f rest) (head_passes f x rs h) ih.1)
 
-pub possible-passes :
+pub possible_passes :
     (f : Row → Bool) {os rs : List Row} →
     Possible os rs →
     all_rows f rs ≡ true →
     all_rows f os ≡ true
-possible-passes f nothing h = refl
-possible-passes f (first {r = r} {os = os} t p) h =
-    let k = taken-passes f t h in
-    and_both (f r) (all_rows f os) k.0 (possible-passes f p k.1)
+possible_passes f nothing h = refl
+possible_passes f (first {r = r} {os = os} t p) h =
+    let k = taken_passes f t h in
+    and_both (f r) (all_rows f os) k.0 (possible_passes f p k.1)

@@ -9,78 +9,78 @@ use native.Mathlib.Omega.{arith}
 use borrow.Author.Tests.{eq-eqb, ne_eqb, eqb-true, not-true}
 use lib.Dec.{eqb}
 use lib.ListN.{length}
-use Rattle.basics.specs.Basics.{isIn, distinct}
+use Rattle.basics.specs.Basics.{is_in, distinct}
 use Rattle.basics.proofs.Tests.{and_left, and_right, and_both, or_right}
-use Rattle.rows.specs.Rows.{tasksOf, hasTask, distinctRows, rowFor, rowsFor, allTasks, isPossible}
+use Rattle.rows.specs.Rows.{tasks_of, has_task, distinct_rows, row_for, rows_for, all_tasks, is_possible}
 use Rattle.rows.specs.Rows.{Row}
 use Rattle.orders.specs.Orders.{Taken, here, later, Possible, nothing, first}
-use Rattle.orders.proofs.Possible.{swapped, taken-length}
-use Rattle.orders.proofs.Rule.{other-task}
+use Rattle.orders.proofs.Possible.{swapped, taken_length}
+use Rattle.orders.proofs.Rule.{other_task}
 
 -- ---- the row of a task
-abbrev for-if : Bool → Row → Row → Row
-for-if b r x = elim b [ true ↦ r | false ↦ x ]
+abbrev for_if : Bool → Row → Row → Row
+for_if b r x = elim b [ true ↦ r | false ↦ x ]
 
-for-here : (t : ℕ) (r : Row) (rs : List Row) → t ≡ r.task → rowFor t (r ∷ rs) ≡ r
-for-here t r rs e = ap (λ (b : Bool). for-if b r (rowFor t rs)) (eq-eqb t r.task e)
+for_here : (t : ℕ) (r : Row) (rs : List Row) → t ≡ r.task → row_for t (r ∷ rs) ≡ r
+for_here t r rs e = ap (λ (b : Bool). for_if b r (row_for t rs)) (eq-eqb t r.task e)
 
-for-later : (t : ℕ) (r : Row) (rs : List Row) → (t ≡ r.task → ⊥) → rowFor t (r ∷ rs) ≡ rowFor t rs
-for-later t r rs n = ap (λ (b : Bool). for-if b r (rowFor t rs)) (ne_eqb t r.task n)
+for_later : (t : ℕ) (r : Row) (rs : List Row) → (t ≡ r.task → ⊥) → row_for t (r ∷ rs) ≡ row_for t rs
+for_later t r rs n = ap (λ (b : Bool). for_if b r (row_for t rs)) (ne_eqb t r.task n)
 
-has-later : (t : ℕ) (r : Row) (rs : List Row) → (t ≡ r.task → ⊥) → hasTask t (r ∷ rs) ≡ hasTask t rs
-has-later t r rs n = ap (λ (b : Bool). b || hasTask t rs) (ne_eqb t r.task n)
+has_later : (t : ℕ) (r : Row) (rs : List Row) → (t ≡ r.task → ⊥) → has_task t (r ∷ rs) ≡ has_task t rs
+has_later t r rs n = ap (λ (b : Bool). b || has_task t rs) (ne_eqb t r.task n)
 
-row-for : {r : Row} {rs rest : List Row} → distinctRows rs ≡ true → Taken r rs rest → rowFor r.task rs ≡ r
-row-for {r} d (here {rs = rs}) = for-here r.task r rs refl
-row-for {r} d (later {x = x} {rs = rs} t) =
-    for-later r.task x rs (other-task x d t)
-    ∙ row-for (and_right (not (hasTask x.task rs)) (distinctRows rs) d) t
+row_for_lem : {r : Row} {rs rest : List Row} → distinct_rows rs ≡ true → Taken r rs rest → row_for r.task rs ≡ r
+row_for_lem {r} d (here {rs = rs}) = for_here r.task r rs refl
+row_for_lem {r} d (later {x = x} {rs = rs} t) =
+    for_later r.task x rs (other_task x d t)
+    ∙ row_for_lem (and_right (not (has_task x.task rs)) (distinct_rows rs) d) t
 
-rows-found :
+rows_found :
     {os rs : List Row} (table : List Row) →
-    ((r : Row) (rest : List Row) → Taken r rs rest → rowFor r.task table ≡ r) →
+    ((r : Row) (rest : List Row) → Taken r rs rest → row_for r.task table ≡ r) →
     Possible os rs →
-    rowsFor (tasksOf os) table ≡ os
-rows-found table h nothing = refl
-rows-found table h (first {r = r} {rest = rest} t p) =
+    rows_for (tasks_of os) table ≡ os
+rows_found table h nothing = refl
+rows_found table h (first {r = r} {rest = rest} t p) =
     ap₂ (λ (x : Row) (l : List Row). x ∷ l) (h r rest t)
-    (rows-found table (λ x more s. h x (swapped t s).between (swapped t s).second) p)
+    (rows_found table (λ x more s. h x (swapped t s).between (swapped t s).second) p)
 
 -- the rows of an order's tasks are the order's rows
-pub rows-for : {os table : List Row} → distinctRows table ≡ true → Possible os table → rowsFor (tasksOf os) table ≡ os
-rows-for {table = table} d p = rows-found table (λ r rest t. row-for d t) p
+pub rows_for_lem : {os table : List Row} → distinct_rows table ≡ true → Possible os table → rows_for (tasks_of os) table ≡ os
+rows_for_lem {table = table} d p = rows_found table (λ r rest t. row_for_lem d t) p
 
 -- ---- a list of task numbers
 record Once (ts : List ℕ) (rs : List Row) : Type 0 where
   as_many : length ts ≡ length rs
-  distinct-tasks : distinct ts ≡ true
-  there : (x : ℕ) → isIn x ts ≡ true → hasTask x rs ≡ true
+  distinct_tasks : distinct ts ≡ true
+  there : (x : ℕ) → is_in x ts ≡ true → has_task x rs ≡ true
 
 record Found (t : ℕ) (rs : List Row) : Type 0 where
   rest : List Row
-  taken : Taken (rowFor t rs) rs rest
-  task-is : (rowFor t rs).task ≡ t
+  taken : Taken (row_for t rs) rs rest
+  task_is : (row_for t rs).task ≡ t
 
-found_of : (t : ℕ) (rs : List Row) → hasTask t rs ≡ true → Found t rs
+found_of : (t : ℕ) (rs : List Row) → has_task t rs ≡ true → Found t rs
 found_of t [] h = absurd (false≢true h)
 found_of t (r ∷ rs) h =
     let ih = found_of t rs in
     elim (ℕ_discrete t r.task) [
       | yes e ↦ (
-          let is = for-here t r rs e in
+          let is = for_here t r rs e in
           record {
             rest = rs;
             taken = subst (λ (x : Row). Taken x (r ∷ rs) rs) (sym is) here;
-            task-is =
+            task_is =
                 ap (λ (x : Row). x.task) is ∙ sym e;
           })
       | no n ↦ (
-          let f = ih (sym (has-later t r rs n) ∙ h) in
-          let is = for-later t r rs n in
+          let f = ih (sym (has_later t r rs n) ∙ h) in
+          let is = for_later t r rs n in
           record {
             rest = r ∷ f.rest;
             taken = subst (λ (x : Row). Taken x (r ∷ rs) (r ∷ f.rest)) (sym is) (later f.taken);
-            task-is = ap (λ (x : Row). x.task) is ∙ f.task-is;
+            task_is = ap (λ (x : Row). x.task) is ∙ f.task_is;
           })
     ]
 
@@ -89,86 +89,86 @@ stays :
     {r : Row} {rs rest : List Row} (t : ℕ) →
     (t ≡ r.task → ⊥) →
     Taken r rs rest →
-    (hasTask t rs ≡ hasTask t rest) × (rowFor t rs ≡ rowFor t rest)
-stays {r} t n (here {rs = rs}) = (has-later t r rs n, for-later t r rs n)
+    (has_task t rs ≡ has_task t rest) × (row_for t rs ≡ row_for t rest)
+stays {r} t n (here {rs = rs}) = (has_later t r rs n, for_later t r rs n)
 stays {r} t n (later {x = x} {rs = rs} {rest = rest} s) =
     let ih = stays t n s in
-    (ap (λ (b : Bool). eqb t x.task || b) ih.0, ap (λ (y : Row). for-if (eqb t x.task) x y) ih.1)
+    (ap (λ (b : Bool). eqb t x.task || b) ih.0, ap (λ (y : Row). for_if (eqb t x.task) x y) ih.1)
 
-in-later : (x y : ℕ) (ts : List ℕ) → isIn x ts ≡ true → isIn x (y ∷ ts) ≡ true
-in-later x y ts h = ap (λ (b : Bool). eqb x y || b) h ∙ or-true (eqb x y)
+in_later : (x y : ℕ) (ts : List ℕ) → is_in x ts ≡ true → is_in x (y ∷ ts) ≡ true
+in_later x y ts h = ap (λ (b : Bool). eqb x y || b) h ∙ or-true (eqb x y)
 
 rows_stay :
     {r : Row} {rs rest : List Row} (ts : List ℕ) →
-    ((x : ℕ) → isIn x ts ≡ true → x ≡ r.task → ⊥) →
+    ((x : ℕ) → is_in x ts ≡ true → x ≡ r.task → ⊥) →
     Taken r rs rest →
-    rowsFor ts rs ≡ rowsFor ts rest
+    rows_for ts rs ≡ rows_for ts rest
 rows_stay [] n t = refl
 rows_stay (x ∷ ts) n t =
-    let in-here : isIn x (x ∷ ts) ≡ true = ap (λ (b : Bool). b || isIn x ts) (eq-eqb x x refl) in
-    ap₂ (λ (r : Row) (l : List Row). r ∷ l) (stays x (n x in-here) t).1
-    (rows_stay ts (λ y h. n y (in-later y x ts h)) t)
+    let in_here : is_in x (x ∷ ts) ≡ true = ap (λ (b : Bool). b || is_in x ts) (eq-eqb x x refl) in
+    ap₂ (λ (r : Row) (l : List Row). r ∷ l) (stays x (n x in_here) t).1
+    (rows_stay ts (λ y h. n y (in_later y x ts h)) t)
 
-once-possible :
+once_possible :
     (ts : List ℕ) (rs : List Row) →
     Once ts rs →
-    Possible (rowsFor ts rs) rs × (tasksOf (rowsFor ts rs) ≡ ts)
-once-possible [] [] o = (nothing, refl)
-once-possible [] (r ∷ rs) o = absurd (omega (arith, o.as_many))
-once-possible (t ∷ ts) rs o =
-    let in-here : isIn t (t ∷ ts) ≡ true = ap (λ (b : Bool). b || isIn t ts) (eq-eqb t t refl) in
-    let f = found_of t rs (o.there t in-here) in
-    let fresh = not-true (isIn t ts) (and_left (not (isIn t ts)) (distinct ts) o.distinct-tasks) in
-    let other : (x : ℕ) → isIn x ts ≡ true → x ≡ (rowFor t rs).task → ⊥ =
-    λ x h e. true≢false (sym h ∙ ap (λ (k : ℕ). isIn k ts) (e ∙ f.task-is) ∙ fresh) in
-    let ih = once-possible ts f.rest (record {
-      as_many = omega (arith, o.as_many, taken-length f.taken);
-      distinct-tasks = and_right (not (isIn t ts)) (distinct ts) o.distinct-tasks;
-      there = λ x h. sym (stays x (other x h) f.taken).0 ∙ o.there x (in-later x t ts h);
+    Possible (rows_for ts rs) rs × (tasks_of (rows_for ts rs) ≡ ts)
+once_possible [] [] o = (nothing, refl)
+once_possible [] (r ∷ rs) o = absurd (omega (arith, o.as_many))
+once_possible (t ∷ ts) rs o =
+    let in_here : is_in t (t ∷ ts) ≡ true = ap (λ (b : Bool). b || is_in t ts) (eq-eqb t t refl) in
+    let f = found_of t rs (o.there t in_here) in
+    let fresh = not-true (is_in t ts) (and_left (not (is_in t ts)) (distinct ts) o.distinct_tasks) in
+    let other : (x : ℕ) → is_in x ts ≡ true → x ≡ (row_for t rs).task → ⊥ =
+    λ x h e. true≢false (sym h ∙ ap (λ (k : ℕ). is_in k ts) (e ∙ f.task_is) ∙ fresh) in
+    let ih = once_possible ts f.rest (record {
+      as_many = omega (arith, o.as_many, taken_length f.taken);
+      distinct_tasks = and_right (not (is_in t ts)) (distinct ts) o.distinct_tasks;
+      there = λ x h. sym (stays x (other x h) f.taken).0 ∙ o.there x (in_later x t ts h);
     }) in
     let same = rows_stay ts other f.taken in (
       first f.taken (subst (λ (l : List Row). Possible l f.rest) (sym same) ih.0),
-      ap₂ (λ (x : ℕ) (l : List ℕ). x ∷ l) f.task-is (ap tasksOf same ∙ ih.1),
+      ap₂ (λ (x : ℕ) (l : List ℕ). x ∷ l) f.task_is (ap tasks_of same ∙ ih.1),
     )
 
-all_there : (ts : List ℕ) (rs : List Row) → allTasks ts rs ≡ true → (x : ℕ) → isIn x ts ≡ true → hasTask x rs ≡ true
+all_there : (ts : List ℕ) (rs : List Row) → all_tasks ts rs ≡ true → (x : ℕ) → is_in x ts ≡ true → has_task x rs ≡ true
 all_there [] rs a x h = absurd (false≢true h)
 all_there (y ∷ ts) rs a x h =
-    let ih = all_there ts rs (and_right (hasTask y rs) (allTasks ts rs) a) x in
+    let ih = all_there ts rs (and_right (has_task y rs) (all_tasks ts rs) a) x in
     elim (ℕ_discrete x y) [
-      | yes e ↦ ap (λ (k : ℕ). hasTask k rs) e ∙ and_left (hasTask y rs) (allTasks ts rs) a
-      | no n ↦ ih (sym (ap (λ (b : Bool). b || isIn x ts) (ne_eqb x y n)) ∙ h)
+      | yes e ↦ ap (λ (k : ℕ). has_task k rs) e ∙ and_left (has_task y rs) (all_tasks ts rs) a
+      | no n ↦ ih (sym (ap (λ (b : Bool). b || is_in x ts) (ne_eqb x y n)) ∙ h)
     ]
 
 -- each task once and nothing else
-pub possible-tasks :
+pub possible_tasks :
     (ts : List ℕ) (table : List Row) →
-    isPossible ts table ≡ true →
-    Possible (rowsFor ts table) table × (tasksOf (rowsFor ts table) ≡ ts)
-possible-tasks ts table h =
+    is_possible ts table ≡ true →
+    Possible (rows_for ts table) table × (tasks_of (rows_for ts table) ≡ ts)
+possible_tasks ts table h =
     let a = eqb (length ts) (length table) in
-    let q = and_left (a && distinct ts) (allTasks ts table) h in
-    once-possible ts table (record {
+    let q = and_left (a && distinct ts) (all_tasks ts table) h in
+    once_possible ts table (record {
       as_many = eqb-true (length ts) (length table) (and_left a (distinct ts) q);
-      distinct-tasks = and_right a (distinct ts) q;
-      there = all_there ts table (and_right (a && distinct ts) (allTasks ts table) h);
+      distinct_tasks = and_right a (distinct ts) q;
+      there = all_there ts table (and_right (a && distinct ts) (all_tasks ts table) h);
     })
 
 -- ---- each task of a possible order is one of the table's
-taken-has : {r : Row} {rs rest : List Row} → Taken r rs rest → hasTask r.task rs ≡ true
-taken-has {r} (here {rs = rs}) = ap (λ (b : Bool). b || hasTask r.task rs) (eq-eqb r.task r.task refl)
-taken-has {r} (later {x = x} {rs = rs} t) =
-    or_right (eqb r.task x.task) (hasTask r.task rs) (taken-has t)
+taken_has : {r : Row} {rs rest : List Row} → Taken r rs rest → has_task r.task rs ≡ true
+taken_has {r} (here {rs = rs}) = ap (λ (b : Bool). b || has_task r.task rs) (eq-eqb r.task r.task refl)
+taken_has {r} (later {x = x} {rs = rs} t) =
+    or_right (eqb r.task x.task) (has_task r.task rs) (taken_has t)
 
 all_have :
     {os rs : List Row} (table : List Row) →
-    ((r : Row) (rest : List Row) → Taken r rs rest → hasTask r.task table ≡ true) →
+    ((r : Row) (rest : List Row) → Taken r rs rest → has_task r.task table ≡ true) →
     Possible os rs →
-    allTasks (tasksOf os) table ≡ true
+    all_tasks (tasks_of os) table ≡ true
 all_have table h nothing = refl
 all_have table h (first {r = r} {os = os} {rest = rest} t p) =
-    and_both (hasTask r.task table) (allTasks (tasksOf os) table) (h r rest t)
+    and_both (has_task r.task table) (all_tasks (tasks_of os) table) (h r rest t)
     (all_have table (λ x more s. h x (swapped t s).between (swapped t s).second) p)
 
-pub possible-all : {os table : List Row} → Possible os table → allTasks (tasksOf os) table ≡ true
-possible-all {table = table} p = all_have table (λ r rest t. taken-has t) p
+pub possible_all : {os table : List Row} → Possible os table → all_tasks (tasks_of os) table ≡ true
+possible_all {table = table} p = all_have table (λ r rest t. taken_has t) p

@@ -2,16 +2,16 @@
 use Rattle.std.specs.Prelude.{Bool, List}
 use Rattle.std.proofs.Math.Option.{Option}
 use Rattle.rows.specs.Rows.{Row}
-use Rattle.responses.specs.Figures.{isStable}
+use Rattle.responses.specs.Figures.{is_stable}
 use Rattle.orders.specs.Orders.{passes, order_of}
 
 abbrev pub stable : Row → List Row → List Row → Bool
-stable r above below = isStable r above below
+stable r above below = is_stable r above below
 
 -- every row of an order is stable where it stands
-abbrev pub orderStable : List Row → Bool
-orderStable = passes stable
+abbrev pub order_stable : List Row → Bool
+order_stable = passes stable
 
 -- the order that a plan has
-abbrev pub chosenOrder : List Row → Option (List Row)
-chosenOrder = order_of stable
+abbrev pub chosen_order : List Row → Option (List Row)
+chosen_order = order_of stable

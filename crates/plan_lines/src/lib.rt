@@ -2,15 +2,15 @@
 ghost use Rattle.std.specs.Prelude.{◌+◌, ◌≤◌, length};
 ghost use Rattle.text.specs.Buffers.{Wrote};
 ghost use Rattle.text.specs.inside.Puts.{Put};
-ghost use Rattle.plans.specs.Plans.{rankText, headText, refusalText};
+ghost use Rattle.plans.specs.Plans.{rank_text, head_text, refusal_text};
 
 use plans::Entry;
 use text::{put_line, put_signed_line};
 
 // The lines of a rank.
 pub fn put_rank(out: &mut [u8], at: usize, rank: u64, e: Entry) -> usize
-    requires { at + length (rankText rank e) ≤ length out.old }
-    ensures { Put (rankText rank e) at out.old out.new result }
+    requires { at + length (rank_text rank e) ≤ length out.old }
+    ensures { Put (rank_text rank e) at out.old out.new result }
 {
     let at = put_line(out, at, b"rank=", rank);
     let at = put_line(out, at, b"task=", e.task as u64);
@@ -22,8 +22,8 @@ pub fn put_rank(out: &mut [u8], at: usize, rank: u64, e: Entry) -> usize
 
 // The lines before the ranks.
 pub fn put_head(out: &mut [u8], board: u16, count: usize) -> usize
-    requires { length (headText board count) ≤ length out.old }
-    ensures { Put (headText board count) 0 out.old out.new result }
+    requires { length (head_text board count) ≤ length out.old }
+    ensures { Put (head_text board count) 0 out.old out.new result }
 {
     let at = put_line(out, 0, b"plan=", 1);
     let at = put_line(out, at, b"board=", board as u64);
@@ -32,8 +32,8 @@ pub fn put_head(out: &mut [u8], board: u16, count: usize) -> usize
 
 // The three lines of a refusal.
 pub fn put_refusal(out: &mut [u8], number: u8, place: u32) -> usize
-    requires { length (refusalText number place) ≤ length out.old }
-    ensures { Wrote (refusalText number place) out.old out.new result }
+    requires { length (refusal_text number place) ≤ length out.old }
+    ensures { Wrote (refusal_text number place) out.old out.new result }
 {
     let at = put_line(out, 0, b"plan=", 0);
     let at = put_line(out, at, b"refusal=", number as u64);

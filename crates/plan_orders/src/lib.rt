@@ -1,14 +1,14 @@
 // An order's plan: the figures of each rank are found and written in one pass. And what a program prints of an answer.
 ghost use Rattle.std.specs.Prelude.{◌≡◌, ◌+◌, ◌*◌, ◌≤◌, length, take, replicate};
 ghost use Rattle.text.specs.Buffers.{Wrote};
-ghost use Rattle.rows.specs.Rows.{maxTasks};
-ghost use Rattle.rows.specs.inside.Numbers.{rowsIn};
+ghost use Rattle.rows.specs.Rows.{max_tasks};
+ghost use Rattle.rows.specs.inside.Numbers.{rows_in};
 ghost use Rattle.analysis.specs.inside.Columns.{Filled};
-ghost use Rattle.plans.specs.Entries.{firstLate};
-ghost use Rattle.plans.specs.Plans.{rankRoom, room_for, planRoom, mostRanks};
-ghost use Rattle.plans.specs.Outcomes.{ifInTime, Written};
-ghost use Rattle.plans.specs.inside.Prints.{toPrint};
-ghost use Rattle.plan_orders.specs.inside.Ranks.{Ordered, PutsRanks, PutsPlan, givenPlan};
+ghost use Rattle.plans.specs.Entries.{first_late};
+ghost use Rattle.plans.specs.Plans.{rank_room, room_for, plan_room, most_ranks};
+ghost use Rattle.plans.specs.Outcomes.{if_in_time, Written};
+ghost use Rattle.plans.specs.inside.Prints.{to_print};
+ghost use Rattle.plan_orders.specs.inside.Ranks.{Ordered, PutsRanks, PutsPlan, given_plan};
 
 use analysis::{blocking_below, blocking_from, figures_under, fill_columns};
 use plan_lines::{put_head, put_rank, put_refusal};
@@ -31,7 +31,7 @@ const SMALL_ORDER: usize = 8;
 const SMALL_ROOM: usize = HEAD_ROOM + SMALL_ORDER * RANK_ROOM;
 
 pub fn buffer() -> [u8; ROOM]
-    ensures { result ≡ replicate planRoom 0 }
+    ensures { result ≡ replicate plan_room 0 }
 {
     [0; ROOM]
 }
@@ -53,9 +53,9 @@ fn put_ranks(
     columns: &[u64],
 ) -> RanksPut
     requires ordered { Ordered rows.now positions.now n }
-    requires filled { Filled (rowsIn rows.now (take n positions.now)) n n columns.now }
-    requires rank_room_in_bounds { at + n * rankRoom ≤ length out.old }
-    ensures { PutsRanks (rowsIn rows.now (take n positions.now)) at
+    requires filled { Filled (rows_in rows.now (take n positions.now)) n n columns.now }
+    requires rank_room_in_bounds { at + n * rank_room ≤ length out.old }
+    ensures { PutsRanks (rows_in rows.now (take n positions.now)) at
         out.old out.new result }
 {
     let mut end = at;
@@ -95,7 +95,7 @@ fn put_plan(
 ) -> RanksPut
     requires ordered { Ordered rows.now positions.now n }
     requires n_in_bounds { (room_for n ≤ length text.old) × (3 * n ≤ length columns.old) }
-    ensures { PutsPlan board (rowsIn rows.now (take n positions.now))
+    ensures { PutsPlan board (rows_in rows.now (take n positions.now))
         text.old text.new result }
 {
     fill_columns(rows, positions, n, columns);
@@ -106,8 +106,8 @@ fn put_plan(
 // The first late rank of an order, counted from 1; 0 for none. Its plan is found as far as that rank, and is not
 // wanted.
 pub fn late_rank(rows: &[u64], positions: &[usize], n: usize) -> u32
-    requires { (n ≤ maxTasks) × Ordered rows.now positions.now n }
-    ensures { result ≡ firstLate (rowsIn rows.now (take n positions.now)) }
+    requires { (n ≤ max_tasks) × Ordered rows.now positions.now n }
+    ensures { result ≡ first_late (rows_in rows.now (take n positions.now)) }
 {
     let mut text = [0; ROOM];
     let mut columns = [0u64; 3 * MAX_TASKS];
@@ -117,8 +117,8 @@ pub fn late_rank(rows: &[u64], positions: &[usize], n: usize) -> u32
 
 // The outcome of a plan that stands in a text: refusal 7 where a rank is late, 9 where out is shorter.
 fn plan_from(out: &mut [u8], text: &[u8], put: RanksPut) -> Answer
-    requires { put.late ≡ 0 → (put.end ≤ length text.now) × (put.end ≤ room_for mostRanks) }
-    ensures { Written (givenPlan (length out.old) put text.now)
+    requires { put.late ≡ 0 → (put.end ≤ length text.now) × (put.end ≤ room_for most_ranks) }
+    ensures { Written (given_plan (length out.old) put text.now)
         out.old out.new result }
 {
     let late = put.late;
@@ -151,8 +151,8 @@ pub fn plan_in(
 ) -> Answer
     requires ordered { Ordered rows.now positions.now n }
     requires n_in_bounds { (room_for n ≤ length text.old) × (3 * n ≤ length columns.old) }
-    ensures { Written (ifInTime (length out.old) board
-        (rowsIn rows.now (take n positions.now))) out.old out.new result }
+    ensures { Written (if_in_time (length out.old) board
+        (rows_in rows.now (take n positions.now))) out.old out.new result }
 {
     let put = put_plan(text, columns, board, rows, positions, n);
     plan_from(out, text, put)
@@ -160,9 +160,9 @@ pub fn plan_in(
 
 // The same with room of its own for the most rows that a table has.
 pub fn plan_order(out: &mut [u8], board: u16, rows: &[u64], positions: &[usize], n: usize) -> Answer
-    requires { (n ≤ maxTasks) × Ordered rows.now positions.now n }
-    ensures { Written (ifInTime (length out.old) board
-        (rowsIn rows.now (take n positions.now))) out.old out.new result }
+    requires { (n ≤ max_tasks) × Ordered rows.now positions.now n }
+    ensures { Written (if_in_time (length out.old) board
+        (rows_in rows.now (take n positions.now))) out.old out.new result }
 {
     if n <= SMALL_ORDER {
         let mut small = [0; SMALL_ROOM];
@@ -183,7 +183,7 @@ fn held(out: &[u8], long: usize) -> usize
 
 // What a program prints of an answer: the plan that stands in the buffer, or the refusal's lines.
 pub fn printed(answer: Answer, out: &mut [u8; ROOM]) -> usize
-    ensures { Wrote (toPrint answer out.old) out.old out.new result }
+    ensures { Wrote (to_print answer out.old) out.old out.new result }
 {
     if answer.number != 0 {
         return put_refusal(out, answer.number, answer.place);

@@ -10,10 +10,10 @@ use borrow.Author.Tests.{le-leb, lt-leb}
 use Rattle.text.specs.Buffers.{Wrote}
 use Rattle.rows.specs.Rows.{Row}
 use Rattle.plans.specs.declared.Answer.{Answer}
-use Rattle.plans.specs.Entries.{firstLate}
-use Rattle.plans.specs.Plans.{refusalText}
-use Rattle.plans.specs.Outcomes.{Outcome, writes, refuses, fitted, plan_of, ifInTime, result, Written, printed}
-use Rattle.plans.specs.inside.Prints.{toPrint}
+use Rattle.plans.specs.Entries.{first_late}
+use Rattle.plans.specs.Plans.{refusal_text}
+use Rattle.plans.specs.Outcomes.{Outcome, writes, refuses, fitted, plan_of, if_in_time, result, Written, printed}
+use Rattle.plans.specs.inside.Prints.{to_print}
 
 pub fits : (room : ℕ) (t : List ℕ) → length t ≤ room → fitted room t ≡ writes t
 unfolding fitted
@@ -24,16 +24,16 @@ unfolding fitted
 fits_not room t h = rw (lt-leb (length t) room h, fitted)
 
 -- ---- by the first late rank
-pub late-outcome : (room board : ℕ) (order : List Row) (k : ℕ) → firstLate order ≡ k → (k ≡ 0 → ⊥)
-    → ifInTime room board order ≡ refuses 7 k
-unfolding ifInTime
-late-outcome room board order zero e h = absurd (h (omega arith))
-late-outcome room board order (suc k) e h = rw (e, ifInTime)
+pub late_outcome : (room board : ℕ) (order : List Row) (k : ℕ) → first_late order ≡ k → (k ≡ 0 → ⊥)
+    → if_in_time room board order ≡ refuses 7 k
+unfolding if_in_time
+late_outcome room board order zero e h = absurd (h (omega arith))
+late_outcome room board order (suc k) e h = rw (e, if_in_time)
 
-pub timely-outcome : (room board : ℕ) (order : List Row) → firstLate order ≡ 0
-    → ifInTime room board order ≡ plan_of room board order
-unfolding ifInTime
-timely-outcome room board order e = rw (e, ifInTime)
+pub timely_outcome : (room board : ℕ) (order : List Row) → first_late order ≡ 0
+    → if_in_time room board order ≡ plan_of room board order
+unfolding if_in_time
+timely_outcome room board order e = rw (e, if_in_time)
 
 -- a refusal leaves the buffer as it was
 pub refused : {w : Outcome} {o : List ℕ} {r : Answer} {number place : ℕ} → w ≡ refuses number place
@@ -41,56 +41,56 @@ pub refused : {w : Outcome} {o : List ℕ} {r : Answer} {number place : ℕ} →
 refused e is = rw e record { returns = is; holds = refl }
 
 -- ---- what is printed
-written-text : {t o o' : List ℕ} {r : Answer} → Written (writes t) o o' r → Wrote t o o' r.long
-written-text w = record { long-is = ap (λ p. p.long) w.returns; holds = w.holds }
+written_text : {t o o' : List ℕ} {r : Answer} → Written (writes t) o o' r → Wrote t o o' r.long
+written_text w = record { long_is = ap (λ p. p.long) w.returns; holds = w.holds }
 
 -- of any answer and buffer: the lines of a refusal, or as much of the buffer as the answer says
-pub print-refused : (r : Answer) (o : List ℕ) → (r.number ≡ 0 → ⊥) → toPrint r o ≡ refusalText r.number r.place
-print-refused r o h = by_number r.number h
+pub print_refused : (r : Answer) (o : List ℕ) → (r.number ≡ 0 → ⊥) → to_print r o ≡ refusal_text r.number r.place
+print_refused r o h = by_number r.number h
   where
     by_number : (n : ℕ) → (n ≡ 0 → ⊥)
-        → elim n [ zero ↦ take r.long o | suc m ↦ refusalText (suc m) r.place ] ≡ refusalText n r.place
+        → elim n [ zero ↦ take r.long o | suc m ↦ refusal_text (suc m) r.place ] ≡ refusal_text n r.place
     by_number zero h = absurd (h refl)
     by_number (suc m) h = refl
 
-front-over : (n : ℕ) (o : List ℕ) → o ≡ take n o ++ drop (length (take n o)) o
-front-over zero o = refl
-front-over (suc n) [] = refl
-front-over (suc n) (b ∷ o) = ap (λ l. b ∷ l) (front-over n o)
+front_over : (n : ℕ) (o : List ℕ) → o ≡ take n o ++ drop (length (take n o)) o
+front_over zero o = refl
+front_over (suc n) [] = refl
+front_over (suc n) (b ∷ o) = ap (λ l. b ∷ l) (front_over n o)
 
-pub print-front : (r : Answer) (o : List ℕ) (long : ℕ) → r.number ≡ 0 → long ≡ length (take r.long o)
-    → Wrote (toPrint r o) o o long
-print-front r o long e h =
-    let is : take r.long o ≡ toPrint r o = sym (rw e) in
-    subst (λ t. Wrote t o o long) is (record { long-is = h; holds = front-over r.long o })
+pub print_front : (r : Answer) (o : List ℕ) (long : ℕ) → r.number ≡ 0 → long ≡ length (take r.long o)
+    → Wrote (to_print r o) o o long
+print_front r o long e h =
+    let is : take r.long o ≡ to_print r o = sym (rw e) in
+    subst (λ t. Wrote t o o long) is (record { long_is = h; holds = front_over r.long o })
 
 -- a refusal's number is never 0
 abbrev pub Numbered : Outcome → Type 0
 Numbered w = (place : ℕ) → w ≡ refuses 0 place → ⊥
 
 -- the text to print is the outcome's
-to-print : (w : Outcome) {o o' : List ℕ} {r : Answer} → Numbered w → Written w o o' r → toPrint r o' ≡ printed w
-to-print (writes t) {o = o} n w =
-    ap₂ toPrint w.returns w.holds ∙ take-append_seam t (drop (length t) o)
-to-print (refuses zero p) n w = absurd (n p refl)
-to-print (refuses (suc m) p) {o' = o'} n w = ap (λ q. toPrint q o') w.returns
+to_print_lem : (w : Outcome) {o o' : List ℕ} {r : Answer} → Numbered w → Written w o o' r → to_print r o' ≡ printed w
+to_print_lem (writes t) {o = o} n w =
+    ap₂ to_print w.returns w.holds ∙ take-append_seam t (drop (length t) o)
+to_print_lem (refuses zero p) n w = absurd (n p refl)
+to_print_lem (refuses (suc m) p) {o' = o'} n w = ap (λ q. to_print q o') w.returns
 
 -- put over a buffer in which it, or nothing, was put, it is put over the buffer that was lent
-over-again : (w : Outcome) {o o' : List ℕ} {r : Answer} → Written w o o' r
+over_again : (w : Outcome) {o o' : List ℕ} {r : Answer} → Written w o o' r
     → printed w ++ drop (length (printed w)) o' ≡ printed w ++ drop (length (printed w)) o
-over-again (writes t) {o = o} w =
+over_again (writes t) {o = o} w =
     ap (λ l. t ++ l) (ap (drop (length t)) w.holds ∙ drop-append_seam t (drop (length t) o))
-over-again (refuses m p) w = ap (λ l. refusalText m p ++ drop (length (refusalText m p)) l) w.holds
+over_again (refuses m p) w = ap (λ l. refusal_text m p ++ drop (length (refusal_text m p)) l) w.holds
 
 pub prints : (w : Outcome) {o o' o'' : List ℕ} {r : Answer} {long : ℕ} → Numbered w → Written w o o' r
-    → Wrote (toPrint r o') o' o'' long → Wrote (printed w) o o'' long
+    → Wrote (to_print r o') o' o'' long → Wrote (printed w) o o'' long
 prints w {o' = o'} {o'' = o''} {long = long} n p q =
-    let s = subst (λ t. Wrote t o' o'' long) (to-print w n p) q in
-    record { long-is = s.long-is; holds = s.holds ∙ over-again w p }
+    let s = subst (λ t. Wrote t o' o'' long) (to_print_lem w n p) q in
+    record { long_is = s.long_is; holds = s.holds ∙ over_again w p }
 
 -- a call whose answer has no number has written what its program prints
-pub written-prints : (w : Outcome) {o o' : List ℕ} {r : Answer} → Numbered w → Written w o o' r → r.number ≡ 0
+pub written_prints : (w : Outcome) {o o' : List ℕ} {r : Answer} → Numbered w → Written w o o' r → r.number ≡ 0
     → Wrote (printed w) o o' r.long
-written-prints (writes t) n p e = record { long-is = ap (λ a. a.long) p.returns; holds = p.holds }
-written-prints (refuses zero k) n p e = absurd (n k refl)
-written-prints (refuses (suc m) k) n p e = absurd (omega (arith, ap (λ a. a.number) p.returns))
+written_prints (writes t) n p e = record { long_is = ap (λ a. a.long) p.returns; holds = p.holds }
+written_prints (refuses zero k) n p e = absurd (n k refl)
+written_prints (refuses (suc m) k) n p e = absurd (omega (arith, ap (λ a. a.number) p.returns))

@@ -3,7 +3,7 @@
 use Rattle.std.specs.Prelude.{true, false, List, [], ◌∷◌, ◌++◌, ℕ, suc, pos}
 use Rattle.rows.specs.Rows.{Row}
 use Rattle.responses.specs.Figures as Figures
-use Rattle.responses.specs.Figures.{isLate}
+use Rattle.responses.specs.Figures.{is_late}
 use Rattle.plans.specs.declared.Entry.{Entry}
 
 abbrev pub entry : Row → List Row → List Row → Entry
@@ -15,21 +15,21 @@ entry r above below = record {
   margin = Figures.margin r above below;
 }
 
-abbrev pub entriesFrom : List Row → List Row → List Entry
-entriesFrom above [] = []
-entriesFrom above (r ∷ rs) = entry r above rs ∷ entriesFrom (above ++ (r ∷ [])) rs
+abbrev pub entries_from : List Row → List Row → List Entry
+entries_from above [] = []
+entries_from above (r ∷ rs) = entry r above rs ∷ entries_from (above ++ (r ∷ [])) rs
 
 abbrev pub entries : List Row → List Entry
-entries order = entriesFrom [] order
+entries order = entries_from [] order
 
 -- what stands past the last rank
-abbrev pub noEntry : Entry
-noEntry = record { task = 0; best = 0; worst = 0; jitter = 0; margin = pos 0 }
+abbrev pub no_entry : Entry
+no_entry = record { task = 0; best = 0; worst = 0; jitter = 0; margin = pos 0 }
 
 -- the first late task from the top: its rank, counted from 1; 0 for none
-abbrev pub lateFrom : ℕ → List Row → List Row → ℕ
-lateFrom k above [] = 0
-lateFrom k above (r ∷ rs) = elim (isLate r above rs) [ true ↦ k | false ↦ lateFrom (suc k) (above ++ (r ∷ [])) rs ]
+abbrev pub late_from : ℕ → List Row → List Row → ℕ
+late_from k above [] = 0
+late_from k above (r ∷ rs) = elim (is_late r above rs) [ true ↦ k | false ↦ late_from (suc k) (above ++ (r ∷ [])) rs ]
 
-abbrev pub firstLate : List Row → ℕ
-firstLate order = lateFrom 1 [] order
+abbrev pub first_late : List Row → ℕ
+first_late order = late_from 1 [] order

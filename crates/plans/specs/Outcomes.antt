@@ -2,8 +2,8 @@
 use Rattle.std.specs.Prelude.{◌≡◌, true, false, List, ◌++◌, ℕ, zero, suc, leb, length, drop}
 use Rattle.rows.specs.Rows.{Row}
 use Rattle.plans.specs.declared.Answer.{Answer}
-use Rattle.plans.specs.Entries.{entries, firstLate}
-use Rattle.plans.specs.Plans.{planText, refusalText}
+use Rattle.plans.specs.Entries.{entries, first_late}
+use Rattle.plans.specs.Plans.{plan_text, refusal_text}
 
 -- a text to write, or a refusal with its place
 pub data Outcome : Type 0 where
@@ -16,11 +16,11 @@ fitted room text = elim (leb (length text) room) [ true ↦ writes text | false 
 
 -- an order's plan; refusal 9
 abbrev pub plan_of : ℕ → ℕ → List Row → Outcome
-plan_of room board order = fitted room (planText board (entries order))
+plan_of room board order = fitted room (plan_text board (entries order))
 
 -- an order's plan, where none of its tasks is late; else refusal 7 with the first late rank
-unfoldable pub ifInTime : ℕ → ℕ → List Row → Outcome
-ifInTime room board order = elim (firstLate order) [ zero ↦ plan_of room board order | suc k ↦ refuses 7 (suc k) ]
+unfoldable pub if_in_time : ℕ → ℕ → List Row → Outcome
+if_in_time room board order = elim (first_late order) [ zero ↦ plan_of room board order | suc k ↦ refuses 7 (suc k) ]
 
 abbrev pub result : Outcome → Answer
 result (writes text) = record { number = 0; place = 0; long = length text }
@@ -43,4 +43,4 @@ pub record Written (w : Outcome) (buffer buffer' : List ℕ) (r : Answer) : Type
 -- what a program prints
 abbrev pub printed : Outcome → List ℕ
 printed (writes text) = text
-printed (refuses number place) = refusalText number place
+printed (refuses number place) = refusal_text number place

@@ -1,57 +1,57 @@
 -- A plan's text from its entries, and a refusal's three lines.
 use Rattle.std.specs.Prelude.{List, [], ◌∷◌, ℕ, suc, ◌+◌, ◌*◌, length}
-use Rattle.text.specs.Text.{bytes, decimal, signed, joined, keyLine}
-use Rattle.rows.specs.Rows.{maxTasks}
+use Rattle.text.specs.Text.{bytes, decimal, signed, joined, key_line}
+use Rattle.rows.specs.Rows.{max_tasks}
 use Rattle.plans.specs.declared.Entry.{Entry}
 
 -- the six lines of rank k
-unfoldable pub rankText : ℕ → Entry → List ℕ
-rankText k e = joined (
-    keyLine (bytes "rank=") (decimal k)
-    ∷ keyLine (bytes "task=") (decimal e.task)
-    ∷ keyLine (bytes "best=") (decimal e.best)
-    ∷ keyLine (bytes "worst=") (decimal e.worst)
-    ∷ keyLine (bytes "jitter=") (decimal e.jitter)
-    ∷ keyLine (bytes "margin=") (signed e.margin)
+unfoldable pub rank_text : ℕ → Entry → List ℕ
+rank_text k e = joined (
+    key_line (bytes "rank=") (decimal k)
+    ∷ key_line (bytes "task=") (decimal e.task)
+    ∷ key_line (bytes "best=") (decimal e.best)
+    ∷ key_line (bytes "worst=") (decimal e.worst)
+    ∷ key_line (bytes "jitter=") (decimal e.jitter)
+    ∷ key_line (bytes "margin=") (signed e.margin)
     ∷ [])
 
 -- the ranks from k on, the highest first
-abbrev pub rankTexts : ℕ → List Entry → List (List ℕ)
-rankTexts k [] = []
-rankTexts k (e ∷ es) = rankText k e ∷ rankTexts (suc k) es
+abbrev pub rank_texts : ℕ → List Entry → List (List ℕ)
+rank_texts k [] = []
+rank_texts k (e ∷ es) = rank_text k e ∷ rank_texts (suc k) es
 
 -- the three lines before the ranks
-unfoldable pub headText : ℕ → ℕ → List ℕ
-headText board count = joined (
-    keyLine (bytes "plan=") (decimal 1)
-    ∷ keyLine (bytes "board=") (decimal board)
-    ∷ keyLine (bytes "tasks=") (decimal count)
+unfoldable pub head_text : ℕ → ℕ → List ℕ
+head_text board count = joined (
+    key_line (bytes "plan=") (decimal 1)
+    ∷ key_line (bytes "board=") (decimal board)
+    ∷ key_line (bytes "tasks=") (decimal count)
     ∷ [])
 
-unfoldable pub planText : ℕ → List Entry → List ℕ
-planText board es = joined (headText board (length es) ∷ rankTexts 1 es)
+unfoldable pub plan_text : ℕ → List Entry → List ℕ
+plan_text board es = joined (head_text board (length es) ∷ rank_texts 1 es)
 
 -- a refusal's number and place
-unfoldable pub refusalText : ℕ → ℕ → List ℕ
-refusalText number place = joined (
-    keyLine (bytes "plan=") (decimal 0)
-    ∷ keyLine (bytes "refusal=") (decimal number)
-    ∷ keyLine (bytes "line=") (decimal place)
+unfoldable pub refusal_text : ℕ → ℕ → List ℕ
+refusal_text number place = joined (
+    key_line (bytes "plan=") (decimal 0)
+    ∷ key_line (bytes "refusal=") (decimal number)
+    ∷ key_line (bytes "line=") (decimal place)
     ∷ [])
 
 -- room for the lines before the ranks, for the lines of a rank, and for every plan of n ranks
-abbrev pub headRoom : ℕ
-headRoom = 28
+abbrev pub head_room : ℕ
+head_room = 28
 
-abbrev pub rankRoom : ℕ
-rankRoom = 79
+abbrev pub rank_room : ℕ
+rank_room = 79
 
 abbrev pub room_for : ℕ → ℕ
-room_for n = headRoom + n * rankRoom
+room_for n = head_room + n * rank_room
 
-abbrev pub planRoom : ℕ
-planRoom = room_for maxTasks
+abbrev pub plan_room : ℕ
+plan_room = room_for max_tasks
 
 -- the most ranks of a plan: its ranks have at most two digits
-abbrev pub mostRanks : ℕ
-mostRanks = 99
+abbrev pub most_ranks : ℕ
+most_ranks = 99

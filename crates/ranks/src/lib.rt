@@ -2,12 +2,12 @@
 ghost use Rattle.std.specs.Prelude.{◌≡◌, length};
 ghost use Rattle.io.specs.Counts.{IsPrefixLen};
 ghost use Rattle.text.specs.Buffers.{Wrote};
-ghost use Rattle.rows.specs.Rows.{rowsFor};
+ghost use Rattle.rows.specs.Rows.{rows_for};
 ghost use Rattle.rows.specs.inside.Arrays.{ranked};
 ghost use Rattle.rows.specs.inside.Numbers.{rows_of};
 ghost use Rattle.readers.specs.inside.Numbers.{Room};
-ghost use Rattle.plans.specs.Outcomes.{ifInTime, Written};
-ghost use Rattle.demands.specs.Calls.{plannerPrints, reviewerPrints};
+ghost use Rattle.plans.specs.Outcomes.{if_in_time, Written};
+ghost use Rattle.demands.specs.Calls.{planner_prints, reviewer_prints};
 ghost use Rattle.demands.specs.Demands.{PlanSays, ReviewSays};
 ghost use Rattle.ranks.specs.inside.Tasks.{Tasked};
 
@@ -25,8 +25,8 @@ use search::choose;
 // The plan of n rows in an order of their tasks.
 fn plan_tasks(out: &mut [u8], board: u16, rows: &[u64], n: usize, order: Order) -> Answer
     requires { Tasked rows.now n order }
-    ensures { Written (ifInTime (length out.old) board
-        (rowsFor (ranked order) (rows_of n rows.now))) out.old out.new result }
+    ensures { Written (if_in_time (length out.old) board
+        (rows_for (ranked order) (rows_of n rows.now))) out.old out.new result }
 {
     let tasks = order.tasks;
     let mut positions = [0usize; MAX_TASKS];
@@ -116,7 +116,7 @@ pub fn review_order(text: &[u8], out: &mut [u8]) -> Answer
 
 // What the planner's program prints for the text it took: the plan, or the three lines of its refusal.
 pub fn print_plan(text: &[u8], out: &mut [u8; ROOM]) -> usize
-    ensures wrote { Wrote (plannerPrints text.now) out.old out.new result }
+    ensures wrote { Wrote (planner_prints text.now) out.old out.new result }
     ensures prefix_len { IsPrefixLen result out.new }
 {
     let planned = write_plan(text, out);
@@ -125,7 +125,7 @@ pub fn print_plan(text: &[u8], out: &mut [u8; ROOM]) -> usize
 
 // What the reviewer's program prints for the text it took.
 pub fn print_review(text: &[u8], out: &mut [u8; ROOM]) -> usize
-    ensures wrote { Wrote (reviewerPrints text.now) out.old out.new result }
+    ensures wrote { Wrote (reviewer_prints text.now) out.old out.new result }
     ensures prefix_len { IsPrefixLen result out.new }
 {
     let reviewed = review_order(text, out);

@@ -30,8 +30,8 @@ use denote.Lend.{Held, lends_slice, slice_back}
 use denote.Index.{row, whole_out, whole_in, opens_slice, closes_slice}
 
 module _ (R : RattleType) (κ κ' : Lft) (q : Share) (γ : GName) (b o : ℕ) where
-  abbrev at-list : GName → List R.Denot → MutBor (List R.Denot)
-  at-list δ ys = record { ref_ptr = (b, o); ghost_name = δ; now = ys }
+  abbrev at_list : GName → List R.Denot → MutBor (List R.Denot)
+  at_list δ ys = record { ref_ptr = (b, o); ghost_name = δ; now = ys }
 
   abbrev pub LentAgain : GName → List R.Denot → Fml
   LentAgain γ₁ ys =
@@ -45,10 +45,10 @@ module _ (R : RattleType) (κ κ' : Lft) (q : Share) (γ : GName) (b o : ℕ) wh
     open 𝓛 use {H, A}
 
     abbrev Mine : List R.Denot → ℕ → SProp 𝓤
-    Mine zs n = sem 𝓛 ((MutSlice ℓ κ R).own_val (at-list γ zs) (slice_val (b, o) n ∷ []))
+    Mine zs n = sem 𝓛 ((MutSlice ℓ κ R).own_val (at_list γ zs) (slice_val (b, o) n ∷ []))
 
     abbrev Lent : GName → ℕ → SProp 𝓤
-    Lent γ₁ n = sem 𝓛 ((MutSlice ℓ' κ' R).own_val (at-list γ₁ ys) (slice_val (b, o) n ∷ []))
+    Lent γ₁ n = sem 𝓛 ((MutSlice ℓ' κ' R).own_val (at_list γ₁ ys) (slice_val (b, o) n ∷ []))
 
     abbrev vals : List Val
     vals = slice_val (b, o) (length ys) ∷ []
@@ -56,10 +56,10 @@ module _ (R : RattleType) (κ κ' : Lft) (q : Share) (γ : GName) (b o : ℕ) wh
     lends : ent 𝓤 (sep 𝓤 (Mine ys (length ys)) (A.lft κ q))
         (H.⇛ (ex 𝓤 (λ (γ₁ : GName). sep 𝓤 (Lent γ₁ (length ys)) (sem 𝓛 (LentAgain γ₁ ys)))))
     lends =
-        qed 𝓛 (‵ ((MutSlice ℓ κ R).own_val (at-list γ ys) vals) ∷ ‵ (flft κ q) ∷ []) ∵ updating ! $ fsplit ! $
-        pure_l ! (mut_slice_at R (at-list γ ys) vals) (λ p. fsplit ! $ opens_slice ! tt R ys b o $
+        qed 𝓛 (‵ ((MutSlice ℓ κ R).own_val (at_list γ ys) vals) ∷ ‵ (flft κ q) ∷ []) ∵ updating ! $ fsplit ! $
+        pure_l ! (mut_slice_at R (at_list γ ys) vals) (λ p. fsplit ! $ opens_slice ! tt R ys b o $
         use1 𝓛 (‵ (cells (mem R) ys b o)) (whole_in 𝓛 R ys b o) $
-        use1 𝓛 (later (some (λ (γ₁ : GName). ‵ ((MutSlice ℓ' κ' R).own_val (at-list γ₁ ys) vals)
+        use1 𝓛 (later (some (λ (γ₁ : GName). ‵ ((MutSlice ℓ' κ' R).own_val (at_list γ₁ ys) vals)
         ⊛ ‵ (flent κ' (Held R (length ys) b o γ₁))))) (lends_slice 𝓛 R ℓ' κ' ys b o p.1) $ await ! tt $
         pick ! (λ γ₁. split ! $
         -- [the new slice; the lender's part at κ'; the open borrow at κ; obs γ; auth γ]
@@ -76,7 +76,7 @@ module _ (R : RattleType) (κ κ' : Lft) (q : Share) (γ : GName) (b o : ℕ) wh
         (slice_back 𝓛 R κ' γ₁ zs (length ys) b o) $ await ! tt $ fsplit ! $ drop ! $
         use1 𝓛 (‵ (row R full_share zs b o)) (whole_out 𝓛 R zs b o) $ move ! (1 ∷ []) $ fsplit ! $
         move ! (1 ∷ []) $ fsplit ! $ move ! (3 ∷ 2 ∷ 0 ∷ 1 ∷ []) $ closes_slice ! tt R ys zs e b o $ at_once ! $
-        fjoin ! $ pure_i ! (mut_slice_at R (at-list γ zs) vals) (tt, (tt, tt))
+        fjoin ! $ pure_i ! (mut_slice_at R (at_list γ zs) vals) (tt, (tt, tt))
         (ap (λ (m : ℕ). slice_val (b, o) m ∷ []) (sym e), subst (Room R) (sym e) room) $ fjoin ! $ done !
 
     module _ (n : ℕ) (counted : length ys ≡ n) where

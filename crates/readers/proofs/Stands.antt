@@ -17,90 +17,90 @@ use Rattle.text.specs.Lines.{line_at}
 use Rattle.text.specs.declared.Line.{Line}
 use Rattle.text.specs.declared.Line.TheVariants as L
 use Rattle.text.specs.contracts.Line as T
-use Rattle.text.proofs.Lines.{line-long}
+use Rattle.text.proofs.Lines.{line_long}
 use Rattle.grammars.specs.Grammars.{step}
-use Rattle.grammars.specs.inside.Answers.{tested, onAnswer}
-use Rattle.grammars.proofs.Answers.{tested-number}
-use Rattle.grammars.proofs.Naturals.{number-within, no-number-at-end, step_line, step_end}
-use Rattle.curves.specs.Curves.{minPoints, maxPoints}
-use Rattle.rows.specs.Rows.{minTask, maxTask, minSwitch, maxSwitch, minTasks, maxTasks, pointsAt, firstPointAt, linesFor}
+use Rattle.grammars.specs.inside.Answers.{tested, on_answer}
+use Rattle.grammars.proofs.Answers.{tested_number}
+use Rattle.grammars.proofs.Naturals.{number_within, no_number_at_end, step_line, step_end}
+use Rattle.curves.specs.Curves.{min_points, max_points}
+use Rattle.rows.specs.Rows.{min_task, max_task, min_switch, max_switch, min_tasks, max_tasks, points_at, first_point_at, lines_for}
 use Rattle.rows.specs.Rows.{row_of}
-use Rattle.rows.specs.inside.Numbers.{lineCount, switchAt, lines_from, rowFrom}
+use Rattle.rows.specs.inside.Numbers.{line_count, switch_at, lines_from, row_from}
 use Rattle.readers.specs.declared.progress.Part.{Part}
 use Rattle.readers.specs.declared.progress.Part.TheVariants as P
 use Rattle.readers.specs.declared.progress.Stand.{Stand}
-use Rattle.tables.specs.TableLines.{RowLine, minBoard, maxBoard, newRank, rowLineAt, is_whole}
-use Rattle.tables.specs.TableLines.{Stage, at-board, at-tasks, at-switch, at_field, ranksStage, rowsStage, after, table}
-use Rattle.readers.specs.inside.Numbers.{headCount, lineBytes, rowStart, boardIn, headSwitchAt, switchIn, rowsIn}
+use Rattle.tables.specs.TableLines.{RowLine, min_board, max_board, new_rank, row_line_at, is_whole}
+use Rattle.tables.specs.TableLines.{Stage, at_board, at_tasks, at_switch, at_field, ranks_stage, rows_stage, after, table}
+use Rattle.readers.specs.inside.Numbers.{head_count, line_bytes, row_start, board_in, head_switch_at, switch_in, rows_in}
 use Rattle.readers.specs.inside.Numbers.{behind}
 use Rattle.tables.specs.inside.Partial.{Partial}
-use Rattle.readers.specs.inside.Stands.{fieldLine, line_here, faultIn, stand, ranksNext, rowsNext, afterField}
-use Rattle.readers.specs.inside.Stands.{standAfter, fewestLines, mostLines, read_by, Counted, Going}
-use Rattle.readers.specs.inside.Stands.{stageIn, progress, endedBy}
-use Rattle.rows.proofs.RowNumbers.{rows-length, between-length, lines_same}
-use Rattle.tables.proofs.RowLines.{at-within, each-point, partial-next, whole-few}
-use Rattle.readers.proofs.LineNumbers.{board-stays, switch-stays, behind-grows, grows, row_made, rows-front}
+use Rattle.readers.specs.inside.Stands.{field_line, line_here, fault_in, stand, ranks_next, rows_next, after_field}
+use Rattle.readers.specs.inside.Stands.{stand_after, fewest_lines, most_lines, read_by, Counted, Going}
+use Rattle.readers.specs.inside.Stands.{stage_in, progress, ended_by}
+use Rattle.rows.proofs.RowNumbers.{rows_length, between_length, lines_same}
+use Rattle.tables.proofs.RowLines.{at_within, each_point, partial_next, whole_few}
+use Rattle.readers.proofs.LineNumbers.{board_stays, switch_stays, behind_grows, grows, row_made, rows_front}
 
 -- a line that is neither a number nor refused is the end
-pub ends-else : (s : Stand) (l : Line) → OneOf (0 ∷ 1 ∷ []) (tag_of T.the_type l) → progress s true 0 0 0 ≡ endedBy s l
-ends-else s (L.Number v next) h = refl
-ends-else s L.End h = refl
-ends-else s (L.Refused n k) h = absurd (miss (0 ∷ 1 ∷ []) 2 tt h)
+pub ends_else : (s : Stand) (l : Line) → OneOf (0 ∷ 1 ∷ []) (tag_of T.the_type l) → progress s true 0 0 0 ≡ ended_by s l
+ends_else s (L.Number v next) h = refl
+ends_else s L.End h = refl
+ends_else s (L.Refused n k) h = absurd (miss (0 ∷ 1 ∷ []) 2 tt h)
 
 -- ---- the step from a stage that is shown
 module _ (ranked : Bool) (text : List ℕ) (at k : ℕ) (s : Stand) (ns : List ℕ) where
   abbrev StepOf : Part → Type 0
   StepOf p =
-      let st = stageIn p s (take (read_by p s) ns) in
+      let st = stage_in p s (take (read_by p s) ns) in
       step (table ranked) text st at k
-      ≡ onAnswer (table ranked) st k (tested (faultIn p s ns) (line_here p s.position text at k) k)
+      ≡ on_answer (table ranked) st k (tested (fault_in p s ns) (line_here p s.position text at k) k)
 
-  rows_of : rowStart s.count + s.position ≤ length ns
-      → rowsIn s.count (take (rowStart s.count + s.position) ns) ≡ rowsIn s.count ns
-  rows_of h = rows-front s.count (rowStart s.count + s.position) ns (omega arith) h
+  rows_of : row_start s.count + s.position ≤ length ns
+      → rows_in s.count (take (row_start s.count + s.position) ns) ≡ rows_in s.count ns
+  rows_of h = rows_front s.count (row_start s.count + s.position) ns (omega arith) h
 
-  pub step-shown : (p : Part) → read_by p s ≤ length ns → StepOf p
-  step-shown P.Board h = step_line (table ranked) text at-board at k (bytes "board=") minBoard maxBoard refl
-  step-shown P.Tasks h =
-      step_line (table ranked) text (at-tasks (boardIn (take 1 ns))) at k (bytes "tasks=") minTasks maxTasks refl
-  step-shown P.Switch h =
-      step_line (table ranked) text (at-switch s.left (boardIn (take 2 ns))) at k (bytes "switch=") minSwitch maxSwitch
+  pub step_shown : (p : Part) → read_by p s ≤ length ns → StepOf p
+  step_shown P.Board h = step_line (table ranked) text at_board at k (bytes "board=") min_board max_board refl
+  step_shown P.Tasks h =
+      step_line (table ranked) text (at_tasks (board_in (take 1 ns))) at k (bytes "tasks=") min_tasks max_tasks refl
+  step_shown P.Switch h =
+      step_line (table ranked) text (at_switch s.left (board_in (take 2 ns))) at k (bytes "switch=") min_switch max_switch
       refl
-  step-shown P.Row h =
+  step_shown P.Row h =
       let vs = behind s.count s.position ns in
-      let st = stageIn P.Row s (take (read_by P.Row s) ns) in
-      let l = rowLineAt (length vs) in
-      let sw = get_or-take (read_by P.Row s) ns headSwitchAt 0 (omega arith) in
+      let st = stage_in P.Row s (take (read_by P.Row s) ns) in
+      let l = row_line_at (length vs) in
+      let sw = get_or-take (read_by P.Row s) ns head_switch_at 0 (omega arith) in
       step_line (table ranked) text st at k l.key l.low l.high refl
-      ∙ ap (λ d. onAnswer (table ranked) st k (tested (l.fault d (rowsIn s.count (take (read_by P.Row s) ns)) vs)
-      (fieldLine (length vs) text at k) k)) sw
-      ∙ ap₂ (λ i rs. onAnswer (table ranked) st k
-      (tested ((rowLineAt i).fault (switchIn ns) rs vs) (fieldLine i text at k) k))
-      (between-length (rowStart s.count) ns s.position h) (rows_of h)
-  step-shown P.Rank h =
+      ∙ ap (λ d. on_answer (table ranked) st k (tested (l.fault d (rows_in s.count (take (read_by P.Row s) ns)) vs)
+      (field_line (length vs) text at k) k)) sw
+      ∙ ap₂ (λ i rs. on_answer (table ranked) st k
+      (tested ((row_line_at i).fault (switch_in ns) rs vs) (field_line i text at k) k))
+      (between_length (row_start s.count) ns s.position h) (rows_of h)
+  step_shown P.Rank h =
       let os = behind s.count s.position ns in
-      let st = stageIn P.Rank s (take (read_by P.Rank s) ns) in
-      let l = line_at (bytes "rank=") minTask maxTask text at k in
-      step_line (table ranked) text st at k (bytes "rank=") minTask maxTask refl
-      ∙ ap (λ rs. onAnswer (table ranked) st k (tested (newRank rs os) l k)) (rows_of h)
-  step-shown P.End h = step_end (table ranked) text (stageIn P.End s (take (read_by P.End s) ns)) at k refl
+      let st = stage_in P.Rank s (take (read_by P.Rank s) ns) in
+      let l = line_at (bytes "rank=") min_task max_task text at k in
+      step_line (table ranked) text st at k (bytes "rank=") min_task max_task refl
+      ∙ ap (λ rs. on_answer (table ranked) st k (tested (new_rank rs os) l k)) (rows_of h)
+  step_shown P.End h = step_end (table ranked) text (stage_in P.End s (take (read_by P.End s) ns)) at k refl
 
 -- ---- the stand behind a number shows the next stage, with the numbers that stand there then: the last of a row has
 -- behind it what stood in the places of the points that the row has not, and then the switch
 abbrev pub grown : Bool → ℕ → List ℕ → List ℕ → List ℕ
-grown last v gap ws = ws ++ (v ∷ pick last (gap ++ (switchIn ws ∷ [])) [])
+grown last v gap ws = ws ++ (v ∷ pick last (gap ++ (switch_in ws ∷ [])) [])
 
 -- the numbers left standing fill the row
 abbrev pub Fills : Bool → Stand → List ℕ → Type 0
-Fills last s gap = last ≡ true → s.position + suc (length gap) ≡ lineCount
+Fills last s gap = last ≡ true → s.position + suc (length gap) ≡ line_count
 
 pub record Follows (ranked : Bool) (st : Stage) (few many read : ℕ) (t : Stand) (xs : List ℕ) : Type 0 where
   pub asked : t.ranked ≡ ranked
-  pub shows : stageIn t.part t xs ≡ st
+  pub shows : stage_in t.part t xs ≡ st
   pub counted : Counted t.part t
   pub going : Going t.part t xs
-  pub fewest : fewestLines t.part t ≤ few
-  pub most : many ≤ mostLines t.part t
+  pub fewest : fewest_lines t.part t ≤ few
+  pub most : many ≤ most_lines t.part t
   pub read_is : read_by t.part t ≡ read
 
 -- the stage and the counts by other names
@@ -118,16 +118,16 @@ renamed r e f g h = record {
 
 -- the lines before the first behind n rows, at least and at most
 abbrev fewest : ℕ → ℕ
-fewest n = headCount + linesFor minPoints * n
+fewest n = head_count + lines_for min_points * n
 
 abbrev most : ℕ → ℕ
-most n = headCount + linesFor maxPoints * n
+most n = head_count + lines_for max_points * n
 
-module _ (ranked : Bool) (count : ℕ) (few : count ≤ maxTasks) (xs : List ℕ) where
-  ranks-follow : (named n : ℕ) → named + n ≤ count
-      → Follows ranked (ranksStage n (boardIn xs) (rowsIn count xs) (drop (rowStart count) xs))
-      (fewest count + named) (most count + named) (rowStart count + named) (ranksNext ranked count named n) xs
-  ranks-follow named zero l = record {
+module _ (ranked : Bool) (count : ℕ) (few : count ≤ max_tasks) (xs : List ℕ) where
+  ranks_follow : (named n : ℕ) → named + n ≤ count
+      → Follows ranked (ranks_stage n (board_in xs) (rows_in count xs) (drop (row_start count) xs))
+      (fewest count + named) (most count + named) (row_start count + named) (ranks_next ranked count named n) xs
+  ranks_follow named zero l = record {
     asked = refl;
     shows = refl;
     counted = (omega arith, few);
@@ -136,7 +136,7 @@ module _ (ranked : Bool) (count : ℕ) (few : count ≤ maxTasks) (xs : List ℕ
     most = omega arith;
     read_is = refl;
   }
-  ranks-follow named (suc n) l = record {
+  ranks_follow named (suc n) l = record {
     asked = refl;
     shows = refl;
     counted = (l, few);
@@ -146,24 +146,24 @@ module _ (ranked : Bool) (count : ℕ) (few : count ≤ maxTasks) (xs : List ℕ
     read_is = refl;
   }
 
-  rows-follow : (n : ℕ) → count + n ≤ maxTasks → length xs ≡ rowStart count
-      → Follows ranked (rowsStage ranked n (boardIn xs) (switchIn xs) (rowsIn count xs)) (fewest count) (most count)
-      (rowStart count) (rowsNext ranked count n) xs
-  rows-follow zero l e =
-      let none = drop_of_length-le xs {i = rowStart count} (omega arith) in
-      let as_many = rows-length count (drop headCount xs) in
-      renamed (ranks-follow 0 (pick ranked count 0) (at-most ranked))
-      (ap₂ (λ m os. ranksStage (pick ranked m 0) (boardIn xs) (rowsIn count xs) os) (sym as_many) none) (omega arith)
+  rows_follow : (n : ℕ) → count + n ≤ max_tasks → length xs ≡ row_start count
+      → Follows ranked (rows_stage ranked n (board_in xs) (switch_in xs) (rows_in count xs)) (fewest count) (most count)
+      (row_start count) (rows_next ranked count n) xs
+  rows_follow zero l e =
+      let none = drop_of_length-le xs {i = row_start count} (omega arith) in
+      let as_many = rows_length count (drop head_count xs) in
+      renamed (ranks_follow 0 (pick ranked count 0) (at_most_lem ranked))
+      (ap₂ (λ m os. ranks_stage (pick ranked m 0) (board_in xs) (rows_in count xs) os) (sym as_many) none) (omega arith)
       (omega arith) (omega arith)
     where
-      at-most : (b : Bool) → 0 + pick b count 0 ≤ count
-      at-most true = omega arith
-      at-most false = omega arith
-  rows-follow (suc n) l e =
-      let none = drop_of_length-le xs {i = rowStart count} (omega arith) in
+      at_most_lem : (b : Bool) → 0 + pick b count 0 ≤ count
+      at_most_lem true = omega arith
+      at_most_lem false = omega arith
+  rows_follow (suc n) l e =
+      let none = drop_of_length-le xs {i = row_start count} (omega arith) in
       record {
         asked = refl;
-        shows = ap (at_field n (boardIn xs) (switchIn xs) (rowsIn count xs)) none;
+        shows = ap (at_field n (board_in xs) (switch_in xs) (rows_in count xs)) none;
         counted = (omega arith, l);
         going = rw none (record { few = omega arith; more = omega arith });
         fewest = omega arith;
@@ -174,9 +174,9 @@ module _ (ranked : Bool) (count : ℕ) (few : count ≤ maxTasks) (xs : List ℕ
 -- what a number has to be, beside what the numbers before it say
 abbrev pub Taken : Part → ℕ → ℕ → Type 0
 Taken P.Board i v = Unit {0}
-Taken P.Tasks i v = v ≤ maxTasks
+Taken P.Tasks i v = v ≤ max_tasks
 Taken P.Switch i v = Unit {0}
-Taken P.Row i v = i ≡ pointsAt → v ≤ maxPoints
+Taken P.Row i v = i ≡ points_at → v ≤ max_points
 Taken P.Rank i v = Unit {0}
 Taken P.End i v = ⊥
 
@@ -184,145 +184,145 @@ module _ (ranked : Bool) (count left position : ℕ) (ws : List ℕ) (v : ℕ) w
   -- all the numbers of a row make it, whatever stands behind the last of its points
   module _ (gap : List ℕ) where
     abbrev vs : List ℕ
-    vs = drop (rowStart count) ws
+    vs = drop (row_start count) ws
 
     abbrev more : List ℕ
     more = vs ++ (v ∷ [])
 
     abbrev last : List ℕ
-    last = v ∷ (gap ++ (switchIn ws ∷ []))
+    last = v ∷ (gap ++ (switch_in ws ∷ []))
 
-    row_is : length vs ≡ position → position + suc (length gap) ≡ lineCount
-        → length more ≡ linesFor (get_or more pointsAt 0) → rowFrom (vs ++ last) ≡ row_of (switchIn ws) more
+    row_is : length vs ≡ position → position + suc (length gap) ≡ line_count
+        → length more ≡ lines_for (get_or more points_at 0) → row_from (vs ++ last) ≡ row_of (switch_in ws) more
     row_is long fills whole =
-        let front : vs ++ last ≡ (more ++ gap) ++ (switchIn ws ∷ []) =
-        sym (append_snoc vs v (gap ++ (switchIn ws ∷ []))) ∙ sym (append_assoc more gap (switchIn ws ∷ [])) in
-        let lines : length (more ++ gap) ≡ lineCount =
+        let front : vs ++ last ≡ (more ++ gap) ++ (switch_in ws ∷ []) =
+        sym (append_snoc vs v (gap ++ (switch_in ws ∷ []))) ∙ sym (append_assoc more gap (switch_in ws ∷ [])) in
+        let lines : length (more ++ gap) ≡ line_count =
         length-append more gap ∙ omega (arith, length-append vs (v ∷ []), long, fills) in
-        let switch : get_or ((more ++ gap) ++ (switchIn ws ∷ [])) switchAt 0 ≡ switchIn ws =
-        get_or_at (more ++ gap) (switchIn ws) [] 0 switchAt lines in
-        let own : lines_from ((more ++ gap) ++ (switchIn ws ∷ [])) ≡ more ++ gap =
-        take_at (more ++ gap) (switchIn ws ∷ []) lineCount lines in
-        ap rowFrom front
+        let switch : get_or ((more ++ gap) ++ (switch_in ws ∷ [])) switch_at 0 ≡ switch_in ws =
+        get_or_at (more ++ gap) (switch_in ws) [] 0 switch_at lines in
+        let own : lines_from ((more ++ gap) ++ (switch_in ws ∷ [])) ≡ more ++ gap =
+        take_at (more ++ gap) (switch_in ws ∷ []) line_count lines in
+        ap row_from front
         ∙ ap₂ row_of switch own
-        ∙ sym (lines_same (switchIn ws) more (more ++ gap) (λ k l.
+        ∙ sym (lines_same (switch_in ws) more (more ++ gap) (λ k l.
         sym (get_or-append more gap 0 k (omega (arith, l, whole)))))
 
-  row-follows : (gap : List ℕ) → length ws ≡ rowStart count + position
-      → position + suc (length gap) ≡ lineCount → count + suc left ≤ maxTasks
-      → let more = drop (rowStart count) ws ++ (v ∷ []) in
-      length more ≡ linesFor (get_or more pointsAt 0)
+  row_follows : (gap : List ℕ) → length ws ≡ row_start count + position
+      → position + suc (length gap) ≡ line_count → count + suc left ≤ max_tasks
+      → let more = drop (row_start count) ws ++ (v ∷ []) in
+      length more ≡ lines_for (get_or more points_at 0)
       → Follows ranked
-      (rowsStage ranked left (boardIn ws) (switchIn ws) (rowsIn count ws ++ (row_of (switchIn ws) more ∷ [])))
+      (rows_stage ranked left (board_in ws) (switch_in ws) (rows_in count ws ++ (row_of (switch_in ws) more ∷ [])))
       (suc (fewest count + position)) (suc (most count + position)) (length (ws ++ last gap))
-      (rowsNext ranked (suc count) left) (ws ++ last gap)
-  row-follows gap e fills l whole =
-      let long : length (vs gap) ≡ position = omega (arith, length-drop (rowStart count) ws, e) in
+      (rows_next ranked (suc count) left) (ws ++ last gap)
+  row_follows gap e fills l whole =
+      let long : length (vs gap) ≡ position = omega (arith, length-drop (row_start count) ws, e) in
       let ends : length (last gap) ≡ suc (suc (length gap)) =
-      ap suc (length-append gap (switchIn ws ∷ []) ∙ omega arith) in
-      let all : length (ws ++ last gap) ≡ rowStart (suc count) =
+      ap suc (length-append gap (switch_in ws ∷ []) ∙ omega arith) in
+      let all : length (ws ++ last gap) ≡ row_start (suc count) =
       length-append ws (last gap) ∙ omega (arith, ends, e, fills) in
       let rows = row_made ws (last gap) count (omega (arith, e))
-      ∙ ap (λ r. rowsIn count ws ++ (r ∷ [])) (row_is gap long fills whole) in
-      let head = ap₂ (λ b d. rowsStage ranked left b d (rowsIn (suc count) (ws ++ last gap)))
-      (board-stays ws (last gap) (omega (arith, e))) (switch-stays ws (last gap) (omega (arith, e))) in
-      let least : linesFor minPoints ≤ suc position = omega (arith, length-append (vs gap) (v ∷ []), long, whole) in
-      renamed (rows-follow ranked (suc count) (omega arith) (ws ++ last gap) left (omega arith) all)
-      (head ∙ ap (rowsStage ranked left (boardIn ws) (switchIn ws)) rows) (omega (arith, least))
+      ∙ ap (λ r. rows_in count ws ++ (r ∷ [])) (row_is gap long fills whole) in
+      let head = ap₂ (λ b d. rows_stage ranked left b d (rows_in (suc count) (ws ++ last gap)))
+      (board_stays ws (last gap) (omega (arith, e))) (switch_stays ws (last gap) (omega (arith, e))) in
+      let least : lines_for min_points ≤ suc position = omega (arith, length-append (vs gap) (v ∷ []), long, whole) in
+      renamed (rows_follow ranked (suc count) (omega arith) (ws ++ last gap) left (omega arith) all)
+      (head ∙ ap (rows_stage ranked left (board_in ws) (switch_in ws)) rows) (omega (arith, least))
       (omega (arith, fills)) (sym all)
 
-  field-follows : (gap : List ℕ) → length ws ≡ rowStart count + position → position < lineCount
-      → count + suc left ≤ maxTasks → Partial (drop (rowStart count) ws) → Taken P.Row position v
-      → let whole = is_whole (drop (rowStart count) ws ++ (v ∷ [])) in
-      (whole ≡ true → position + suc (length gap) ≡ lineCount)
-      → Follows ranked (after ranked (stageIn P.Row (stand P.Row ranked count left position) ws) v)
+  field_follows : (gap : List ℕ) → length ws ≡ row_start count + position → position < line_count
+      → count + suc left ≤ max_tasks → Partial (drop (row_start count) ws) → Taken P.Row position v
+      → let whole = is_whole (drop (row_start count) ws ++ (v ∷ [])) in
+      (whole ≡ true → position + suc (length gap) ≡ line_count)
+      → Follows ranked (after ranked (stage_in P.Row (stand P.Row ranked count left position) ws) v)
       (suc (fewest count + position)) (suc (most count + position)) (length (grown whole v gap ws))
-      (afterField whole (stand P.Row ranked count left position)) (grown whole v gap ws)
-  field-follows gap e h l partial taken fills =
-      let xs = drop (rowStart count) ws in
-      let long : length xs ≡ position = omega (arith, length-drop (rowStart count) ws, e) in
-      let said : length xs ≡ pointsAt → v ≤ maxPoints = λ z. taken (sym long ∙ z) in
+      (after_field whole (stand P.Row ranked count left position)) (grown whole v gap ws)
+  field_follows gap e h l partial taken fills =
+      let xs = drop (row_start count) ws in
+      let long : length xs ≡ position = omega (arith, length-drop (row_start count) ws, e) in
+      let said : length xs ≡ points_at → v ≤ max_points = λ z. taken (sym long ∙ z) in
       elim (test_of (is_whole (xs ++ (v ∷ [])))) [
-        | inl t ↦ rw t (row-follows gap e (fills t) l (whole-few xs v partial said t).1)
+        | inl t ↦ rw t (row_follows gap e (fills t) l (whole_few xs v partial said t).1)
         | inr t ↦
             let shows = grows ws (v ∷ []) count (omega (arith, e)) (at_field left) in
-            let next = partial-next xs v partial said t in
-            let still : suc position < lineCount =
+            let next = partial_next xs v partial said t in
+            let still : suc position < line_count =
             omega (arith, next.more, next.few, length-append xs (v ∷ []), long) in
             rw t
             (record {
               asked = refl;
               shows = shows;
               counted = (still, l);
-              going = rw (behind-grows ws (v ∷ []) count (omega (arith, e))) next;
+              going = rw (behind_grows ws (v ∷ []) count (omega (arith, e))) next;
               fewest = omega arith;
               most = omega arith;
               read_is = omega (arith, length-append ws (v ∷ []), e);
             })
       ]
 
-  rank-follows : length ws ≡ rowStart count + position → position + suc left ≤ count → count ≤ maxTasks
-      → Follows ranked (after ranked (stageIn P.Rank (stand P.Rank ranked count left position) ws) v)
+  rank_follows : length ws ≡ row_start count + position → position + suc left ≤ count → count ≤ max_tasks
+      → Follows ranked (after ranked (stage_in P.Rank (stand P.Rank ranked count left position) ws) v)
       (suc (fewest count + position)) (suc (most count + position)) (length (ws ++ (v ∷ [])))
-      (ranksNext ranked count (suc position) left) (ws ++ (v ∷ []))
-  rank-follows e h l =
-      renamed (ranks-follow ranked count l (ws ++ (v ∷ [])) (suc position) left (omega arith))
-      (grows ws (v ∷ []) count (omega arith) (λ b d. ranksStage left b)) (omega arith) (omega arith)
+      (ranks_next ranked count (suc position) left) (ws ++ (v ∷ []))
+  rank_follows e h l =
+      renamed (ranks_follow ranked count l (ws ++ (v ∷ [])) (suc position) left (omega arith))
+      (grows ws (v ∷ []) count (omega arith) (λ b d. ranks_stage left b)) (omega arith) (omega arith)
       (omega (arith, length-append ws (v ∷ [])))
 
 -- the last number of a row, by the numbers so far
-abbrev pub lastIn : Part → Stand → List ℕ → ℕ → Bool
-lastIn P.Board s ws v = false
-lastIn P.Tasks s ws v = false
-lastIn P.Switch s ws v = false
-lastIn P.Row s ws v = is_whole (drop (rowStart s.count) ws ++ (v ∷ []))
-lastIn P.Rank s ws v = false
-lastIn P.End s ws v = false
+abbrev pub last_in : Part → Stand → List ℕ → ℕ → Bool
+last_in P.Board s ws v = false
+last_in P.Tasks s ws v = false
+last_in P.Switch s ws v = false
+last_in P.Row s ws v = is_whole (drop (row_start s.count) ws ++ (v ∷ []))
+last_in P.Rank s ws v = false
+last_in P.End s ws v = false
 
-pub stand-follows : (p : Part) (ranked : Bool) (count left position : ℕ) (ws gap : List ℕ) (v : ℕ)
+pub stand_follows : (p : Part) (ranked : Bool) (count left position : ℕ) (ws gap : List ℕ) (v : ℕ)
     → let s = stand p ranked count left position in
     length ws ≡ read_by p s → Counted p s → Going p s ws → Taken p position v
-    → let last = lastIn p s ws v in
+    → let last = last_in p s ws v in
     Fills last s gap
     → let xs = grown last v gap ws in
-    Follows ranked (after ranked (stageIn p s ws) v) (suc (fewestLines p s)) (suc (mostLines p s)) (length xs)
-    (standAfter p last s v) xs
-stand-follows P.Board ranked count left position ws gap v e h g w f =
+    Follows ranked (after ranked (stage_in p s ws) v) (suc (fewest_lines p s)) (suc (most_lines p s)) (length xs)
+    (stand_after p last s v) xs
+stand_follows P.Board ranked count left position ws gap v e h g w f =
     let none = drop_of_length-le ws {i = 0} (omega arith) in
     record {
       asked = refl;
-      shows = ap (λ xs. at-tasks (boardIn (xs ++ (v ∷ [])))) none;
+      shows = ap (λ xs. at_tasks (board_in (xs ++ (v ∷ [])))) none;
       counted = (refl, refl);
       going = tt;
       fewest = omega arith;
       most = omega arith;
       read_is = omega (arith, length-append ws (v ∷ []));
     }
-stand-follows P.Tasks ranked count left position ws gap v e h g w f = record {
+stand_follows P.Tasks ranked count left position ws gap v e h g w f = record {
   asked = refl;
-  shows = ap (at-switch v) (board-stays ws (v ∷ []) (omega arith));
+  shows = ap (at_switch v) (board_stays ws (v ∷ []) (omega arith));
   counted = (refl, refl, w);
   going = tt;
   fewest = omega arith;
   most = omega arith;
   read_is = omega (arith, length-append ws (v ∷ []));
 }
-stand-follows P.Switch ranked count left position ws gap v e h g w f =
-    let long : length (ws ++ (v ∷ [])) ≡ rowStart 0 = length-append ws (v ∷ []) ∙ omega arith in
-    renamed (rows-follow ranked 0 (omega arith) (ws ++ (v ∷ [])) left (omega (arith, h.2)) long)
-    (ap₂ (λ b d. rowsStage ranked left b d []) (board-stays ws (v ∷ []) (omega arith)) (get_or_at ws v [] 0 headSwitchAt e))
+stand_follows P.Switch ranked count left position ws gap v e h g w f =
+    let long : length (ws ++ (v ∷ [])) ≡ row_start 0 = length-append ws (v ∷ []) ∙ omega arith in
+    renamed (rows_follow ranked 0 (omega arith) (ws ++ (v ∷ [])) left (omega (arith, h.2)) long)
+    (ap₂ (λ b d. rows_stage ranked left b d []) (board_stays ws (v ∷ []) (omega arith)) (get_or_at ws v [] 0 head_switch_at e))
     (omega arith) (omega arith) (sym long)
-stand-follows P.Row ranked count left position ws gap v e h g w f =
-    field-follows ranked count left position ws v gap e h.0 h.1 g w f
-stand-follows P.Rank ranked count left position ws gap v e h g w f =
-    rank-follows ranked count left position ws v e h.0 h.1
-stand-follows P.End ranked count left position ws gap v e h g w f = absurd w
+stand_follows P.Row ranked count left position ws gap v e h g w f =
+    field_follows ranked count left position ws v gap e h.0 h.1 g w f
+stand_follows P.Rank ranked count left position ws gap v e h g w f =
+    rank_follows ranked count left position ws v e h.0 h.1
+stand_follows P.End ranked count left position ws gap v e h g w f = absurd w
 
 -- a number that a line answers is such, and its line has so many bytes of the text at least
-key-long : (i : ℕ) → i < lineCount → lineBytes ≤ suc (suc (length (rowLineAt i).key))
-key-long =
-    let F : RowLine → Type 0 = λ l. lineBytes ≤ suc (suc (length l.key)) in
-    at-within F (
+key_long : (i : ℕ) → i < line_count → line_bytes ≤ suc (suc (length (row_line_at i).key))
+key_long =
+    let F : RowLine → Type 0 = λ l. line_bytes ≤ suc (suc (length l.key)) in
+    at_within F (
       omega arith,
       (
         omega arith,
@@ -338,7 +338,7 @@ key-long =
                   omega arith,
                   (
                     omega arith,
-                    (omega arith, (omega arith, each-point F (λ at. omega arith) (λ at. omega arith) firstPointAt 7)),
+                    (omega arith, (omega arith, each_point F (λ at. omega arith) (λ at. omega arith) first_point_at 7)),
                   ),
                 ),
               ),
@@ -350,27 +350,27 @@ key-long =
 
 pub record LineTaken (p : Part) (text : List ℕ) (at i v next : ℕ) : Type 0 where
   pub taken : Taken p i v
-  pub past : at + lineBytes ≤ next
+  pub past : at + line_bytes ≤ next
   pub inside : next ≤ length text
 
 module _ (fault : ℕ → ℕ) (text : List ℕ) (at k v next : ℕ) where
-  by_key : (p : Part) (i : ℕ) (key : List ℕ) (low high : ℕ) → Taken p i v → lineBytes ≤ suc (suc (length key))
+  by_key : (p : Part) (i : ℕ) (key : List ℕ) (low high : ℕ) → Taken p i v → line_bytes ≤ suc (suc (length key))
       → tested fault (line_at key low high text at k) k ≡ L.Number v next → LineTaken p text at i v next
   by_key p i key low high t h e =
-      let (long, inside) = line-long key low high text at k v next (tested-number fault _ k v next e) in
+      let (long, inside) = line_long key low high text at k v next (tested_number fault _ k v next e) in
       record { taken = t; past = omega arith; inside = inside }
 
-  pub answer-taken : (p : Part) (s : Stand) → Counted p s
+  pub answer_taken : (p : Part) (s : Stand) → Counted p s
       → tested fault (line_here p s.position text at k) k ≡ L.Number v next → LineTaken p text at s.position v next
-  answer-taken P.Board s h e = by_key P.Board s.position (bytes "board=") minBoard maxBoard tt (omega arith) e
-  answer-taken P.Tasks s h e =
-      let few = (number-within fault (bytes "tasks=") minTasks maxTasks text at k v next e).le-high in
-      by_key P.Tasks s.position (bytes "tasks=") minTasks maxTasks few (omega arith) e
-  answer-taken P.Switch s h e = by_key P.Switch s.position (bytes "switch=") minSwitch maxSwitch tt (omega arith) e
-  answer-taken P.Row s h e =
-      let l = rowLineAt s.position in
-      let high = (number-within fault l.key l.low l.high text at k v next e).le-high in
-      by_key P.Row s.position l.key l.low l.high (λ is. subst (λ i. v ≤ (rowLineAt i).high) is high)
-      (key-long s.position h.0) e
-  answer-taken P.Rank s h e = by_key P.Rank s.position (bytes "rank=") minTask maxTask tt (omega arith) e
-  answer-taken P.End s h e = absurd (no-number-at-end fault text at k v next e)
+  answer_taken P.Board s h e = by_key P.Board s.position (bytes "board=") min_board max_board tt (omega arith) e
+  answer_taken P.Tasks s h e =
+      let few = (number_within fault (bytes "tasks=") min_tasks max_tasks text at k v next e).le_high in
+      by_key P.Tasks s.position (bytes "tasks=") min_tasks max_tasks few (omega arith) e
+  answer_taken P.Switch s h e = by_key P.Switch s.position (bytes "switch=") min_switch max_switch tt (omega arith) e
+  answer_taken P.Row s h e =
+      let l = row_line_at s.position in
+      let high = (number_within fault l.key l.low l.high text at k v next e).le_high in
+      by_key P.Row s.position l.key l.low l.high (λ is. subst (λ i. v ≤ (row_line_at i).high) is high)
+      (key_long s.position h.0) e
+  answer_taken P.Rank s h e = by_key P.Rank s.position (bytes "rank=") min_task max_task tt (omega arith) e
+  answer_taken P.End s h e = absurd (no_number_at_end fault text at k v next e)

@@ -10,12 +10,12 @@ use native.Mathlib.Omega.{arith}
 use lib.ListN.{length, take, drop, set, replicate, length-append, length-drop, length-set, length-replicate}
 use lib.Seq.{append_snoc, length-take-le, take-suc-set, take-add, drop-set-lt, get_or-take, get_or-set_other}
 use Rattle.basics.proofs.Tests.{never}
-use Rattle.rows.specs.Rows.{maxTasks}
-use Rattle.rows.specs.inside.Numbers.{lineCount, fieldCount, switchAt}
+use Rattle.rows.specs.Rows.{max_tasks}
+use Rattle.rows.specs.inside.Numbers.{line_count, field_count, switch_at}
 use Rattle.text.specs.declared.Line.{Line}
 use Rattle.text.specs.declared.Line.TheVariants as L
 use Rattle.grammars.specs.Grammars.{step}
-use Rattle.grammars.specs.inside.Answers.{tested, onAnswer}
+use Rattle.grammars.specs.inside.Answers.{tested, on_answer}
 use Rattle.grammars.proofs.Answers.{NoNumber}
 use Rattle.grammars.proofs.Loops.{ends_by}
 use Rattle.readers.specs.declared.progress.Part.{Part}
@@ -23,46 +23,46 @@ use Rattle.readers.specs.declared.progress.Part.TheVariants as P
 use Rattle.readers.specs.declared.progress.Stand.{Stand}
 use Rattle.readers.specs.declared.progress.Progress.{Progress}
 use Rattle.tables.specs.TableLines.{Stage, after, table}
-use Rattle.readers.specs.inside.Numbers.{mostNumbers, lineBytes, rowBytes, rowStart, headSwitchAt, switchIn}
-use Rattle.readers.specs.inside.Stands.{line_here, faultIn, standAfter, fewestLines, mostLines, read_by, Counted}
-use Rattle.readers.specs.inside.Stands.{Going, endsRow, with_number, PutAt, stageIn, stageOf}
-use Rattle.readers.specs.inside.Stands.{Stands, progress, endedBy, reader, On, TakesLine}
-use Rattle.tables.proofs.Keys.{table-plain}
-use Rattle.readers.proofs.Stands.{step-shown, grown, Follows, lastIn, stand-follows, LineTaken, answer-taken}
+use Rattle.readers.specs.inside.Numbers.{most_numbers, line_bytes, row_bytes, row_start, head_switch_at, switch_in}
+use Rattle.readers.specs.inside.Stands.{line_here, fault_in, stand_after, fewest_lines, most_lines, read_by, Counted}
+use Rattle.readers.specs.inside.Stands.{Going, ends_row, with_number, PutAt, stage_in, stage_of}
+use Rattle.readers.specs.inside.Stands.{Stands, progress, ended_by, reader, On, TakesLine}
+use Rattle.tables.proofs.Keys.{table_plain}
+use Rattle.readers.proofs.Stands.{step_shown, grown, Follows, last_in, stand_follows, LineTaken, answer_taken}
 
 -- ---- so many numbers and lines at most, and bytes enough for each number
-few-read : (p : Part) (s : Stand) → Counted p s → read_by p s ≤ mostNumbers
-few-read P.Board s h = omega arith
-few-read P.Tasks s h = omega arith
-few-read P.Switch s h = omega arith
-few-read P.Row s h = omega (arith, h.0, h.1)
-few-read P.Rank s h = omega (arith, h.0, h.1)
-few-read P.End s h = omega (arith, h.0, h.1)
+few_read : (p : Part) (s : Stand) → Counted p s → read_by p s ≤ most_numbers
+few_read P.Board s h = omega arith
+few_read P.Tasks s h = omega arith
+few_read P.Switch s h = omega arith
+few_read P.Row s h = omega (arith, h.0, h.1)
+few_read P.Rank s h = omega (arith, h.0, h.1)
+few_read P.End s h = omega (arith, h.0, h.1)
 
-bytes-enough : (p : Part) (s : Stand) → rowBytes * read_by p s ≤ fieldCount * (lineBytes * fewestLines p s)
-bytes-enough P.Board s = omega arith
-bytes-enough P.Tasks s = omega arith
-bytes-enough P.Switch s = omega arith
-bytes-enough P.Row s = omega arith
-bytes-enough P.Rank s = omega arith
-bytes-enough P.End s = omega arith
+bytes_enough : (p : Part) (s : Stand) → row_bytes * read_by p s ≤ field_count * (line_bytes * fewest_lines p s)
+bytes_enough P.Board s = omega arith
+bytes_enough P.Tasks s = omega arith
+bytes_enough P.Switch s = omega arith
+bytes_enough P.Row s = omega arith
+bytes_enough P.Rank s = omega arith
+bytes_enough P.End s = omega arith
 
 -- no more lines than numbers
-lines-few : (p : Part) (s : Stand) → mostLines p s ≤ read_by p s
-lines-few P.Board s = omega arith
-lines-few P.Tasks s = omega arith
-lines-few P.Switch s = omega arith
-lines-few P.Row s = omega arith
-lines-few P.Rank s = omega arith
-lines-few P.End s = omega arith
+lines_few : (p : Part) (s : Stand) → most_lines p s ≤ read_by p s
+lines_few P.Board s = omega arith
+lines_few P.Tasks s = omega arith
+lines_few P.Switch s = omega arith
+lines_few P.Row s = omega arith
+lines_few P.Rank s = omega arith
+lines_few P.End s = omega arith
 
 pub line_small : (text : List ℕ) (at : ℕ) (s : Stand) (k : ℕ) (ns : List ℕ) → Stands text at s k ns
-    → k ≤ suc mostNumbers
+    → k ≤ suc most_numbers
 line_small text at s k ns h =
-    omega (arith, h.most, lines-few s.part s, few-read s.part s h.counted)
+    omega (arith, h.most, lines_few s.part s, few_read s.part s h.counted)
 
 -- so many rows
-pub rows_few : (p : Part) (s : Stand) → Counted p s → s.count ≤ maxTasks
+pub rows_few : (p : Part) (s : Stand) → Counted p s → s.count ≤ max_tasks
 rows_few P.Board s h = omega (arith, h.1)
 rows_few P.Tasks s h = omega (arith, h.1)
 rows_few P.Switch s h = omega (arith, h.1)
@@ -71,39 +71,39 @@ rows_few P.Rank s h = h.1
 rows_few P.End s h = h.1
 
 -- ---- a number put behind those before it, and the switch of its row
-put-long : (last : Bool) (at switch v : ℕ) (ns : List ℕ) → length (with_number last at switch v ns) ≡ length ns
-put-long true at switch v ns = length-set (set ns at v) switch (switchIn (set ns at v)) ∙ length-set ns at v
-put-long false at switch v ns = length-set ns at v
+put_long : (last : Bool) (at switch v : ℕ) (ns : List ℕ) → length (with_number last at switch v ns) ≡ length ns
+put_long true at switch v ns = length-set (set ns at v) switch (switch_in (set ns at v)) ∙ length-set ns at v
+put_long false at switch v ns = length-set ns at v
 
 -- what is left standing between the two
 abbrev gap_of : ℕ → ℕ → List ℕ → List ℕ
 gap_of at switch ns = take (switch - suc at) (drop (suc at) ns)
 
-put-grown : (last : Bool) (at switch v : ℕ) (ns : List ℕ) → PutAt last at switch ns
+put_grown : (last : Bool) (at switch v : ℕ) (ns : List ℕ) → PutAt last at switch ns
     → let ms = grown last v (gap_of at switch ns) (take at ns) in
     take (length ms) (with_number last at switch v ns) ≡ ms
-put-grown false at switch v ns h =
+put_grown false at switch v ns h =
     let ws = take at ns in
     let long : length (ws ++ (v ∷ [])) ≡ suc at =
     length-append ws (v ∷ []) ∙ omega (arith, length-take-le at ns (omega (arith, h.here))) in
     ap (λ m. take m (set ns at v)) long ∙ take-suc-set ns at v h.here
-put-grown true at switch v ns h =
+put_grown true at switch v ns h =
     let (past, later, room) = h.behind refl in
     let ws = take at ns in
     let ms = set ns at v in
-    let sw = switchIn ms in
+    let sw = switch_in ms in
     let left = switch - suc at in
     let gap = gap_of at switch ns in
-    let gap-long : length gap ≡ left = length-take-le left (drop (suc at) ns) (omega (arith, length-drop (suc at) ns)) in
-    let long : length (ws ++ (v ∷ (gap ++ (switchIn ws ∷ [])))) ≡ suc switch =
-    length-append ws (v ∷ (gap ++ (switchIn ws ∷ []))) ∙ omega (
+    let gap_long : length gap ≡ left = length-take-le left (drop (suc at) ns) (omega (arith, length-drop (suc at) ns)) in
+    let long : length (ws ++ (v ∷ (gap ++ (switch_in ws ∷ [])))) ≡ suc switch =
+    length-append ws (v ∷ (gap ++ (switch_in ws ∷ []))) ∙ omega (
       arith,
       length-take-le at ns (omega (arith, h.here)),
-      length-append gap (switchIn ws ∷ []),
-      gap-long,
+      length-append gap (switch_in ws ∷ []),
+      gap_long,
     ) in
-    let same : sw ≡ switchIn ws =
-    get_or-set_other ns at headSwitchAt v 0 (λ e. omega (arith, e, past)) ∙ sym (get_or-take at ns headSwitchAt 0 past) in
+    let same : sw ≡ switch_in ws =
+    get_or-set_other ns at head_switch_at v 0 (λ e. omega (arith, e, past)) ∙ sym (get_or-take at ns head_switch_at 0 past) in
     let there : switch ≡ suc at + left = omega arith in
     let front : take switch ms ≡ (ws ++ (v ∷ [])) ++ gap =
     ap (λ m. take m ms) there
@@ -117,52 +117,52 @@ put-grown true at switch v ns h =
     ∙ ap (λ d. ws ++ (v ∷ (gap ++ (d ∷ [])))) same
 
 -- the last number of a row stands before its switch, and behind the head
-last-is : (p : Part) (s : Stand) (ns : List ℕ) (v : ℕ) → endsRow p s ns v ≡ lastIn p s (take (read_by p s) ns) v
-last-is P.Board s ns v = refl
-last-is P.Tasks s ns v = refl
-last-is P.Switch s ns v = refl
-last-is P.Row s ns v = refl
-last-is P.Rank s ns v = refl
-last-is P.End s ns v = refl
+last_is : (p : Part) (s : Stand) (ns : List ℕ) (v : ℕ) → ends_row p s ns v ≡ last_in p s (take (read_by p s) ns) v
+last_is P.Board s ns v = refl
+last_is P.Tasks s ns v = refl
+last_is P.Switch s ns v = refl
+last_is P.Row s ns v = refl
+last_is P.Rank s ns v = refl
+last_is P.End s ns v = refl
 
-abbrev switchOf : Stand → ℕ
-switchOf s = rowStart s.count + switchAt
+abbrev switch_of : Stand → ℕ
+switch_of s = row_start s.count + switch_at
 
 pub record LastStands (p : Part) (s : Stand) : Type 0 where
-  pub past : headSwitchAt < read_by p s
-  pub before : read_by p s < switchOf s
-  pub fills : s.position + suc (switchOf s - suc (read_by p s)) ≡ lineCount
+  pub past : head_switch_at < read_by p s
+  pub before : read_by p s < switch_of s
+  pub fills : s.position + suc (switch_of s - suc (read_by p s)) ≡ line_count
 
-last-stands : (p : Part) (s : Stand) (ns : List ℕ) (v : ℕ) → Counted p s → endsRow p s ns v ≡ true → LastStands p s
-last-stands P.Board s ns v h e = never e
-last-stands P.Tasks s ns v h e = never e
-last-stands P.Switch s ns v h e = never e
-last-stands P.Row s ns v h e =
+last_stands : (p : Part) (s : Stand) (ns : List ℕ) (v : ℕ) → Counted p s → ends_row p s ns v ≡ true → LastStands p s
+last_stands P.Board s ns v h e = never e
+last_stands P.Tasks s ns v h e = never e
+last_stands P.Switch s ns v h e = never e
+last_stands P.Row s ns v h e =
     record { past = omega arith; before = omega (arith, h.0); fills = omega (arith, h.0) }
-last-stands P.Rank s ns v h e = never e
-last-stands P.End s ns v h e = never e
+last_stands P.Rank s ns v h e = never e
+last_stands P.End s ns v h e = never e
 
 module _ (p : Progress) (text : List ℕ) (at k : ℕ) (ns : List ℕ) (h : Stands text at p.stand k ns) (l : Line)
     (is : l
-    ≡ tested (faultIn p.stand.part p.stand ns) (line_here p.stand.part p.stand.position text at k) k)
+    ≡ tested (fault_in p.stand.part p.stand ns) (line_here p.stand.part p.stand.position text at k) k)
   where
     abbrev s : Stand
     s = p.stand
 
     abbrev here : Stage
-    here = stageOf s ns
+    here = stage_of s ns
 
-    step_is : (x : Line) → l ≡ x → step (table s.ranked) text here at k ≡ onAnswer (table s.ranked) here k x
+    step_is : (x : Line) → l ≡ x → step (table s.ranked) text here at k ≡ on_answer (table s.ranked) here k x
     step_is x e =
-        step-shown s.ranked text at k s ns s.part h.long
-        ∙ ap (onAnswer (table s.ranked) here k) (sym is ∙ e)
+        step_shown s.ranked text at k s ns s.part h.long
+        ∙ ap (on_answer (table s.ranked) here k) (sym is ∙ e)
 
     -- ---- no number: the reading ends
-    pub takes-end : NoNumber l → (q : Progress) → q ≡ endedBy s l → TakesLine p text at k ns q ns
-    takes-end none q e =
+    pub takes_end : NoNumber l → (q : Progress) → q ≡ ended_by s l → TakesLine p text at k ns q ns
+    takes_end none q e =
         rw e
-        (ends_by reader (On s.ranked text) (table s.ranked) (table-plain s.ranked) text here at k l none
-        (step_is l refl) (endedBy s l, ns) refl refl refl refl (h.counted, h.long))
+        (ends_by reader (On s.ranked text) (table s.ranked) (table_plain s.ranked) text here at k l none
+        (step_is l refl) (ended_by s l, ns) refl refl refl refl (h.counted, h.long))
 
     -- ---- a number: the stage after it
     module _ (v next : ℕ) (e : l ≡ L.Number v next) where
@@ -170,43 +170,43 @@ module _ (p : Progress) (text : List ℕ) (at k : ℕ) (ns : List ℕ) (h : Stan
       ws = take (read_by s.part s) ns
 
       abbrev last : Bool
-      last = endsRow s.part s ns v
+      last = ends_row s.part s ns v
 
       abbrev there : Stand
-      there = standAfter s.part last s v
+      there = stand_after s.part last s v
 
       -- where its number is put, and where the switch of its row
-      abbrev here-at : ℕ
-      here-at = read_by s.part s
+      abbrev here_at : ℕ
+      here_at = read_by s.part s
 
       abbrev switch : ℕ
-      switch = switchOf s
+      switch = switch_of s
 
-      read-so-far : length ws ≡ read_by s.part s
-      read-so-far = length-take-le (read_by s.part s) ns h.long
+      read_so_far : length ws ≡ read_by s.part s
+      read_so_far = length-take-le (read_by s.part s) ns h.long
 
       line_taken : LineTaken s.part text at s.position v next
-      line_taken = answer-taken (faultIn s.part s ns) text at k v next s.part s h.counted (sym is ∙ e)
+      line_taken = answer_taken (fault_in s.part s ns) text at k v next s.part s h.counted (sym is ∙ e)
 
-      stands-last : last ≡ true → LastStands s.part s
-      stands-last = last-stands s.part s ns v h.counted
+      stands_last : last ≡ true → LastStands s.part s
+      stands_last = last_stands s.part s ns v h.counted
 
-      follows : (gap : List ℕ) → length gap ≡ switch - suc here-at
-          → Follows s.ranked (after s.ranked here v) (suc (fewestLines s.part s)) (suc (mostLines s.part s))
+      follows : (gap : List ℕ) → length gap ≡ switch - suc here_at
+          → Follows s.ranked (after s.ranked here v) (suc (fewest_lines s.part s)) (suc (most_lines s.part s))
           (length (grown last v gap ws)) there (grown last v gap ws)
       follows gap long =
-          let same = last-is s.part s ns v in
+          let same = last_is s.part s ns v in
           rw same
-          (stand-follows s.part s.ranked s.count s.left s.position ws gap v read-so-far h.counted
+          (stand_follows s.part s.ranked s.count s.left s.position ws gap v read_so_far h.counted
           h.going line_taken.taken
-          (λ t. omega (arith, long, (stands-last (same ∙ t)).fills)))
+          (λ t. omega (arith, long, (stands_last (same ∙ t)).fills)))
 
       -- there is room for it: for the numbers of any table, or for one for so many bytes
-      room-there : (gap : List ℕ) → length gap ≡ switch - suc here-at → length (grown last v gap ws) ≤ length ns
-      room-there gap long =
+      room_there : (gap : List ℕ) → length gap ≡ switch - suc here_at → length (grown last v gap ws) ≤ length ns
+      room_there gap long =
           let f = follows gap long in
           elim h.room [
-            | inl all ↦ omega (arith, all, few-read there.part there f.counted, f.read_is)
+            | inl all ↦ omega (arith, all, few_read there.part there f.counted, f.read_is)
             | inr each ↦
                 omega (
                   arith,
@@ -217,82 +217,82 @@ module _ (p : Progress) (text : List ℕ) (at k : ℕ) (ns : List ℕ) (h : Stan
                   line_taken.inside,
                   f.read_is,
                   f.fewest,
-                  bytes-enough there.part there,
+                  bytes_enough there.part there,
                 )
           ]
 
       -- whatever is left standing
       abbrev any : List ℕ
-      any = replicate (switch - suc here-at) 0
+      any = replicate (switch - suc here_at) 0
 
-      any-long : length any ≡ switch - suc here-at
-      any-long = length-replicate (switch - suc here-at) 0
+      any_long : length any ≡ switch - suc here_at
+      any_long = length-replicate (switch - suc here_at) 0
 
-      room-any : (b : Bool) → last ≡ b → length (grown b v any ws) ≤ length ns
-      room-any b same = subst (λ x. length (grown x v any ws) ≤ length ns) same (room-there any any-long)
+      room_any : (b : Bool) → last ≡ b → length (grown b v any ws) ≤ length ns
+      room_any b same = subst (λ x. length (grown x v any ws) ≤ length ns) same (room_there any any_long)
 
-      put-at : (b : Bool) → last ≡ b → PutAt b here-at switch ns
-      put-at true e =
-          let l = room-any true e in
-          let here = stands-last e in
-          let long = length-append ws (v ∷ (any ++ (switchIn ws ∷ []))) in
-          let more = length-append any (switchIn ws ∷ []) in
-          let many = any-long in
+      put_at : (b : Bool) → last ≡ b → PutAt b here_at switch ns
+      put_at true e =
+          let l = room_any true e in
+          let here = stands_last e in
+          let long = length-append ws (v ∷ (any ++ (switch_in ws ∷ []))) in
+          let more = length-append any (switch_in ws ∷ []) in
+          let many = any_long in
           record {
-            here = omega (arith, l, long, read-so-far);
+            here = omega (arith, l, long, read_so_far);
             behind = λ z.
-                (here.past, here.before, omega (arith, l, long, more, many, read-so-far, here.before));
+                (here.past, here.before, omega (arith, l, long, more, many, read_so_far, here.before));
           }
-      put-at false e =
+      put_at false e =
           record {
-            here = omega (arith, room-any false e, length-append ws (v ∷ []), read-so-far);
+            here = omega (arith, room_any false e, length-append ws (v ∷ []), read_so_far);
             behind = never;
           }
 
-      pub number-room : PutAt last here-at switch ns
-      number-room = put-at last refl
+      pub number_room : PutAt last here_at switch ns
+      number_room = put_at last refl
 
       -- what is left standing in its row
       abbrev gap : List ℕ
-      gap = gap_of here-at switch ns
+      gap = gap_of here_at switch ns
 
-      gap-long : (b : Bool) → last ≡ b → (length gap ≡ switch - suc here-at) ⊎ (b ≡ false)
-      gap-long true e =
-          let room = number-room.behind e in
-          inl (length-take-le (switch - suc here-at) (drop (suc here-at) ns)
-          (omega (arith, length-drop (suc here-at) ns, room.2)))
-      gap-long false e = inr refl
+      gap_long : (b : Bool) → last ≡ b → (length gap ≡ switch - suc here_at) ⊎ (b ≡ false)
+      gap_long true e =
+          let room = number_room.behind e in
+          inl (length-take-le (switch - suc here_at) (drop (suc here_at) ns)
+          (omega (arith, length-drop (suc here_at) ns, room.2)))
+      gap_long false e = inr refl
 
       -- the stage behind it, with the numbers as they are then
-      shown : Follows s.ranked (after s.ranked here v) (suc (fewestLines s.part s))
-          (suc (mostLines s.part s)) (length (grown last v gap ws)) there (grown last v gap ws)
-      shown = elim (gap-long last refl) [
+      shown : Follows s.ranked (after s.ranked here v) (suc (fewest_lines s.part s))
+          (suc (most_lines s.part s)) (length (grown last v gap ws)) there (grown last v gap ws)
+      shown = elim (gap_long last refl) [
         | inl long ↦ follows gap long
         | inr none ↦
             let same : grown last v any ws ≡ grown last v gap ws = rw none in
-            subst (λ xs. Follows s.ranked (after s.ranked here v) (suc (fewestLines s.part s))
-            (suc (mostLines s.part s)) (length xs) there xs) same
-            (follows any any-long)
+            subst (λ xs. Follows s.ranked (after s.ranked here v) (suc (fewest_lines s.part s))
+            (suc (most_lines s.part s)) (length xs) there xs) same
+            (follows any any_long)
       ]
 
       fits : length (grown last v gap ws) ≤ length ns
-      fits = elim (gap-long last refl) [
-        | inl long ↦ room-there gap long
+      fits = elim (gap_long last refl) [
+        | inl long ↦ room_there gap long
         | inr none ↦
             let same : grown last v any ws ≡ grown last v gap ws = rw none in
-            subst (λ xs. length xs ≤ length ns) same (room-there any any-long)
+            subst (λ xs. length xs ≤ length ns) same (room_there any any_long)
       ]
 
-      pub takes-number : (t : Stand) → t ≡ there → (ms : List ℕ) → ms ≡ with_number last here-at switch v ns
+      pub takes_number : (t : Stand) → t ≡ there → (ms : List ℕ) → ms ≡ with_number last here_at switch v ns
           → TakesLine p text at k ns (progress t false 0 (k + 1) next) ms
-      takes-number t same ms put =
-          let long = ap length put ∙ put-long last here-at switch v ns in
+      takes_number t same ms put =
+          let long = ap length put ∙ put_long last here_at switch v ns in
           let behind : take (read_by there.part there) ms ≡ grown last v gap ws =
-          ap₂ take shown.read_is put ∙ put-grown last here-at switch v ns number-room in
+          ap₂ take shown.read_is put ∙ put_grown last here_at switch v ns number_room in
           rw (same, step_is (L.Number v next) e) (
             refl,
             record {
-              shows = ap (stageIn there.part there) behind ∙ shown.shows;
+              shows = ap (stage_in there.part there) behind ∙ shown.shows;
               stands = (
                 shown.asked,
                 record {

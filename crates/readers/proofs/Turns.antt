@@ -9,21 +9,21 @@ use Rattle.grammars.specs.Grammars.{Verdict, step, read}
 use Rattle.grammars.specs.inside.Readers.{Takes}
 use Rattle.grammars.proofs.Loops as Loops
 use Rattle.readers.specs.declared.progress.Progress.{Progress}
-use Rattle.tables.specs.TableLines.{Stage, at-board, table}
+use Rattle.tables.specs.TableLines.{Stage, at_board, table}
 use Rattle.readers.specs.inside.Numbers.{Room}
-use Rattle.readers.specs.inside.Stands.{start, Stands, begun, stageOf, reader, On, TakesLine}
+use Rattle.readers.specs.inside.Stands.{start, Stands, begun, stage_of, reader, On, TakesLine}
 
 module _ (ranked : Bool) (text : List ℕ) where
   -- all that is to be read
   abbrev pub all : Verdict Stage
-  all = read (table ranked) at-board text
+  all = read (table ranked) at_board text
 
   -- where the loop is, with its measure, and after a turn
   abbrev pub Standing : Progress → List ℕ → ℕ → Type 0
-  Standing p ns left = Loops.Standing reader (On ranked text) (table ranked) at-board text (p, ns) left
+  Standing p ns left = Loops.Standing reader (On ranked text) (table ranked) at_board text (p, ns) left
 
   abbrev pub Next : ℕ → Progress → List ℕ → Type 0
-  Next left q ms = Loops.Next reader (On ranked text) (table ranked) at-board text left (q, ms)
+  Next left q ms = Loops.Next reader (On ranked text) (table ranked) at_board text left (q, ms)
 
   -- before the first line
   pub begins : (ns : List ℕ) → Room text ns → Standing (begun ranked) ns (suc (length text - 0))
@@ -45,5 +45,5 @@ module _ (ranked : Bool) (text : List ℕ) where
       (ms : List ℕ) → TakesLine p text p.offset p.line ns q ms → Next left q ms
   turn {p} {ns} here go q ms t =
       Loops.turn here go (q, ms)
-      (subst (λ b. Takes reader (On b text) (step (table b) text (stageOf p.stand ns) p.offset p.line) (q, ms))
+      (subst (λ b. Takes reader (On b text) (step (table b) text (stage_of p.stand ns) p.offset p.line) (q, ms))
       (Loops.going here go).stands.0 t)

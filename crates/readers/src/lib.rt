@@ -1,6 +1,6 @@
 // A table as text: what is read, and what is refused on which line.
 ghost use Rattle.std.specs.Prelude.{◌≡◌, ◌≤◌, leb, length};
-ghost use Rattle.readers.specs.inside.Numbers.{mostNumbers, bytesFor, Room};
+ghost use Rattle.readers.specs.inside.Numbers.{most_numbers, bytes_for, Room};
 ghost use Rattle.readers.specs.inside.Readings.{ReadAs};
 
 pub use progress::{Part, Progress, Stand, take_line};
@@ -35,8 +35,8 @@ pub const MANY_NUMBERS: usize = 320;
 
 // Whether a text is so short that some numbers are room enough for its table's.
 pub fn fits_in(text: &[u8], numbers: usize) -> bool
-    requires { numbers ≤ mostNumbers }
-    ensures { result ≡ leb (length text.now) (bytesFor numbers) }
+    requires { numbers ≤ most_numbers }
+    ensures { result ≡ leb (length text.now) (bytes_for numbers) }
 {
     text.len() <= ROW_BYTES * numbers / FIELDS
 }

@@ -1,11 +1,11 @@
 // The line that is expected: its key, its range, and the test of its number beside the range.
 ghost use Rattle.std.specs.Prelude.{◌≡◌, ◌+◌, ◌≤◌, ◌<◌, length};
 ghost use Rattle.grammars.specs.inside.Answers.{tested};
-ghost use Rattle.rows.specs.Rows.{maxTasks, firstPointAt, fullCost};
-ghost use Rattle.rows.specs.inside.Numbers.{lineCount};
-ghost use Rattle.tables.specs.TableLines.{at_most, laterDelay, lowerAllow, newTask, newRank};
-ghost use Rattle.readers.specs.inside.Numbers.{rowStart, rowsIn, behind};
-ghost use Rattle.readers.specs.inside.Stands.{rowLineTested, line_here, faultIn, Stands};
+ghost use Rattle.rows.specs.Rows.{max_tasks, first_point_at, full_cost};
+ghost use Rattle.rows.specs.inside.Numbers.{line_count};
+ghost use Rattle.tables.specs.TableLines.{at_most, later_delay, lower_allow, new_task, new_rank};
+ghost use Rattle.readers.specs.inside.Numbers.{row_start, rows_in, behind};
+ghost use Rattle.readers.specs.inside.Stands.{row_line_tested, line_here, fault_in, Stands};
 
 use super::progress::{Part, Stand};
 use super::{HEAD, HEAD_SWITCH};
@@ -49,7 +49,7 @@ fn at_most(limit: u64, answer: Line, line: u32) -> Line
 
 // A worst time that does not fit its period with the switch is refused.
 fn fits_period(period: u64, switch: u64, answer: Line, line: u32) -> Line
-    ensures { result ≡ tested (λ v. at_most period (fullCost v switch)) answer line }
+    ensures { result ≡ tested (λ v. at_most period (full_cost v switch)) answer line }
 {
     let Line::Number(value, _) = answer else {
         return answer;
@@ -62,7 +62,7 @@ fn fits_period(period: u64, switch: u64, answer: Line, line: u32) -> Line
 
 // A delay that is not above the one before it is refused.
 fn later_delay(before: u64, answer: Line, line: u32) -> Line
-    ensures { result ≡ tested (laterDelay before) answer line }
+    ensures { result ≡ tested (later_delay before) answer line }
 {
     let Line::Number(value, _) = answer else {
         return answer;
@@ -75,7 +75,7 @@ fn later_delay(before: u64, answer: Line, line: u32) -> Line
 
 // An allow that is above the one before it is refused.
 fn lower_allow(before: u64, answer: Line, line: u32) -> Line
-    ensures { result ≡ tested (lowerAllow before) answer line }
+    ensures { result ≡ tested (lower_allow before) answer line }
 {
     let Line::Number(value, _) = answer else {
         return answer;
@@ -88,8 +88,8 @@ fn lower_allow(before: u64, answer: Line, line: u32) -> Line
 
 // A task of one of the first rows is refused.
 fn new_task(numbers: &[u64], count: usize, answer: Line, line: u32) -> Line
-    requires { (count ≤ maxTasks) × (rowStart count ≤ length numbers.now) }
-    ensures { result ≡ tested (newTask (rowsIn count numbers.now)) answer line }
+    requires { (count ≤ max_tasks) × (row_start count ≤ length numbers.now) }
+    ensures { result ≡ tested (new_task (rows_in count numbers.now)) answer line }
 {
     let Line::Number(value, _) = answer else {
         return answer;
@@ -102,8 +102,8 @@ fn new_task(numbers: &[u64], count: usize, answer: Line, line: u32) -> Line
 
 // A rank is to name one of the rows, and none of the ranks before it.
 fn new_rank(numbers: &[u64], count: usize, named: usize, answer: Line, line: u32) -> Line
-    requires { (count ≤ maxTasks) × (rowStart count + named ≤ length numbers.now) }
-    ensures { result ≡ tested (newRank (rowsIn count numbers.now)
+    requires { (count ≤ max_tasks) × (row_start count + named ≤ length numbers.now) }
+    ensures { result ≡ tested (new_rank (rows_in count numbers.now)
         (behind count named numbers.now)) answer line }
 {
     let Line::Number(value, _) = answer else {
@@ -128,9 +128,9 @@ fn point_line(
     position: usize,
     numbers: &[u64],
 ) -> Line
-    requires first_point_at_le_position { (firstPointAt ≤ position) × (position < lineCount) × (count < maxTasks) }
-    requires position_in_bounds { rowStart count + position ≤ length numbers.now }
-    ensures { result ≡ rowLineTested count position numbers.now text.now at line }
+    requires first_point_at_le_position { (first_point_at ≤ position) × (position < line_count) × (count < max_tasks) }
+    requires position_in_bounds { row_start count + position ≤ length numbers.now }
+    ensures { result ≡ row_line_tested count position numbers.now text.now at line }
 {
     let before = HEAD + FIELDS * count + position - 2;
     let turn = position % 2;
@@ -161,9 +161,9 @@ fn row_line(
     position: usize,
     numbers: &[u64],
 ) -> Line
-    requires position_lt_line_count { (position < lineCount) × (count < maxTasks) }
-    requires position_in_bounds { rowStart count + position ≤ length numbers.now }
-    ensures { result ≡ rowLineTested count position numbers.now text.now at line }
+    requires position_lt_line_count { (position < line_count) × (count < max_tasks) }
+    requires position_in_bounds { row_start count + position ≤ length numbers.now }
+    ensures { result ≡ row_line_tested count position numbers.now text.now at line }
 {
     let start = HEAD + FIELDS * count;
     match position {
@@ -194,7 +194,7 @@ fn row_line(
 // The line that is expected, at an offset.
 pub fn expected_line(text: &[u8], at: usize, line: u32, stand: Stand, numbers: &[u64]) -> Line
     requires { Stands text.now at stand line numbers.now }
-    ensures { result ≡ tested (faultIn stand.part stand numbers.now)
+    ensures { result ≡ tested (fault_in stand.part stand numbers.now)
         (line_here stand.part stand.position text.now at line) line }
 {
     let part = stand.part;

@@ -1,12 +1,12 @@
 // How far the reading of a table has come, and what a line makes of it.
 ghost use Rattle.std.specs.Prelude.{◌≡◌, [], ◌∷◌, ◌++◌, ◌+◌, ◌≤◌, ◌<◌, length};
 ghost use Rattle.basics.specs.Basics.{pick};
-ghost use Rattle.rows.specs.Rows.{maxTasks};
-ghost use Rattle.rows.specs.inside.Numbers.{lineCount, switchAt, between};
+ghost use Rattle.rows.specs.Rows.{max_tasks};
+ghost use Rattle.rows.specs.inside.Numbers.{line_count, switch_at, between};
 ghost use Rattle.tables.specs.TableLines.{is_whole};
-ghost use Rattle.readers.specs.inside.Numbers.{rowStart};
-ghost use Rattle.readers.specs.inside.Stands.{begun, ranksNext, rowsNext, afterField, standAfter, Counted};
-ghost use Rattle.readers.specs.inside.Stands.{read_by, endsRow, PutAt, with_number, endedBy, Stands, TakesLine};
+ghost use Rattle.readers.specs.inside.Numbers.{row_start};
+ghost use Rattle.readers.specs.inside.Stands.{begun, ranks_next, rows_next, after_field, stand_after, Counted};
+ghost use Rattle.readers.specs.inside.Stands.{read_by, ends_row, PutAt, with_number, ended_by, Stands, TakesLine};
 
 use super::lines::expected_line;
 use super::{HEAD, HEAD_SWITCH};
@@ -71,7 +71,7 @@ impl Progress {
 
 // Where so many rank lines are left.
 fn ranks_next(ranked: bool, count: usize, named: usize, left: usize) -> Stand
-    ensures { result ≡ ranksNext ranked count named left }
+    ensures { result ≡ ranks_next ranked count named left }
 {
     if left == 0 {
         return Stand {
@@ -100,7 +100,7 @@ fn rank_lines(ranked: bool, tasks: usize) -> usize
 
 // Where so many rows are left.
 fn rows_next(ranked: bool, count: usize, left: usize) -> Stand
-    ensures { result ≡ rowsNext ranked count left }
+    ensures { result ≡ rows_next ranked count left }
 {
     if left == 0 {
         return ranks_next(ranked, count, 0, rank_lines(ranked, count));
@@ -117,7 +117,7 @@ fn rows_next(ranked: bool, count: usize, left: usize) -> Stand
 // Whether a number at a position of the row whose numbers begin at an index is its last: there are two lines for each
 // of its points, which the line `points` says.
 fn is_last(numbers: &[u64], start: usize, position: usize, value: u64) -> bool
-    requires { (position < lineCount) × (start + position ≤ length numbers.now) }
+    requires { (position < line_count) × (start + position ≤ length numbers.now) }
     ensures { result ≡ is_whole (between start position numbers.now ++ (value ∷ [])) }
 {
     if position < POINTS {
@@ -136,16 +136,16 @@ fn is_last(numbers: &[u64], start: usize, position: usize, value: u64) -> bool
 impl Stand {
     // How many numbers there are behind the head's: those of the whole rows, and the next.
     fn behind_head(self) -> usize
-        requires { (self.count ≤ maxTasks) × (self.position ≤ lineCount) }
-        ensures { result ≡ rowStart self.count + self.position }
+        requires { (self.count ≤ max_tasks) × (self.position ≤ line_count) }
+        ensures { result ≡ row_start self.count + self.position }
     {
         HEAD + FIELDS * self.count + self.position
     }
 
     // Where the switch of the row that is being read stands.
     fn switch_index(self) -> usize
-        requires { self.count ≤ maxTasks }
-        ensures { result ≡ rowStart self.count + switchAt }
+        requires { self.count ≤ max_tasks }
+        ensures { result ≡ row_start self.count + switch_at }
     {
         HEAD + FIELDS * self.count + SWITCH
     }
@@ -169,7 +169,7 @@ impl Stand {
     // Whether a number is the last of its row.
     fn ends_row(self, value: u64, numbers: &[u64]) -> bool
         requires { Counted self.part self × (read_by self.part self ≤ length numbers.now) }
-        ensures { result ≡ endsRow self.part self numbers.now value }
+        ensures { result ≡ ends_row self.part self numbers.now value }
     {
         let part = self.part;
         match part {
@@ -184,8 +184,8 @@ impl Stand {
 
     // Behind one more number of a row, its last or not.
     fn after_field(self, last: bool) -> Stand
-        requires { (self.position < lineCount) × (self.count < maxTasks) }
-        ensures { result ≡ afterField last self }
+        requires { (self.position < line_count) × (self.count < max_tasks) }
+        ensures { result ≡ after_field last self }
     {
         if last {
             return rows_next(self.ranked, self.count + 1, self.left);
@@ -202,7 +202,7 @@ impl Stand {
     // Behind a number.
     fn after(self, value: u64, last: bool) -> Stand
         requires { Counted self.part self }
-        ensures { result ≡ standAfter self.part last self value }
+        ensures { result ≡ stand_after self.part last self value }
     {
         let part = self.part;
         match part {
@@ -248,7 +248,7 @@ fn put_number(numbers: &mut [u64], at: usize, switch: usize, value: u64, last: b
 
 // The reading ends here: with no number, a line is the end of the text, or refused.
 fn ended_by(stand: Stand, answer: Line) -> Progress
-    ensures { result ≡ endedBy stand answer }
+    ensures { result ≡ ended_by stand answer }
 {
     let mut refused = 0;
     let mut line = 0;

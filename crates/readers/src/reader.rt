@@ -1,6 +1,6 @@
 // The reader walks the lent text line by line and remembers how far it has come.
 ghost use Rattle.grammars.specs.Grammars.{read};
-ghost use Rattle.tables.specs.TableLines.{table, at-board};
+ghost use Rattle.tables.specs.TableLines.{table, at_board};
 ghost use Rattle.readers.specs.inside.Numbers.{Room};
 ghost use Rattle.readers.specs.inside.Stands.{Ends};
 
@@ -17,7 +17,7 @@ pub struct Reader<'a> {
 // Reads a table line by line, each number behind those before it.
 pub fn read_lines(text: &[u8], ranked: bool, numbers: &mut [u64]) -> Progress
     requires { Room text.now numbers.old }
-    ensures { Ends (read (table ranked) at-board text.now) result numbers.new }
+    ensures { Ends (read (table ranked) at_board text.now) result numbers.new }
 {
     let mut r = Reader {
         text,

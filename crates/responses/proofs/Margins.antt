@@ -14,13 +14,13 @@ use mir.Val.{to_z, of_z, SFits}
 use mir.Facts.{to_z_pos, to_z-of_z}
 use Rattle.basics.proofs.Tests.{test_of}
 use Rattle.curves.proofs.Floors.{sub_is}
-use Rattle.rows.specs.Rows.{maxTicks, maxAlpha, maxBeta}
+use Rattle.rows.specs.Rows.{max_ticks, max_alpha, max_beta}
 
 -- both numbers that a margin is the difference of fit a signed integer
-pub margin-parts-fit : (alpha beta w e : ℕ) → alpha ≤ maxAlpha → beta ≤ maxBeta → w ≤ maxTicks → e ≤ w
+pub margin_parts_fit : (alpha beta w e : ℕ) → alpha ≤ max_alpha → beta ≤ max_beta → w ≤ max_ticks → e ≤ w
     → (beta < 2 ^ 63) × (1000 * e + alpha * (w - e) < 2 ^ 63)
-margin-parts-fit alpha beta w e la lb a b =
-    let m = mul-le-mul {n₁ = alpha} {m₁ = w - e} {n₂ = maxAlpha} {m₂ = maxTicks} la (omega arith) in
+margin_parts_fit alpha beta w e la lb a b =
+    let m = mul-le-mul {n₁ = alpha} {m₁ = w - e} {n₂ = max_alpha} {m₂ = max_ticks} la (omega arith) in
     (omega (arith, lb), omega (arith, m))
 
 sub_small : (a b m : ℕ) → a < m → b ≤ m → mag (sub_ℕ a b) < m

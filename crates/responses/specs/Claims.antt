@@ -5,17 +5,17 @@
 use Rattle.std.specs.Prelude.{◌≡◌, true, false, ℕ, ◌+◌, ◌*◌, ◌≤◌, ◌<◌, length, pos, ◌-ℤ◌}
 use mathlib.Core.List.{List, [], map, Perm}
 use Rattle.basics.specs.Basics.{pick}
-use Rattle.curves.specs.Curves.{whole, permitted, lastDelay, curveMargin}
+use Rattle.curves.specs.Curves.{whole, permitted, last_delay, curve_margin}
 use Rattle.curves.specs.Claims.{AtMost, Permits, Margined}
-use Rattle.rows.specs.Rows.{cost, row_at, withSwitch, withCurve, OneSwitch, in_range, timesInRange, all_rows}
+use Rattle.rows.specs.Rows.{cost, row_at, with_switch, with_curve, OneSwitch, in_range, times_in_range, all_rows}
 use Rattle.rows.specs.Rows.{Row}
-use Rattle.rows.specs.Numbers.{fieldCount, rows_of, row_in}
+use Rattle.rows.specs.Numbers.{field_count, rows_of, row_in}
 use Rattle.responses.specs.declared.Figures.{Figures}
-use Rattle.responses.specs.Interference.{Load, load, ceiling, leastFixed, largestFixed}
-use Rattle.responses.specs.Figures.{rows_above, rowsBelow}
-use Rattle.responses.specs.Figures.{worstIn, bestIn, blocking, latest, isLate}
-use Rattle.responses.specs.Figures.{mayHold, earliest, jitter}
-use Rattle.responses.specs.Figures.{margin, isStable, inLimits, noFigures, figuresOf}
+use Rattle.responses.specs.Interference.{Load, load, ceiling, least_fixed, largest_fixed}
+use Rattle.responses.specs.Figures.{rows_above, rows_below}
+use Rattle.responses.specs.Figures.{worst_in, best_in, blocking, latest, is_late}
+use Rattle.responses.specs.Figures.{may_hold, earliest, jitter}
+use Rattle.responses.specs.Figures.{margin, is_stable, in_limits, no_figures, figures_of}
 
 -- k is a / p rounded up: the fewest periods that cover a
 pub record RoundsUp (a p k : ℕ) : Type 0 where
@@ -33,36 +33,36 @@ pub record Figured (t : Row) (above below : List Row) : Type 0 where
   -- the rows below block it for the largest hold among them less 1, or not at all
   pub blocked : Blocks below (blocking below)
   -- W solves its equation within the period, and is the least that does; a task with no such W is late
-  pub latest-fixed :
-      isLate t above below ≡ false
+  pub latest_fixed :
+      is_late t above below ≡ false
       → let w = latest t above below in
-      (w ≡ cost t + blocking below + worstIn w above) × (1 ≤ w) × (w ≤ t.period)
-  pub latest-least :
-      (w : ℕ) → 1 ≤ w → w ≡ cost t + blocking below + worstIn w above → w ≤ t.period
-      → (isLate t above below ≡ false) × (latest t above below ≤ w)
+      (w ≡ cost t + blocking below + worst_in w above) × (1 ≤ w) × (w ≤ t.period)
+  pub latest_least :
+      (w : ℕ) → 1 ≤ w → w ≡ cost t + blocking below + worst_in w above → w ≤ t.period
+      → (is_late t above below ≡ false) × (latest t above below ≤ w)
   -- E of a task that holds the processor for no more than a tick solves its equation from 1 to W, and is the largest
   -- that does
-  pub earliest-fixed :
-      t.hold ≤ 1 → isLate t above below ≡ false
+  pub earliest_fixed :
+      t.hold ≤ 1 → is_late t above below ≡ false
       → let e = earliest t above below in
-      (e ≡ t.best + bestIn e above) × (1 ≤ e) × (e ≤ latest t above below)
-  pub earliest-largest :
-      (e : ℕ) → t.hold ≤ 1 → isLate t above below ≡ false
-      → 1 ≤ e → e ≤ latest t above below → e ≡ t.best + bestIn e above
+      (e ≡ t.best + best_in e above) × (1 ≤ e) × (e ≤ latest t above below)
+  pub earliest_largest :
+      (e : ℕ) → t.hold ≤ 1 → is_late t above below ≡ false
+      → 1 ≤ e → e ≤ latest t above below → e ≡ t.best + best_in e above
       → e ≤ earliest t above below
   -- that of any other is its best time
-  pub earliest-held : 2 ≤ t.hold → earliest t above below ≡ t.best
-  pub jitter-is :
-      isLate t above below ≡ false → earliest t above below + jitter t above below ≡ latest t above below
+  pub earliest_held : 2 ≤ t.hold → earliest t above below ≡ t.best
+  pub jitter_is :
+      is_late t above below ≡ false → earliest t above below + jitter t above below ≡ latest t above below
 
 -- two lists of rows above, and two of rows below, give a task the same figures
 pub record SameFigures (t : Row) (above above' below below' : List Row) : Type 0 where
   pub latest-same : latest t above below ≡ latest t above' below'
-  pub earliest-same : earliest t above below ≡ earliest t above' below'
-  pub jitter-same : jitter t above below ≡ jitter t above' below'
-  pub margin-same : margin t above below ≡ margin t above' below'
-  pub late-same : isLate t above below ≡ isLate t above' below'
-  pub stable-same : isStable t above below ≡ isStable t above' below'
+  pub earliest_same : earliest t above below ≡ earliest t above' below'
+  pub jitter_same : jitter t above below ≡ jitter t above' below'
+  pub margin_same : margin t above below ≡ margin t above' below'
+  pub late_same : is_late t above below ≡ is_late t above' below'
+  pub stable_same : is_stable t above below ≡ is_stable t above' below'
 
 -- the figures depend on which rows are above and which below, and not on their sequence
 abbrev pub BySet : Type 0
@@ -83,68 +83,68 @@ spent t above below = 1000 * earliest t above below + t.alpha * jitter t above b
 
 -- by its line: document 01's condition
 pub record ByLine (t : Row) (above below : List Row) : Type 0 where
-  pub margin-is : margin t above below ≡ pos t.beta -ℤ pos (spent t above below)
-  pub stable-only :
-      isStable t above below ≡ true → (isLate t above below ≡ false) × (spent t above below ≤ t.beta)
-  pub stable-if : isLate t above below ≡ false → spent t above below ≤ t.beta → isStable t above below ≡ true
+  pub margin_is : margin t above below ≡ pos t.beta -ℤ pos (spent t above below)
+  pub stable_only :
+      is_stable t above below ≡ true → (is_late t above below ≡ false) × (spent t above below ≤ t.beta)
+  pub stable_if : is_late t above below ≡ false → spent t above below ≤ t.beta → is_stable t above below ≡ true
 
 -- by its curve: E is at or below the last delay, and the jitter at or below what is permitted at E, as fractions and
 -- not by the rounded margin
 pub record ByCurve (t : Row) (above below : List Row) : Type 0 where
   pub permits : Permits t.curve
-  pub margin-is : margin t above below ≡ curveMargin t.curve (latest t above below) (earliest t above below)
+  pub margin_is : margin t above below ≡ curve_margin t.curve (latest t above below) (earliest t above below)
   pub margined : Margined t.curve (latest t above below) (earliest t above below)
-  pub stable-only :
-      isStable t above below ≡ true
-      → (isLate t above below ≡ false) × (earliest t above below ≤ lastDelay t.curve)
+  pub stable_only :
+      is_stable t above below ≡ true
+      → (is_late t above below ≡ false) × (earliest t above below ≤ last_delay t.curve)
       × AtMost (whole (jitter t above below)) (permitted t.curve (earliest t above below))
-  pub stable-if :
-      isLate t above below ≡ false → earliest t above below ≤ lastDelay t.curve
+  pub stable_if :
+      is_late t above below ≡ false → earliest t above below ≤ last_delay t.curve
       → AtMost (whole (jitter t above below)) (permitted t.curve (earliest t above below))
-      → isStable t above below ≡ true
+      → is_stable t above below ≡ true
 
 -- with no points its line holds, and its curve otherwise
 pub record ByCondition (t : Row) (above below : List Row) : Type 0 where
-  pub by-line : length t.curve ≡ 0 → ByLine t above below
-  pub by-curve : 1 ≤ length t.curve → ByCurve t above below
+  pub by_line : length t.curve ≡ 0 → ByLine t above below
+  pub by_curve : 1 ≤ length t.curve → ByCurve t above below
 
 -- a curve counts for its own task alone, and for nothing of it but margin and stable
 abbrev pub uncurved : List Row → List Row
-uncurved rows = map (withCurve []) rows
+uncurved rows = map (with_curve []) rows
 
 pub record CurveCounts (t : Row) (above below : List Row) : Type 0 where
   pub others : SameFigures t above (uncurved above) below (uncurved below)
-  pub latest-same : latest t above below ≡ latest (withCurve [] t) above below
-  pub earliest-same : earliest t above below ≡ earliest (withCurve [] t) above below
-  pub late-same : isLate t above below ≡ isLate (withCurve [] t) above below
+  pub latest-same : latest t above below ≡ latest (with_curve [] t) above below
+  pub earliest_same : earliest t above below ≡ earliest (with_curve [] t) above below
+  pub late_same : is_late t above below ≡ is_late (with_curve [] t) above below
 
 abbrev pub OwnCurve : Type 0
 OwnCurve = (t : Row) (above below : List Row) → CurveCounts t above below
 
 -- ---- W and E by the numbers of the rows: the switch stands beside each `worst`, and nowhere else
-abbrev pub switchedLoad : Row → Load
-switchedLoad r = load r.period (r.worst + r.switch)
+abbrev pub switched_load : Row → Load
+switched_load r = load r.period (r.worst + r.switch)
 
-abbrev pub shortestLoad : Row → Load
-shortestLoad r = load r.period r.best
+abbrev pub shortest_load : Row → Load
+shortest_load r = load r.period r.best
 
 pub record ByNumbers (t : Row) (above below : List Row) : Type 0 where
-  pub latest-by :
-      latest t above below ≡ leastFixed (t.worst + t.switch + blocking below) t.period (map switchedLoad above)
-  pub earliest-by :
+  pub latest_by :
+      latest t above below ≡ least_fixed (t.worst + t.switch + blocking below) t.period (map switched_load above)
+  pub earliest_by :
       earliest t above below
-      ≡ pick (mayHold t) t.best
-      (largestFixed t.best (latest t above below) (map shortestLoad above))
+      ≡ pick (may_hold t) t.best
+      (largest_fixed t.best (latest t above below) (map shortest_load above))
 
 -- ---- where a switch costs nothing: the figures as request 2 has them
-abbrev pub plainLoad : Row → Load
-plainLoad r = load r.period r.worst
+abbrev pub plain_load : Row → Load
+plain_load r = load r.period r.worst
 
 pub record AsRequest2 (t : Row) (above below : List Row) : Type 0 where
-  pub latest-then : latest t above below ≡ leastFixed (t.worst + blocking below) t.period (map plainLoad above)
-  pub earliest-then :
+  pub latest_then : latest t above below ≡ least_fixed (t.worst + blocking below) t.period (map plain_load above)
+  pub earliest_then :
       earliest t above below
-      ≡ pick (mayHold t) t.best (largestFixed t.best (latest t above below) (map shortestLoad above))
+      ≡ pick (may_hold t) t.best (largest_fixed t.best (latest t above below) (map shortest_load above))
 
 abbrev pub NoSwitch : List Row → Type 0
 NoSwitch rows = OneSwitch 0 rows
@@ -154,9 +154,9 @@ WithoutSwitch = (t : Row) (above below : List Row) → t.switch ≡ 0 → NoSwit
 
 -- ---- document 01's figures: no task is delayed by those below it, and E is that of its equation for every task
 pub record AsDocument01 (t : Row) (above below : List Row) : Type 0 where
-  pub latest-then : latest t above below ≡ leastFixed t.worst t.period (map plainLoad above)
-  pub earliest-then :
-      earliest t above below ≡ largestFixed t.best (latest t above below) (map shortestLoad above)
+  pub latest_then : latest t above below ≡ least_fixed t.worst t.period (map plain_load above)
+  pub earliest_then :
+      earliest t above below ≡ largest_fixed t.best (latest t above below) (map shortest_load above)
 
 -- no job of some rows may hold the processor past a tick
 abbrev pub NoneHolds : List Row → Type 0
@@ -171,19 +171,19 @@ WithoutEither =
 -- ---- under a switch that is no less a late task stays late; of one that is not late there W does not fall and E is
 -- the same, and where it is stable there, it is stable here
 abbrev pub switched : ℕ → List Row → List Row
-switched s rows = map (withSwitch s) rows
+switched s rows = map (with_switch s) rows
 
 pub record Grows (t : Row) (above below : List Row) (s : ℕ) : Type 0 where
-  pub late-stays :
-      isLate t above below ≡ true → isLate (withSwitch s t) (switched s above) (switched s below) ≡ true
-  pub latest-grows :
-      isLate (withSwitch s t) (switched s above) (switched s below) ≡ false
-      → latest t above below ≤ latest (withSwitch s t) (switched s above) (switched s below)
-  pub earliest-stays :
-      isLate (withSwitch s t) (switched s above) (switched s below) ≡ false
-      → earliest t above below ≡ earliest (withSwitch s t) (switched s above) (switched s below)
-  pub stable-before :
-      isStable (withSwitch s t) (switched s above) (switched s below) ≡ true → isStable t above below ≡ true
+  pub late_stays :
+      is_late t above below ≡ true → is_late (with_switch s t) (switched s above) (switched s below) ≡ true
+  pub latest_grows :
+      is_late (with_switch s t) (switched s above) (switched s below) ≡ false
+      → latest t above below ≤ latest (with_switch s t) (switched s above) (switched s below)
+  pub earliest_stays :
+      is_late (with_switch s t) (switched s above) (switched s below) ≡ false
+      → earliest t above below ≡ earliest (with_switch s t) (switched s above) (switched s below)
+  pub stable_before :
+      is_stable (with_switch s t) (switched s above) (switched s below) ≡ true → is_stable t above below ≡ true
 
 -- no row has a greater switch
 abbrev pub SwitchUpTo : ℕ → List Row → Type 0
@@ -191,44 +191,44 @@ SwitchUpTo s rows = (i : ℕ) → i < length rows → (row_at rows i).switch ≤
 
 abbrev pub SwitchGrows : Type 0
 SwitchGrows =
-    (t : Row) (above below : List Row) (s : ℕ) → in_range t ≡ true → all_rows timesInRange above ≡ true
+    (t : Row) (above below : List Row) (s : ℕ) → in_range t ≡ true → all_rows times_in_range above ≡ true
     → t.switch ≤ s → SwitchUpTo s above → Grows t above below s
 
 pub record Demand-2 : Type 0 where
-  pub rounds-up : (a p : ℕ) → 1 ≤ p → RoundsUp a p (ceiling a p)
+  pub rounds_up : (a p : ℕ) → 1 ≤ p → RoundsUp a p (ceiling a p)
   pub figured :
       (t : Row) (above below : List Row)
-      → timesInRange t ≡ true → all_rows timesInRange above ≡ true → Figured t above below
-  pub by-numbers : (t : Row) (above below : List Row) → ByNumbers t above below
-  pub without-switch : WithoutSwitch
-  pub without-either : WithoutEither
-  pub switch-grows : SwitchGrows
+      → times_in_range t ≡ true → all_rows times_in_range above ≡ true → Figured t above below
+  pub by_numbers : (t : Row) (above below : List Row) → ByNumbers t above below
+  pub without_switch : WithoutSwitch
+  pub without_either : WithoutEither
+  pub switch_grows : SwitchGrows
   pub by_condition : (t : Row) (above below : List Row) → in_range t ≡ true → ByCondition t above below
-  pub own-curve : OwnCurve
+  pub own_curve : OwnCurve
 
 -- ---- what a call that answers a row's figures promises
 pub record FiguresSay (t : Row) (above below : List Row) (x : Figures) : Type 0 where
-  pub answer : x ≡ figuresOf t above below
+  pub answer : x ≡ figures_of t above below
   -- demand 2, of these very rows, each with its own switch
-  pub by-formulas : inLimits t above below ≡ true → Figured t above below
-  pub by_condition : inLimits t above below ≡ true → ByCondition t above below
-  pub by-numbers : ByNumbers t above below
+  pub by_formulas : in_limits t above below ≡ true → Figured t above below
+  pub by_condition : in_limits t above below ≡ true → ByCondition t above below
+  pub by_numbers : ByNumbers t above below
   -- under a greater switch no W falls and no E changes
-  pub switch-grows :
-      inLimits t above below ≡ true → (s : ℕ) → t.switch ≤ s → SwitchUpTo s above → Grows t above below s
+  pub switch_grows :
+      in_limits t above below ≡ true → (s : ℕ) → t.switch ≤ s → SwitchUpTo s above → Grows t above below s
   -- not by the sequence of the rows
-  pub any-sequence :
-      (above' below' : List Row) → Perm above above' → Perm below below' → x ≡ figuresOf t above' below'
+  pub any_sequence :
+      (above' below' : List Row) → Perm above above' → Perm below below' → x ≡ figures_of t above' below'
   -- by the rows below, where these are as much in the limits, no more than their blocking time
-  pub by-blocking :
-      (below' : List Row) → blocking below ≡ blocking below' → inLimits t above below ≡ inLimits t above below'
-      → x ≡ figuresOf t above below'
+  pub by_blocking :
+      (below' : List Row) → blocking below ≡ blocking below' → in_limits t above below ≡ in_limits t above below'
+      → x ≡ figures_of t above below'
 
 -- and one that takes the rows of an order as numbers, highest first: the figures of row i of n; where the numbers hold
 -- no such row, none
 pub record RowFigures (ns : List ℕ) (n i : ℕ) (x : Figures) : Type 0 where
   pub held :
-      fieldCount * n ≤ length ns → i < n
-      → FiguresSay (row_in ns i) (rows_above (rows_of n ns) i) (rowsBelow (rows_of n ns) i) x
-  pub not-held : length ns < fieldCount * n → x ≡ noFigures
-  pub no-such-row : n ≤ i → x ≡ noFigures
+      field_count * n ≤ length ns → i < n
+      → FiguresSay (row_in ns i) (rows_above (rows_of n ns) i) (rows_below (rows_of n ns) i) x
+  pub not_held : length ns < field_count * n → x ≡ no_figures
+  pub no_such_row : n ≤ i → x ≡ no_figures

@@ -3,89 +3,89 @@ use Rattle.std.specs.Prelude.{Bool, true, false, ◌&&◌, not, List, [], ◌∷
 use Rattle.std.proofs.Math.IntN.{sub_ℕ}
 use Rattle.std.specs.Int.Signed.{le_z}
 use Rattle.basics.specs.Basics.{pick, larger}
-use Rattle.curves.specs.Curves.{Point, curveMargin}
-use Rattle.rows.specs.Rows.{maxTasks, cost, in_range, all_rows}
+use Rattle.curves.specs.Curves.{Point, curve_margin}
+use Rattle.rows.specs.Rows.{max_tasks, cost, in_range, all_rows}
 use Rattle.rows.specs.Rows.{Row}
 use Rattle.responses.specs.declared.Figures.{Figures}
-use Rattle.responses.specs.Interference.{Load, load, interference, leastFixed, largestFixed}
+use Rattle.responses.specs.Interference.{Load, load, interference, least_fixed, largest_fixed}
 
 -- the rows above row i of an order and those below it, all highest first
 abbrev pub rows_above : List Row → ℕ → List Row
 rows_above order i = take i order
 
-abbrev pub rowsBelow : List Row → ℕ → List Row
-rowsBelow order i = drop (suc i) order
+abbrev pub rows_below : List Row → ℕ → List Row
+rows_below order i = drop (suc i) order
 
 -- what a row above takes at most and at least
-abbrev pub worstLoad : Row → Load
-worstLoad r = load r.period (cost r)
+abbrev pub worst_load : Row → Load
+worst_load r = load r.period (cost r)
 
-abbrev pub bestLoad : Row → Load
-bestLoad r = load r.period r.best
+abbrev pub best_load : Row → Load
+best_load r = load r.period r.best
 
 -- the interference of W's equation, and that of E's
-abbrev pub worstIn : ℕ → List Row → ℕ
-worstIn x above = interference 0 x (map worstLoad above)
+abbrev pub worst_in : ℕ → List Row → ℕ
+worst_in x above = interference 0 x (map worst_load above)
 
-abbrev pub bestIn : ℕ → List Row → ℕ
-bestIn x above = interference 1 x (map bestLoad above)
+abbrev pub best_in : ℕ → List Row → ℕ
+best_in x above = interference 1 x (map best_load above)
 
 -- the largest hold among some rows
-abbrev pub largestHold : List Row → ℕ
-largestHold [] = 0
-largestHold (r ∷ rs) = larger r.hold (largestHold rs)
+abbrev pub largest_hold : List Row → ℕ
+largest_hold [] = 0
+largest_hold (r ∷ rs) = larger r.hold (largest_hold rs)
 
 -- the ticks for which jobs of the rows below may delay a task (its blocking time): one stretch, less its first tick,
 -- which fell to the stretch's job by rank
 unfoldable pub blocking : List Row → ℕ
-blocking below = largestHold below - 1
+blocking below = largest_hold below - 1
 
 -- W, the worst-case response time; 0 where the task is late
 abbrev pub latest : Row → List Row → List Row → ℕ
-latest t above below = leastFixed (cost t + blocking below) t.period (map worstLoad above)
+latest t above below = least_fixed (cost t + blocking below) t.period (map worst_load above)
 
 -- late: misses its deadline, which is its period
-abbrev pub isLate : Row → List Row → List Row → Bool
-isLate t above below = eqb (latest t above below) 0
+abbrev pub is_late : Row → List Row → List Row → Bool
+is_late t above below = eqb (latest t above below) 0
 
 -- whether jobs of a row may keep the processor past the tick that falls to them by rank: a hold of 1 is that tick alone
-abbrev pub leastHold : ℕ
-leastHold = 2
+abbrev pub least_hold : ℕ
+least_hold = 2
 
-abbrev pub mayHold : Row → Bool
-mayHold r = leb leastHold r.hold
+abbrev pub may_hold : Row → Bool
+may_hold r = leb least_hold r.hold
 
 -- E, the best-case response time of a task that is not late; at most W. In a stretch of its own no task above counts
 abbrev pub earliest : Row → List Row → List Row → ℕ
 earliest t above below =
-    pick (mayHold t) t.best (largestFixed t.best (latest t above below) (map bestLoad above))
+    pick (may_hold t) t.best (largest_fixed t.best (latest t above below) (map best_load above))
 
 abbrev pub jitter : Row → List Row → List Row → ℕ
 jitter t above below = latest t above below - earliest t above below
 
 -- how far responses w and e are inside the stability line of alpha and beta (the linear stability condition)
-abbrev pub lineMargin : ℕ → ℕ → ℕ → ℕ → ℤ
-lineMargin alpha beta w e = sub_ℕ beta (1000 * e + alpha * (w - e))
+abbrev pub line_margin : ℕ → ℕ → ℕ → ℕ → ℤ
+line_margin alpha beta w e = sub_ℕ beta (1000 * e + alpha * (w - e))
 
 -- inside a curve, or with no points the line
-abbrev pub marginBy : List Point → ℕ → ℕ → ℕ → ℕ → ℤ
-marginBy [] alpha beta w e = lineMargin alpha beta w e
-marginBy (p ∷ ps) alpha beta w e = curveMargin (p ∷ ps) w e
+abbrev pub margin_by : List Point → ℕ → ℕ → ℕ → ℕ → ℤ
+margin_by [] alpha beta w e = line_margin alpha beta w e
+margin_by (p ∷ ps) alpha beta w e = curve_margin (p ∷ ps) w e
 
 -- inside the stability condition of a task
-abbrev pub marginAt : Row → ℕ → ℕ → ℤ
-marginAt t w e = marginBy t.curve t.alpha t.beta w e
+abbrev pub margin_at : Row → ℕ → ℕ → ℤ
+margin_at t w e = margin_by t.curve t.alpha t.beta w e
 
 abbrev pub margin : Row → List Row → List Row → ℤ
-margin t above below = marginAt t (latest t above below) (earliest t above below)
+margin t above below = margin_at t (latest t above below) (earliest t above below)
 
 -- stable: not late, and the stability condition holds
-abbrev pub isStable : Row → List Row → List Row → Bool
-isStable t above below = not (isLate t above below) && le_z (pos 0) (margin t above below)
+abbrev pub is_stable : Row → List Row → List Row → Bool
+is_stable t above below = not (is_late t above below) && le_z (pos 0) (margin t above below)
 
 -- ---- a row's figures as one answer: of rows out of range or too many, nothing; of a late row, that alone
-abbrev pub noFigures : Figures
-noFigures = record {
+abbrev pub no_figures : Figures
+no_figures = record {
   figured = false;
   late = false;
   worst = 0;
@@ -95,8 +95,8 @@ noFigures = record {
   stable = false;
 }
 
-abbrev pub lateFigures : Figures
-lateFigures = record {
+abbrev pub late_figures : Figures
+late_figures = record {
   figured = true;
   late = true;
   worst = 0;
@@ -107,8 +107,8 @@ lateFigures = record {
 }
 
 -- the figures of responses w and e with margin m
-abbrev pub figuresAt : ℕ → ℕ → ℤ → Figures
-figuresAt w e m = record {
+abbrev pub figures_at : ℕ → ℕ → ℤ → Figures
+figures_at w e m = record {
   figured = true;
   late = false;
   worst = w;
@@ -119,20 +119,20 @@ figuresAt w e m = record {
 }
 
 -- the figures of a row in range between rows in range
-abbrev pub figuresUnder : Row → List Row → List Row → Figures
-figuresUnder t above below =
-    pick (isLate t above below) lateFigures
-    (figuresAt (latest t above below) (earliest t above below) (margin t above below))
+abbrev pub figures_under : Row → List Row → List Row → Figures
+figures_under t above below =
+    pick (is_late t above below) late_figures
+    (figures_at (latest t above below) (earliest t above below) (margin t above below))
 
 -- the most rows beside a row of a table
-abbrev pub maxOthers : ℕ
-maxOthers = maxTasks - 1
+abbrev pub max_others : ℕ
+max_others = max_tasks - 1
 
 -- a row and the rows above and below it are in the limits of a table: each in range, and no more than it can have
-abbrev pub inLimits : Row → List Row → List Row → Bool
-inLimits t above below =
-    in_range t && (all_rows in_range above && (all_rows in_range below && leb (length above + length below) maxOthers))
+abbrev pub in_limits : Row → List Row → List Row → Bool
+in_limits t above below =
+    in_range t && (all_rows in_range above && (all_rows in_range below && leb (length above + length below) max_others))
 
 -- the answer for any rows
-abbrev pub figuresOf : Row → List Row → List Row → Figures
-figuresOf t above below = pick (inLimits t above below) (figuresUnder t above below) noFigures
+abbrev pub figures_of : Row → List Row → List Row → Figures
+figures_of t above below = pick (in_limits t above below) (figures_under t above below) no_figures

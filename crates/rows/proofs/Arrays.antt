@@ -6,39 +6,39 @@ use native.Mathlib.Omega.{arith}
 use native.Mathlib.Nat.{sub-zero, zero-sub, suc-sub-suc}
 use lib.ListN.{length, get_or, take, drop, set, replicate, length-append}
 use lib.Seq.{drop-cons, append_snoc, take-append_seam, set-append_seam}
-use Rattle.rows.specs.Rows.{maxTasks}
+use Rattle.rows.specs.Rows.{max_tasks}
 use Rattle.rows.specs.inside.Arrays.{padded, ranking, ranked}
 
-pub padded-front : {A : Type 0} (d : A) (xs : List A) → take (length xs) (padded d xs) ≡ xs
-padded-front d xs = take-append_seam xs (replicate (maxTasks - length xs) d)
+pub padded_front : {A : Type 0} (d : A) (xs : List A) → take (length xs) (padded d xs) ≡ xs
+padded_front d xs = take-append_seam xs (replicate (max_tasks - length xs) d)
 
 -- what is left of an array with nothing in it
-pub blank-left : {A : Type 0} (d : A) (n k : ℕ) → drop n (replicate k d) ≡ replicate (k - n) d
-blank-left d zero k = rw (sub-zero k)
-blank-left d (suc n) zero = rw (zero-sub (suc n))
-blank-left d (suc n) (suc k) = blank-left d n k ∙ ap (λ m. replicate m d) (sym (suc-sub-suc k n))
+pub blank_left : {A : Type 0} (d : A) (n k : ℕ) → drop n (replicate k d) ≡ replicate (k - n) d
+blank_left d zero k = rw (sub-zero k)
+blank_left d (suc n) zero = rw (zero-sub (suc n))
+blank_left d (suc n) (suc k) = blank_left d n k ∙ ap (λ m. replicate m d) (sym (suc-sub-suc k n))
 
-pub ranked-are : (tasks : List ℕ) → ranked (ranking tasks) ≡ tasks
-ranked-are tasks = padded-front 0 tasks
+pub ranked_are : (tasks : List ℕ) → ranked (ranking tasks) ≡ tasks
+ranked_are tasks = padded_front 0 tasks
 
-module _ {A : Type 0} (d x : A) (xs : List A) (h : length xs < maxTasks) where
+module _ {A : Type 0} (d x : A) (xs : List A) (h : length xs < max_tasks) where
   abbrev left : ℕ
-  left = maxTasks - length (xs ++ (x ∷ []))
+  left = max_tasks - length (xs ++ (x ∷ []))
 
-  one_less : maxTasks - length xs ≡ suc left
+  one_less : max_tasks - length xs ≡ suc left
   one_less = omega (arith, length-append xs (x ∷ []))
 
   -- one more after those at the front
-  pub padded-next : set (padded d xs) (length xs) x ≡ padded d (xs ++ (x ∷ []))
-  padded-next =
+  pub padded_next : set (padded d xs) (length xs) x ≡ padded d (xs ++ (x ∷ []))
+  padded_next =
       ap (λ n. set (xs ++ replicate n d) (length xs) x) one_less
       ∙ set-append_seam xs d (replicate left d) x
       ∙ sym (append_snoc xs x (replicate left d))
 
 -- one more written after those at the front of any array
-pub front-next : {A : Type 0} (d : A) (xs ys : List A) (k : ℕ) (x : A) → length xs ≡ k → k < length ys
+pub front_next : {A : Type 0} (d : A) (xs ys : List A) (k : ℕ) (x : A) → length xs ≡ k → k < length ys
     → set (xs ++ drop k ys) k x ≡ (xs ++ (x ∷ [])) ++ drop (suc k) ys
-front-next d xs ys k x many h =
+front_next d xs ys k x many h =
     ap₂ (λ l i. set (xs ++ l) i x) (drop-cons ys k d h) (sym many)
     ∙ set-append_seam xs (get_or ys k d) (drop (suc k) ys) x
     ∙ sym (append_snoc xs x (drop (suc k) ys))

@@ -1,7 +1,7 @@
 // A task's row: its limits, and rows and orders as numbers. What a row is stands in specs/Rows.antt.
 ghost use Rattle.std.specs.Prelude.{◌≡◌, ◌^◌, ◌<◌, leb};
-ghost use Rattle.rows.specs.Rows.{fullCost, numbersInRange, row};
-ghost use Rattle.rows.specs.inside.Records.{noRecord, recorded, checked};
+ghost use Rattle.rows.specs.Rows.{full_cost, numbers_in_range, row};
+ghost use Rattle.rows.specs.inside.Records.{no_record, recorded, checked};
 
 use basics::within;
 use curves::{ALLOW_MAX, ALLOW_MIN, DELAY_MAX, DELAY_MIN, POINTS_MAX, POINTS_MIN, well_formed};
@@ -14,7 +14,7 @@ pub use numbers::{
 // numbers.rt: rows and orders as numbers.
 mod numbers;
 
-// The most rows of a table. This and `maxTasks` in specs/Rows.antt are the two to change: every room follows from them.
+// The most rows of a table. This and `max_tasks` in specs/Rows.antt are the two to change: every room follows from them.
 pub const MAX_TASKS: usize = 16;
 
 // A task's row, as a record. Times are in ticks, alpha in thousandths, beta in thousandths of a tick. A job of it may keep
@@ -88,7 +88,7 @@ impl Row {
 
     // Whether a job of so many ticks at most, with the switch to it, fits a period.
     pub fn fits(worst: u64, switch: u64, period: u64) -> bool
-        ensures { result ≡ leb (fullCost worst switch) period }
+        ensures { result ≡ leb (full_cost worst switch) period }
     {
         if period < switch {
             return false;
@@ -107,7 +107,7 @@ impl Row {
         hold: u64,
         switch: u64,
     ) -> bool
-        ensures { result ≡ numbersInRange (row task period worst best alpha beta hold switch) }
+        ensures { result ≡ numbers_in_range (row task period worst best alpha beta hold switch) }
     {
         within(Row::TASK_MIN, Row::TASK_MAX, task)
             & within(Row::TICKS_MIN, Row::TICKS_MAX, period)
@@ -165,15 +165,15 @@ impl Row {
 
 // The most ticks that a job takes, with the switch to it.
 fn full_cost(worst: u64, switch: u64) -> u64
-    requires { fullCost worst switch < 2 ^ 64 }
-    ensures { result ≡ fullCost worst switch }
+    requires { full_cost worst switch < 2 ^ 64 }
+    ensures { result ≡ full_cost worst switch }
 {
     worst + switch
 }
 
 // What stands past the rows that count.
 fn no_row() -> Row
-    ensures { result ≡ noRecord }
+    ensures { result ≡ no_record }
 {
     Row {
         task: 0,

@@ -1,13 +1,13 @@
 // Rows and orders as numbers: of a row those of its lines come first, with room for the most points, and then the
 // switch; and row follows row.
 ghost use Rattle.std.specs.Prelude.{◌≡◌, ◌++◌, suc, ◌+◌, ◌*◌, ◌≤◌, ◌<◌, length, take, drop};
-ghost use Rattle.basics.specs.Basics.{isIn};
-ghost use Rattle.curves.specs.Curves.{maxPoints, wellFormed};
-ghost use Rattle.rows.specs.Rows.{maxTicks, maxTasks, cost, in_range, tasksOf, hasTask, position_of};
+ghost use Rattle.basics.specs.Basics.{is_in};
+ghost use Rattle.curves.specs.Curves.{max_points, well_formed};
+ghost use Rattle.rows.specs.Rows.{max_ticks, max_tasks, cost, in_range, tasks_of, has_task, position_of};
 ghost use Rattle.rows.specs.inside.Arrays.{ranking};
-ghost use Rattle.rows.specs.inside.Numbers.{lineCount, fieldCount, lineIn, switchIn, row_in, rows_of, positionsFor};
+ghost use Rattle.rows.specs.inside.Numbers.{line_count, field_count, line_in, switch_in, row_in, rows_of, positions_for};
 ghost use Rattle.rows.specs.inside.Numbers.{between, TaskNumbers};
-ghost use Rattle.rows.specs.inside.Records.{as_row, asRows, numbersRoom, CurvePut, RowPut, RowsPut};
+ghost use Rattle.rows.specs.inside.Records.{as_row, as_rows, numbers_room, CurvePut, RowPut, RowsPut};
 
 use super::{MAX_TASKS, Order, Row, full_cost};
 use curves::{MAX_POINTS, well_formed};
@@ -44,24 +44,24 @@ pub const NUMBERS: usize = FIELDS * MAX_TASKS;
 
 // The number of a line of row i.
 pub fn number_at(numbers: &[u64], i: usize, position: usize) -> u64
-    requires { (fieldCount * suc i ≤ length numbers.now) × (position < lineCount) }
-    ensures { result ≡ lineIn numbers.now i position }
+    requires { (field_count * suc i ≤ length numbers.now) × (position < line_count) }
+    ensures { result ≡ line_in numbers.now i position }
 {
     numbers[FIELDS * i + position]
 }
 
 // The switch of row i.
 fn switch_at(numbers: &[u64], i: usize) -> u64
-    requires { fieldCount * suc i ≤ length numbers.now }
-    ensures { result ≡ switchIn numbers.now i }
+    requires { field_count * suc i ≤ length numbers.now }
+    ensures { result ≡ switch_in numbers.now i }
 {
     numbers[FIELDS * i + SWITCH]
 }
 
 // Whether the curve of row i is well formed.
 fn curve_keeps(numbers: &[u64], i: usize) -> bool
-    requires { fieldCount * suc i ≤ length numbers.now }
-    ensures { result ≡ wellFormed (row_in numbers.now i).curve }
+    requires { field_count * suc i ≤ length numbers.now }
+    ensures { result ≡ well_formed (row_in numbers.now i).curve }
 {
     let points = number_at(numbers, i, POINTS);
     let first = FIELDS * i + FIRST_POINT;
@@ -70,7 +70,7 @@ fn curve_keeps(numbers: &[u64], i: usize) -> bool
 
 // Whether row i is in range.
 pub fn in_range_at(numbers: &[u64], i: usize) -> bool
-    requires { fieldCount * suc i ≤ length numbers.now }
+    requires { field_count * suc i ≤ length numbers.now }
     ensures { result ≡ in_range (row_in numbers.now i) }
 {
     let kept = Row::keeps(
@@ -88,7 +88,7 @@ pub fn in_range_at(numbers: &[u64], i: usize) -> bool
 
 // The most ticks that a job of row i takes.
 pub fn cost_at(numbers: &[u64], i: usize) -> u64
-    requires { (fieldCount * suc i ≤ length numbers.now) × (cost (row_in numbers.now i) ≤ maxTicks) }
+    requires { (field_count * suc i ≤ length numbers.now) × (cost (row_in numbers.now i) ≤ max_ticks) }
     ensures { result ≡ cost (row_in numbers.now i) }
 {
     full_cost(number_at(numbers, i, WORST), switch_at(numbers, i))
@@ -96,7 +96,7 @@ pub fn cost_at(numbers: &[u64], i: usize) -> u64
 
 // The most ticks for which a job of row i may keep the processor.
 pub fn hold_at(numbers: &[u64], i: usize) -> u64
-    requires { fieldCount * suc i ≤ length numbers.now }
+    requires { field_count * suc i ≤ length numbers.now }
     ensures { result ≡ (row_in numbers.now i).hold }
 {
     number_at(numbers, i, HOLD)
@@ -104,8 +104,8 @@ pub fn hold_at(numbers: &[u64], i: usize) -> u64
 
 // The numbers of a curve are put at an index.
 fn put_curve(numbers: &mut [u64; NUMBERS], at: usize, curve: [u64; CURVE])
-    requires { at + 2 * maxPoints ≤ numbersRoom }
-    ensures { CurvePut numbers.old at curve (2 * maxPoints) numbers.new }
+    requires { at + 2 * max_points ≤ numbers_room }
+    ensures { CurvePut numbers.old at curve (2 * max_points) numbers.new }
 {
     for k in 0..CURVE {
         numbers[at + k] = curve[k];
@@ -134,7 +134,7 @@ fn put_row(numbers: &mut [u64; NUMBERS], i: usize, row: Row)
 
 // The rows are put among the numbers, one after another: all of them if there is room for all.
 pub fn put_rows(rows: &[Row], numbers: &mut [u64; NUMBERS])
-    ensures { RowsPut (asRows rows.now) numbers.old numbers.new }
+    ensures { RowsPut (as_rows rows.now) numbers.old numbers.new }
 {
     let mut i = 0;
     while i < rows.len() {
@@ -145,8 +145,8 @@ pub fn put_rows(rows: &[Row], numbers: &mut [u64; NUMBERS])
 
 // Where a task stands among the first n rows; n where it does not.
 fn position_of(task: u16, rows: &[u64], n: usize) -> usize
-    requires { fieldCount * n ≤ length rows.now }
-    ensures { result ≡ position_of task (tasksOf (rows_of n rows.now)) }
+    requires { field_count * n ≤ length rows.now }
+    ensures { result ≡ position_of task (tasks_of (rows_of n rows.now)) }
 {
     let sought = task as u64;
     let mut i = 0;
@@ -161,9 +161,9 @@ fn position_of(task: u16, rows: &[u64], n: usize) -> usize
 
 // Where each of the first n tasks stands among the first n rows; n where one does not.
 pub fn positions_for(tasks: &[u16], rows: &[u64], n: usize, positions: &mut [usize])
-    requires { (n ≤ length tasks.now) × (fieldCount * n ≤ length rows.now) × (n ≤ length positions.old) }
+    requires { (n ≤ length tasks.now) × (field_count * n ≤ length rows.now) × (n ≤ length positions.old) }
     ensures { positions.new
-        ≡ positionsFor (take n tasks.now) (rows_of n rows.now)
+        ≡ positions_for (take n tasks.now) (rows_of n rows.now)
         ++ drop n positions.old }
 {
     let mut k = 0;
@@ -175,8 +175,8 @@ pub fn positions_for(tasks: &[u16], rows: &[u64], n: usize, positions: &mut [usi
 
 // Whether one of some rows, whose numbers begin at an index, has a task.
 pub fn has_task(numbers: &[u64], start: usize, count: usize, task: u64) -> bool
-    requires { (count ≤ maxTasks) × (start + fieldCount * count ≤ length numbers.now) }
-    ensures { result ≡ hasTask task (rows_of count (drop start numbers.now)) }
+    requires { (count ≤ max_tasks) × (start + field_count * count ≤ length numbers.now) }
+    ensures { result ≡ has_task task (rows_of count (drop start numbers.now)) }
 {
     let mut i = 0;
     while i < count {
@@ -191,7 +191,7 @@ pub fn has_task(numbers: &[u64], start: usize, count: usize, task: u64) -> bool
 // Whether a value is among some numbers from an index on.
 pub fn is_among(numbers: &[u64], start: usize, count: usize, value: u64) -> bool
     requires { start + count ≤ length numbers.now }
-    ensures { result ≡ isIn value (between start count numbers.now) }
+    ensures { result ≡ is_in value (between start count numbers.now) }
 {
     let end = start + count;
     let mut i = start;
@@ -206,7 +206,7 @@ pub fn is_among(numbers: &[u64], start: usize, count: usize, value: u64) -> bool
 
 // The order of some task numbers from an index on.
 pub fn order_at(numbers: &[u64], start: usize, count: usize) -> Order
-    requires count_le_max_tasks { (count ≤ maxTasks) × (start + count ≤ length numbers.now) }
+    requires count_le_max_tasks { (count ≤ max_tasks) × (start + count ≤ length numbers.now) }
     requires task_numbers { TaskNumbers (between start count numbers.now) }
     ensures { result ≡ ranking (between start count numbers.now) }
 {

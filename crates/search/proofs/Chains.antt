@@ -9,21 +9,21 @@ use native.Mathlib.Omega.{arith}
 use lib.ListN.{length, get_or, set, drop, replicate, length-append}
 use lib.Pow.{pow_pos}
 use Rattle.rows.specs.Rows.{Row}
-use Rattle.rows.specs.Rows.{maxTasks, in_range, row_at}
+use Rattle.rows.specs.Rows.{max_tasks, in_range, row_at}
 use Rattle.rows.specs.inside.Arrays.{ranking}
-use Rattle.rows.specs.inside.Numbers.{fieldCount, rows_of, row_in}
-use Rattle.rows.proofs.Tasks.{tasks-last}
-use Rattle.rows.proofs.Arrays.{blank-left, front-next}
-use Rattle.rows.proofs.RowNumbers.{rows-length, rows-at}
-use Rattle.orders.specs.Orders.{theOrder}
+use Rattle.rows.specs.inside.Numbers.{field_count, rows_of, row_in}
+use Rattle.rows.proofs.Tasks.{tasks_last}
+use Rattle.rows.proofs.Arrays.{blank_left, front_next}
+use Rattle.rows.proofs.RowNumbers.{rows_length, rows_at_lem}
+use Rattle.orders.specs.Orders.{the_order}
 use Rattle.search.specs.inside.Sets.{members, is_some, order_at, Known, Recorded}
 use Rattle.orders.specs.Stability.{stable}
-use Rattle.search.specs.inside.Search.{tasksIn, Lent, Chained, chainTasks}
-use Rattle.orders.proofs.Possible.{taken-length}
-use Rattle.search.proofs.Sets.{less-row, taken_at, no-members, all-members, some-member}
-use Rattle.search.proofs.LentRows.{small, a-set, row-held, ranged}
-use Rattle.search.proofs.Scan.{at-empty}
-use Rattle.search.proofs.Record.{says-lowest}
+use Rattle.search.specs.inside.Search.{tasks_in, Lent, Chained, chain_tasks}
+use Rattle.orders.proofs.Possible.{taken_length}
+use Rattle.search.proofs.Sets.{less_row, taken_at, no_members, all_members, some_member}
+use Rattle.search.proofs.LentRows.{small, a_set, row_held, ranged}
+use Rattle.search.proofs.Scan.{at_empty}
+use Rattle.search.proofs.Record.{says_lowest}
 
 -- ---- along the chain of a set that is not empty
 module _ (ns sets : List ℕ) where
@@ -33,47 +33,47 @@ module _ (ns sets : List ℕ) where
       0 < k →
       Chained ns sets k m →
       let i = get_or sets m 0 in
-      (i < maxTasks)
-      × (fieldCount * suc i ≤ length ns)
+      (i < max_tasks)
+      × (field_count * suc i ≤ length ns)
       × (in_range (row_in ns i) ≡ true)
       × (m / 2 ^ i % 2 ≡ 1)
       × Chained ns sets (k - 1) (m - 2 ^ i)
   row_of m zero l c = absurd (omega arith)
   row_of m (suc k) l c = let e : suc k - 1 ≡ k = omega arith in rw e c
 
-  pub chain_length : (k m : ℕ) → length (chainTasks ns sets k m) ≡ k
+  pub chain_length : (k m : ℕ) → length (chain_tasks ns sets k m) ≡ k
   chain_length zero m = refl
   chain_length (suc k) m =
       let i = get_or sets m 0 in
-      let above = chainTasks ns sets k (m - 2 ^ i) in
+      let above = chain_tasks ns sets k (m - 2 ^ i) in
       omega (arith, length-append above ((row_in ns i).task ∷ []), chain_length k (m - 2 ^ i))
 
   -- the lowest row's task goes below those of the rest, next in the array
-  pub chain-lowest :
+  pub chain_lowest :
       (m k : ℕ) (tasks filled : List ℕ) (task : ℕ) →
       0 < k →
       k ≤ length tasks →
       let i = get_or sets m 0 in
       task ≡ (row_in ns i).task →
-      filled ≡ chainTasks ns sets (k - 1) (m - 2 ^ i) ++ drop (k - 1) tasks →
-      set filled (k - 1) task ≡ chainTasks ns sets k m ++ drop k tasks
-  chain-lowest m zero tasks filled task l few is h = absurd (omega arith)
-  chain-lowest m (suc k) tasks filled task l few is h =
+      filled ≡ chain_tasks ns sets (k - 1) (m - 2 ^ i) ++ drop (k - 1) tasks →
+      set filled (k - 1) task ≡ chain_tasks ns sets k m ++ drop k tasks
+  chain_lowest m zero tasks filled task l few is h = absurd (omega arith)
+  chain_lowest m (suc k) tasks filled task l few is h =
       let e : suc k - 1 ≡ k = omega arith in
       let i = get_or sets m 0 in
-      let above = chainTasks ns sets k (m - 2 ^ i) in
+      let above = chain_tasks ns sets k (m - 2 ^ i) in
       rw (is, e)
       (ap (λ (l : List ℕ). set l k (row_in ns i).task) (rw e at h)
-      ∙ front-next 0 above tasks k (row_in ns i).task (chain_length k (m - 2 ^ i)) few)
+      ∙ front_next 0 above tasks k (row_in ns i).task (chain_length k (m - 2 ^ i)) few)
 
 -- in an array that had nothing in it, they are an order
-pub chain-order : (tasks filled : List ℕ) (n : ℕ) → n ≤ maxTasks → length tasks ≡ n
-    → filled ≡ tasks ++ drop n (replicate maxTasks 0)
+pub chain_order : (tasks filled : List ℕ) (n : ℕ) → n ≤ max_tasks → length tasks ≡ n
+    → filled ≡ tasks ++ drop n (replicate max_tasks 0)
     → record { tasks = filled; count = n } ≡ ranking tasks
-chain-order tasks filled n few many e =
+chain_order tasks filled n few many e =
     ap₂ (λ (l : List ℕ) (k : ℕ). record { tasks = l; count = k })
-    (e ∙ ap (λ (l : List ℕ). tasks ++ l) (blank-left 0 n maxTasks)
-    ∙ ap (λ (k : ℕ). tasks ++ replicate (maxTasks - k) 0) (sym many))
+    (e ∙ ap (λ (l : List ℕ). tasks ++ l) (blank_left 0 n max_tasks)
+    ∙ ap (λ (k : ℕ). tasks ++ replicate (max_tasks - k) 0) (sym many))
     (sym many)
 
 -- ---- the chain of a set that has an order, and is in the record
@@ -81,34 +81,34 @@ module _ (n : ℕ) (ns : List ℕ) (lent : Lent n ns) (sets : List ℕ) (rec : R
   abbrev table : List Row
   table = rows_of n ns
 
-  chain-of :
+  chain_of :
       (k m : ℕ) →
       length (members m table) ≡ k →
       m < 2 ^ n →
       Known stable table sets m →
       is_some (order_at stable table m) ≡ true →
-      Chained ns sets k m × (chainTasks ns sets k m ≡ tasksIn (order_at stable table m))
-  chain-of zero m e l h o = elim (ℕ_discrete m 0) [
+      Chained ns sets k m × (chain_tasks ns sets k m ≡ tasks_in (order_at stable table m))
+  chain_of zero m e l h o = elim (ℕ_discrete m 0) [
     | yes z ↦ (
       z,
-      sym (ap (λ (j : ℕ). tasksIn (order_at stable table j)) z ∙ ap tasksIn (at-empty theOrder stable table)),
+      sym (ap (λ (j : ℕ). tasks_in (order_at stable table j)) z ∙ ap tasks_in (at_empty the_order stable table)),
     )
-    | no z ↦ absurd (omega (arith, (some-member table m z (a-set lent m l)).1))
+    | no z ↦ absurd (omega (arith, (some_member table m z (a_set lent m l)).1))
   ]
-  chain-of (suc k) m e l h o =
+  chain_of (suc k) m e l h o =
       let i = get_or sets m 0 in
-      let some-row : m ≡ 0 → ⊥ =
-      λ z. omega (arith, ap (λ (j : ℕ). length (members j table)) z, ap length (no-members table)) in
-      let low = says-lowest stable table (small lent) m i (h some-row) o in
-      let row : i < n = omega (arith, low.in_table, rows-length n ns) in
-      let taken = taken_at 1 table i m (m - 2 ^ i) low.in_table (less-row i m low.in-set).0 in
-      let is = sym (rows-at n i ns row) in
-      let there = rec.closed m (a-set lent m l) low in
-      let rest = chain-of k (m - 2 ^ i) (omega (arith, taken-length taken)) (omega arith) there
-      (ap is_some low.above-is) in (
-        (omega (arith, row, lent.few), row-held lent i row, ranged lent i row, low.in-set, rest.0),
-        ap₂ (λ (ts : List ℕ) (r : Row). ts ++ (r.task ∷ [])) (rest.1 ∙ ap tasksIn low.above-is) is
-            ∙ sym (ap tasksIn low.order_is ∙ tasks-last low.above (row_at table i)),
+      let some_row : m ≡ 0 → ⊥ =
+      λ z. omega (arith, ap (λ (j : ℕ). length (members j table)) z, ap length (no_members table)) in
+      let low = says_lowest stable table (small lent) m i (h some_row) o in
+      let row : i < n = omega (arith, low.in_table, rows_length n ns) in
+      let taken = taken_at 1 table i m (m - 2 ^ i) low.in_table (less_row i m low.in_set).0 in
+      let is = sym (rows_at_lem n i ns row) in
+      let there = rec.closed m (a_set lent m l) low in
+      let rest = chain_of k (m - 2 ^ i) (omega (arith, taken_length taken)) (omega arith) there
+      (ap is_some low.above_is) in (
+        (omega (arith, row, lent.few), row_held lent i row, ranged lent i row, low.in_set, rest.0),
+        ap₂ (λ (ts : List ℕ) (r : Row). ts ++ (r.task ∷ [])) (rest.1 ∙ ap tasks_in low.above_is) is
+            ∙ sym (ap tasks_in low.order_is ∙ tasks_last low.above (row_at table i)),
       )
 
   -- of the whole table
@@ -117,9 +117,9 @@ module _ (n : ℕ) (ns : List ℕ) (lent : Lent n ns) (sets : List ℕ) (rec : R
       all ≡ 2 ^ n - 1 →
       Known stable table sets all →
       is_some (order_at stable table all) ≡ true →
-      Chained ns sets n all × (chainTasks ns sets n all ≡ tasksIn (order_at stable table all))
+      Chained ns sets n all × (chain_tasks ns sets n all ≡ tasks_in (order_at stable table all))
   chain all e =
-      let many = rows-length n ns in
+      let many = rows_length n ns in
       let whole : all ≡ 2 ^ length table - 1 = e ∙ ap (λ (k : ℕ). 2 ^ k - 1) (sym many) in
-      let full = ap (λ (m : ℕ). length (members m table)) whole ∙ ap length (all-members table) ∙ many in
-      chain-of n all full (omega (arith, pow_pos n))
+      let full = ap (λ (m : ℕ). length (members m table)) whole ∙ ap length (all_members table) ∙ many in
+      chain_of n all full (omega (arith, pow_pos n))

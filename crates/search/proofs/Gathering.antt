@@ -15,20 +15,20 @@ use lib.Seq.{take_all}
 use Rattle.basics.proofs.Tests.{and_both}
 use Rattle.rows.specs.Rows.{all_rows, row_at}
 use Rattle.rows.specs.Rows.{Row}
-use Rattle.rows.proofs.Limits.{head-passes, tail-passes}
-use Rattle.analysis.specs.inside.Columns.{withTimes, Filled}
-use Rattle.analysis.proofs.Filling.{filled_none, filled-over, filled-last}
-use Rattle.search.specs.inside.Sets.{keep, withBit, members}
+use Rattle.rows.proofs.Limits.{head_passes, tail_passes}
+use Rattle.analysis.specs.inside.Columns.{with_times, Filled}
+use Rattle.analysis.proofs.Filling.{filled_none, filled_over, filled_last}
+use Rattle.search.specs.inside.Sets.{keep, with_bit, members}
 use Rattle.search.specs.inside.Search.{Gathered}
-use Rattle.search.proofs.Sets.{halved-after, before-next}
+use Rattle.search.proofs.Sets.{halved_after, before_next}
 
 -- ---- the members of a set, and the others
-pub some-pass : (f : Row → Bool) (b m : ℕ) (rs : List Row) → all_rows f rs ≡ true → all_rows f (withBit b m rs) ≡ true
-some-pass f b m [] h = refl
-some-pass f b m (r ∷ rs) h =
-    let ih = some-pass f b (m / 2) rs (tail-passes f r rs h) in
+pub some_pass : (f : Row → Bool) (b m : ℕ) (rs : List Row) → all_rows f rs ≡ true → all_rows f (with_bit b m rs) ≡ true
+some_pass f b m [] h = refl
+some_pass f b m (r ∷ rs) h =
+    let ih = some_pass f b (m / 2) rs (tail_passes f r rs h) in
     elim (ℕ_discrete (m % 2) b) [
-      | yes e ↦ rw (eq-eqb (m % 2) b e) (and_both (f r) (all_rows f (withBit b (m / 2) rs)) (head-passes f r rs h) ih)
+      | yes e ↦ rw (eq-eqb (m % 2) b e) (and_both (f r) (all_rows f (with_bit b (m / 2) rs)) (head_passes f r rs h) ih)
       | no n ↦ rw (ne_eqb (m % 2) b n) ih
     ]
 
@@ -40,9 +40,9 @@ pub record Gathering (table : List Row) (m n : ℕ) (columns : List ℕ) (count 
   pub counted : length (members m (take j table)) ≡ count
   pub filled : Filled (members m (take j table)) n count columns
 
-pub gathering-none : (table : List Row) (m n : ℕ) (columns : List ℕ) → 3 * n ≤ length columns
+pub gathering_none : (table : List Row) (m n : ℕ) (columns : List ℕ) → 3 * n ≤ length columns
     → Gathering table m n columns 0 m 0
-gathering-none table m n columns room = record {
+gathering_none table m n columns room = record {
   few = omega arith;
   passed = omega arith;
   rest-is = omega arith;
@@ -58,32 +58,32 @@ module _ {table : List Row} {m n : ℕ} {columns : List ℕ} {count rest j : ℕ
     abbrev Put : ℕ → Type 0
     Put b =
         let rows = members m (take j table) ++ keep (eqb b 1) (row_at table j) [] in
-        (length rows ≡ count + b) × Filled rows n (count + b) (withTimes columns n count (row_at table j))
+        (length rows ≡ count + b) × Filled rows n (count + b) (with_times columns n count (row_at table j))
 
     put : (b : ℕ) → b < 2 → Put b
     put zero h =
         rw (add-zero count, append-nil (members m (take j table)))
-        (g.counted, filled-over g.filled (omega (arith, g.few)) (row_at table j))
+        (g.counted, filled_over g.filled (omega (arith, g.few)) (row_at table j))
     put (suc zero) h =
         rw (add-one count) (
           omega (arith, g.counted, length-append (members m (take j table)) (row_at table j ∷ [])),
-          filled-last g.filled g.counted (omega (arith, g.few)) (row_at table j),
+          filled_last g.filled g.counted (omega (arith, g.few)) (row_at table j),
         )
     put (suc (suc b)) h = absurd (omega arith)
 
-    pub gathering-next : (columns' : List ℕ) → columns' ≡ withTimes columns n count (row_at table j)
+    pub gathering_next : (columns' : List ℕ) → columns' ≡ with_times columns n count (row_at table j)
         → Gathering table m n columns' (count + rest % 2) (rest / 2) (suc j)
-    gathering-next columns' is =
+    gathering_next columns' is =
         let bit : rest % 2 < 2 = omega arith in
         let w = put (rest % 2) bit in
         let rows : members m (take (suc j) table)
         ≡ members m (take j table) ++ keep (eqb (rest % 2) 1) (row_at table j) [] =
-        before-next 1 table j m (omega arith)
+        before_next 1 table j m (omega arith)
         ∙ sym (ap (λ (k : ℕ). members m (take j table) ++ keep (eqb (k % 2) 1) (row_at table j) []) g.rest-is) in
         record {
           few = omega (arith, g.few, bit);
           passed = more;
-          rest-is = ap (λ (k : ℕ). k / 2) g.rest-is ∙ sym (halved-after m j);
+          rest-is = ap (λ (k : ℕ). k / 2) g.rest-is ∙ sym (halved_after m j);
           counted = ap length rows ∙ w.0;
           filled = rw (rows, is) w.1;
         }

@@ -12,21 +12,21 @@ use lib.Dec.{eqb}
 use lib.ListN.{get_or, set, length, length-set, replicate, length-replicate, get_or-replicate}
 use lib.Pow.{pow_mono}
 use lib.Seq.{get_or-set_same, get_or-set_other}
-use Rattle.rows.specs.Rows.{maxBuffer}
+use Rattle.rows.specs.Rows.{max_buffer}
 use Rattle.rows.specs.Rows.{Row}
-use Rattle.orders.specs.Orders.{theOrder}
+use Rattle.orders.specs.Orders.{the_order}
 use Rattle.search.specs.inside.Sets as S
-use Rattle.search.specs.inside.Sets.{hasBit, is_some, unknown, no_order}
-use Rattle.search.proofs.Scan.{at-empty}
+use Rattle.search.specs.inside.Sets.{has_bit, is_some, unknown, no_order}
+use Rattle.search.proofs.Scan.{at_empty}
 
 -- a record of the sets of k rows in which every byte says that its set isn't known, for no more than k rows
-pub fresh : {n k : ℕ} → n ≤ k → 2 ^ k ≤ maxBuffer → S.Fresh n (replicate (2 ^ k) unknown)
+pub fresh : {n k : ℕ} → n ≤ k → 2 ^ k ≤ max_buffer → S.Fresh n (replicate (2 ^ k) unknown)
 fresh {n} {k} few short =
     let fits : 2 ^ n ≤ 2 ^ k = pow_mono few in
     record {
       room = rw (length-replicate {A = ℕ} (2 ^ k) unknown) fits;
       short = rw (length-replicate {A = ℕ} (2 ^ k) unknown) short;
-      none-known = λ m l. get_or-replicate {A = ℕ} (2 ^ k) m unknown 0 (omega (arith, fits));
+      none_known = λ m l. get_or-replicate {A = ℕ} (2 ^ k) m unknown 0 (omega (arith, fits));
     }
 
 module _ (test : Row → List Row → List Row → Bool) (table : List Row) where
@@ -35,17 +35,17 @@ module _ (test : Row → List Row → List Row → Bool) (table : List Row) wher
 
   -- ---- when a row goes lowest
   module _ (m i : ℕ) where
-    pub goes-out : (m / 2 ^ i % 2 ≡ 1 → ⊥) → false ≡ S.goes test table m i
-    goes-out h = rw (ne_eqb (m / 2 ^ i % 2) 1 h)
+    pub goes_out : (m / 2 ^ i % 2 ≡ 1 → ⊥) → false ≡ S.goes test table m i
+    goes_out h = rw (ne_eqb (m / 2 ^ i % 2) 1 h)
 
-    pub goes-unfit : S.fits test table m i ≡ false → false ≡ S.goes test table m i
-    goes-unfit h = rw (h, and-false (hasBit m i))
+    pub goes_unfit : S.fits test table m i ≡ false → false ≡ S.goes test table m i
+    goes_unfit h = rw (h, and-false (has_bit m i))
 
     pub goes_none : order_at (m - 2 ^ i) ≡ none → false ≡ S.goes test table m i
     goes_none h =
         let b = S.fits test table m i in
-        sym (ap (λ (o : Option (List Row)). hasBit m i && (b && is_some o)) h
-        ∙ ap (λ (c : Bool). hasBit m i && c) (and-false b) ∙ and-false (hasBit m i))
+        sym (ap (λ (o : Option (List Row)). has_bit m i && (b && is_some o)) h
+        ∙ ap (λ (c : Bool). has_bit m i && c) (and-false b) ∙ and-false (has_bit m i))
 
     pub goes_then :
         m / 2 ^ i % 2 ≡ 1 →
@@ -55,9 +55,9 @@ module _ (test : Row → List Row → List Row → Bool) (table : List Row) wher
 
   -- ---- what a byte says
   module _ (few : length table < unknown) where
-    pub says-found : (m v : ℕ) → S.Says test table m v → not (eqb v no_order) ≡ is_some (order_at m)
-    says-found m v (inl s) = rw (eq-eqb v no_order s.0, s.1)
-    says-found m v (inr s) =
+    pub says_found : (m v : ℕ) → S.Says test table m v → not (eqb v no_order) ≡ is_some (order_at m)
+    says_found m v (inl s) = rw (eq-eqb v no_order s.0, s.1)
+    says_found m v (inr s) =
         let other : v ≡ no_order → ⊥ = λ e. omega (arith, s.in_table) in
         rw (ne_eqb v no_order other, s.order_is)
 
@@ -65,20 +65,20 @@ module _ (test : Row → List Row → List Row → Bool) (table : List Row) wher
     says_none m (inl s) = s.1
     says_none m (inr s) = absurd (omega (arith, s.in_table))
 
-    pub says-lowest : (m v : ℕ) → S.Says test table m v → is_some (order_at m) ≡ true → S.LowestIs test table m v
-    says-lowest m v (inl s) h = absurd (no-order (sym (ap is_some s.1) ∙ h))
+    pub says_lowest : (m v : ℕ) → S.Says test table m v → is_some (order_at m) ≡ true → S.LowestIs test table m v
+    says_lowest m v (inl s) h = absurd (no_order_lem (sym (ap is_some s.1) ∙ h))
       where
-        no-order : false ≡ true → ⊥
-        no-order e = let z : ◌≡◌ {A = ℕ} 0 1 = cc in omega arith
-    says-lowest m v (inr s) h = s
+        no_order_lem : false ≡ true → ⊥
+        no_order_lem e = let z : ◌≡◌ {A = ℕ} 0 1 = cc in omega arith
+    says_lowest m v (inr s) h = s
 
     -- ---- the record read and written
     module _ (sets : List ℕ) (rec : S.Recorded test table sets) where
       pub known : (m : ℕ) → m < 2 ^ length table → (get_or sets m 0 ≡ unknown → ⊥) → S.Says test table m (get_or sets m 0)
       known m l h = ⊎_elim (λ e. absurd (h e)) (λ s. s) (rec.entries m l)
 
-      pub known-none : (m : ℕ) → m < 2 ^ length table → get_or sets m 0 ≡ no_order → order_at m ≡ none
-      known-none m l e =
+      pub known_none : (m : ℕ) → m < 2 ^ length table → get_or sets m 0 ≡ no_order → order_at m ≡ none
+      known_none m l e =
           says_none m (subst (λ (v : ℕ). S.Says test table m v) e (known m l (λ q. omega arith)))
 
       -- byte v written for set m: the sets that the record has stay
@@ -105,33 +105,33 @@ module _ (test : Row → List Row → List Row → Bool) (table : List Row) wher
             ];
           }
 
-          pub settled-new : S.Settled test table m (set sets m v) (not (eqb v no_order))
-          settled-new = record {
+          pub settled_new : S.Settled test table m (set sets m v) (not (eqb v no_order))
+          settled_new = record {
             recorded = put;
             there = λ h. rw (get_or-set_same sets m v 0 (omega (arith, rec.room))) s;
-            found-is = says-found m v s;
+            found_is = says_found m v s;
           }
 
-      pub settled-old :
+      pub settled_old :
           (m : ℕ) →
           m < 2 ^ length table →
           (get_or sets m 0 ≡ unknown → ⊥) →
           S.Settled test table m sets (not (eqb (get_or sets m 0) no_order))
-      settled-old m l h =
+      settled_old m l h =
           let s = known m l h in
-          record { recorded = rec; there = λ z. s; found-is = says-found m (get_or sets m 0) s }
+          record { recorded = rec; there = λ z. s; found_is = says_found m (get_or sets m 0) s }
 
-      pub settled-empty : S.Settled test table 0 sets true
-      settled-empty = record {
+      pub settled_empty : S.Settled test table 0 sets true
+      settled_empty = record {
         recorded = rec;
         there = λ z. absurd (z refl);
-        found-is = sym (ap is_some (at-empty theOrder test table));
+        found_is = sym (ap is_some (at_empty the_order test table));
       }
 
     -- a record that has no set
     pub begun : (sets : List ℕ) → S.Fresh (length table) sets → S.Recorded test table sets
     begun sets f = record {
       room = f.room;
-      entries = λ k l. inl (f.none-known k l);
-      closed = λ k l low. absurd (omega (arith, low.in_table, f.none-known k l));
+      entries = λ k l. inl (f.none_known k l);
+      closed = λ k l low. absurd (omega (arith, low.in_table, f.none_known k l));
     }

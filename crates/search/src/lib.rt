@@ -1,14 +1,14 @@
 // The order of a table's tasks by the rule, found from the whole set down with a byte for each set.
 ghost use Rattle.std.specs.Prelude.{◌≡◌, [], ◌++◌, ◌*◌, ◌/◌, ◌%◌, ◌^◌, ◌≤◌, ◌<◌, length, drop};
-ghost use Rattle.rows.specs.Rows.{maxTasks};
+ghost use Rattle.rows.specs.Rows.{max_tasks};
 ghost use Rattle.rows.specs.inside.Arrays.{ranking};
 ghost use Rattle.rows.specs.inside.Numbers.{rows_of};
-ghost use Rattle.rows.specs.inside.Records.{asRows};
-ghost use Rattle.responses.specs.Figures.{largestHold, blocking};
+ghost use Rattle.rows.specs.inside.Records.{as_rows};
+ghost use Rattle.responses.specs.Figures.{largest_hold, blocking};
 ghost use Rattle.search.specs.inside.Sets.{others, fits, Fresh, Settled};
 ghost use Rattle.orders.specs.Stability.{stable};
 ghost use Rattle.search.specs.inside.Search.{Lent, Gathered, Searching, MayGo, LowestFound};
-ghost use Rattle.search.specs.inside.Search.{Chained, chainTasks, TableRows, Chooses};
+ghost use Rattle.search.specs.inside.Search.{Chained, chain_tasks, TableRows, Chooses};
 
 use analysis::{blocking_time, figures_under, put_times};
 use basics::larger;
@@ -30,7 +30,7 @@ const NO_ORDER: u8 = 255;
 
 // 2 to the power i.
 fn power(i: usize) -> usize
-    requires { i ≤ maxTasks }
+    requires { i ≤ max_tasks }
     ensures { result ≡ 2 ^ i }
 {
     1 << i
@@ -108,7 +108,7 @@ fn lowest(
     columns: &mut [u64],
 ) -> u8
     requires { Searching n rows.now m sets.old × (1 ≤ m) × (3 * n ≤ length columns.old)
-        × (largest ≡ largestHold (others m (rows_of n rows.now))) }
+        × (largest ≡ largest_hold (others m (rows_of n rows.now))) }
     ensures { LowestFound (rows_of n rows.now) m sets.new result }
 {
     let blocked = blocking_time(largest);
@@ -136,7 +136,7 @@ fn settled(
     columns: &mut [u64],
 ) -> bool
     requires { Searching n rows.now m sets.old × (3 * n ≤ length columns.old)
-        × (largest ≡ largestHold (others m (rows_of n rows.now))) }
+        × (largest ≡ largest_hold (others m (rows_of n rows.now))) }
     ensures { Settled stable (rows_of n rows.now) m sets.new result }
 {
     if m == 0 {
@@ -166,7 +166,7 @@ fn nothing() -> Order
 fn rebuild(rows: &[u64], n: usize, m: usize, sets: &[u8], tasks: &mut [u16])
     requires { (n ≤ length tasks.old) × (m < length sets.now) × Chained rows.now sets.now n m }
     ensures { tasks.new
-        ≡ chainTasks rows.now sets.now n m ++ drop n tasks.old }
+        ≡ chain_tasks rows.now sets.now n m ++ drop n tasks.old }
 {
     if 0 < n {
         let i = sets[m] as usize;
@@ -178,8 +178,8 @@ fn rebuild(rows: &[u64], n: usize, m: usize, sets: &[u8], tasks: &mut [u16])
 
 // The order of the n rows of set m, read off the record.
 fn read_off(rows: &[u64], n: usize, m: usize, sets: &[u8]) -> Order
-    requires { (n ≤ maxTasks) × (m < length sets.now) × Chained rows.now sets.now n m }
-    ensures { result ≡ ranking (chainTasks rows.now sets.now n m) }
+    requires { (n ≤ max_tasks) × (m < length sets.now) × Chained rows.now sets.now n m }
+    ensures { result ≡ ranking (chain_tasks rows.now sets.now n m) }
 {
     let mut tasks = [0u16; MAX_TASKS];
     rebuild(rows, n, m, sets, &mut tasks);
@@ -263,8 +263,8 @@ fn order_in(numbers: &[u64; NUMBERS], n: usize) -> Choice
 
 // The order of a table's rows by the rule.
 pub fn order_of(rows: &[Row]) -> Choice
-    requires { TableRows (asRows rows.now) }
-    ensures { Chooses (asRows rows.now) result }
+    requires { TableRows (as_rows rows.now) }
+    ensures { Chooses (as_rows rows.now) result }
 {
     let n = rows.len();
     let mut numbers = [0u64; NUMBERS];

@@ -3,8 +3,8 @@
 // must be printed.
 ghost use Rattle.std.specs.Prelude.{◌≡◌, ◌+◌, ◌≤◌, length};
 ghost use Rattle.basics.specs.Basics.{pick};
-ghost use Rattle.rows.specs.inside.Numbers.{lineCount, fieldCount};
-ghost use Rattle.readers.specs.inside.Numbers.{Room, rowStart};
+ghost use Rattle.rows.specs.inside.Numbers.{line_count, field_count};
+ghost use Rattle.readers.specs.inside.Numbers.{Room, row_start};
 
 use readers::{FEW_NUMBERS, HEAD, MOST_NUMBERS, fits_in, read_table};
 use rows::{FIELDS, FIRST_POINT, POINTS, Row, SWITCH};
@@ -41,7 +41,7 @@ fn print_numbers(numbers: &[u64], start: usize, end: usize)
 
 // How many lines a row has whose line `points` has a number: no more than the most.
 fn row_lines(points: u64) -> usize
-    ensures { result ≤ lineCount }
+    ensures { result ≤ line_count }
 {
     if Row::POINTS_MAX < points {
         return FIRST_POINT;
@@ -51,7 +51,7 @@ fn row_lines(points: u64) -> usize
 
 // The numbers of a row's lines and its switch, from an index on.
 fn print_row(numbers: &[u64], start: usize)
-    requires { start + fieldCount ≤ length numbers.now }
+    requires { start + field_count ≤ length numbers.now }
 {
     let lines = row_lines(numbers[start + POINTS]);
     print_numbers(numbers, start, start + lines);
@@ -60,7 +60,7 @@ fn print_row(numbers: &[u64], start: usize)
 
 // The board, the numbers of each row, and the ranks.
 fn print_table(numbers: &[u64], rows: usize, ranks: usize)
-    requires { rowStart rows + ranks ≤ length numbers.now }
+    requires { row_start rows + ranks ≤ length numbers.now }
 {
     print_next(numbers[0]);
     let mut i = 0;

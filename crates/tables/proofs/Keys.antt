@@ -3,16 +3,16 @@ use mathlib.Core.Path.{◌≡◌, refl}
 use mathlib.Core.Bool.{Bool, false}
 use Prim.Native.Nat.{ℕ}
 use lib.ListN.{length}
-use Rattle.basics.specs.Basics.{isIn}
-use Rattle.text.specs.Text.{lineFeed}
+use Rattle.basics.specs.Basics.{is_in}
+use Rattle.text.specs.Text.{line_feed}
 use Rattle.grammars.specs.Grammars.{Plain}
-use Rattle.rows.specs.Rows.{firstPointAt}
-use Rattle.tables.specs.TableLines.{RowLine, rowLineAt, at-board, at-tasks, at-switch, at_field, at-rank, at-end, table}
-use Rattle.tables.proofs.RowLines.{at_each, each-point}
+use Rattle.rows.specs.Rows.{first_point_at}
+use Rattle.tables.specs.TableLines.{RowLine, row_line_at, at_board, at_tasks, at_switch, at_field, at_rank, at-end, table}
+use Rattle.tables.proofs.RowLines.{at_each, each_point}
 
-key-plain : (i : ℕ) → isIn lineFeed (rowLineAt i).key ≡ false
-key-plain i =
-    let F : RowLine → Type 0 = λ l. isIn lineFeed l.key ≡ false in
+key_plain : (i : ℕ) → is_in line_feed (row_line_at i).key ≡ false
+key_plain i =
+    let F : RowLine → Type 0 = λ l. is_in line_feed l.key ≡ false in
     at_each F refl (
       refl,
       (
@@ -33,7 +33,7 @@ key-plain i =
                       refl,
                       (
                         refl,
-                        each-point F (λ at. refl) (λ at. refl) firstPointAt 7,
+                        each_point F (λ at. refl) (λ at. refl) first_point_at 7,
                       ),
                     ),
                   ),
@@ -45,10 +45,10 @@ key-plain i =
       ),
     ) i
 
-pub table-plain : (ranked : Bool) → Plain (table ranked)
-table-plain ranked at-board = refl
-table-plain ranked (at-tasks b) = refl
-table-plain ranked (at-switch n b) = refl
-table-plain ranked (at_field n b s rs vs) = key-plain (length vs)
-table-plain ranked (at-rank n b rs os) = refl
-table-plain ranked (at-end b rs os) = refl
+pub table_plain : (ranked : Bool) → Plain (table ranked)
+table_plain ranked at_board = refl
+table_plain ranked (at_tasks b) = refl
+table_plain ranked (at_switch n b) = refl
+table_plain ranked (at_field n b s rs vs) = key_plain (length vs)
+table_plain ranked (at_rank n b rs os) = refl
+table_plain ranked (at-end b rs os) = refl

@@ -9,41 +9,41 @@ use Rattle.text.specs.Buffers.{Wrote}
 use Rattle.text.specs.inside.Puts.{put, Put}
 
 -- the first of two texts has room where both have
-room-first : (at : ℕ) (t u o : List ℕ) → at + length (t ++ u) ≤ length o → at + length t ≤ length o
-room-first at t u o room = omega (arith, length-append t u)
+room_first : (at : ℕ) (t u o : List ℕ) → at + length (t ++ u) ≤ length o → at + length t ≤ length o
+room_first at t u o room = omega (arith, length-append t u)
 
 module _ (at : ℕ) (t u o : List ℕ) (room : at + length t ≤ length o) where
   front_length : length (take at o ++ t) ≡ at + length t
   front_length = simp (length-append, length-take) (omega arith)
 
-  front-stays : take (at + length t) (put at t o) ≡ take at o ++ t
-  front-stays = take_at (take at o ++ t) (drop (at + length t) o) (at + length t) front_length
+  front_stays : take (at + length t) (put at t o) ≡ take at o ++ t
+  front_stays = take_at (take at o ++ t) (drop (at + length t) o) (at + length t) front_length
 
-  rest-stays : drop (at + length t + length u) (put at t o) ≡ drop (at + length (t ++ u)) o
-  rest-stays =
+  rest_stays : drop (at + length t + length u) (put at t o) ≡ drop (at + length (t ++ u)) o
+  rest_stays =
       let long : at + length t + length u ≡ at + length (t ++ u) = omega (arith, length-append t u) in
       ap (λ k. drop (k + length u) (put at t o)) (sym front_length)
       ∙ drop-append-add (take at o ++ t) (drop (at + length t) o) (length u)
       ∙ drop-drop (length u) (at + length t) o
       ∙ ap (λ k. drop k o) long
 
-  put-put : put (at + length t) u (put at t o) ≡ put at (t ++ u) o
-  put-put = ap₂ (λ x y. x ++ u ++ y) front-stays rest-stays ∙ simp append_assoc
+  put_put : put (at + length t) u (put at t o) ≡ put at (t ++ u) o
+  put_put = ap₂ (λ x y. x ++ u ++ y) front_stays rest_stays ∙ simp append_assoc
 
 put_next : {t u o o₁ o₂ : List ℕ} {at m n : ℕ} → at + length (t ++ u) ≤ length o → Put t at o o₁ m → Put u m o₁ o₂ n
     → Put (t ++ u) at o o₂ n
 put_next {t} {u} {o} {at = at} room p q = record {
   ends = omega (arith, p.ends, q.ends, length-append t u);
-  holds = q.holds ∙ ap₂ (λ k l. put k u l) p.ends p.holds ∙ put-put at t u o (room-first at t u o room);
+  holds = q.holds ∙ ap₂ (λ k l. put k u l) p.ends p.holds ∙ put_put at t u o (room_first at t u o room);
 }
 
 pub nothing_is : (at : ℕ) (o : List ℕ) → put at [] o ≡ o
 nothing_is at o = rw (append-nil (take at o), add-zero at) (take-append-drop at o)
 
 -- a text put before a byte that is set is both
-pub put-set : (at : ℕ) (t o : List ℕ) (i x : ℕ) → i ≡ at + length t → i < length o
+pub put_set : (at : ℕ) (t o : List ℕ) (i x : ℕ) → i ≡ at + length t → i < length o
     → put at t (set o i x) ≡ put at (t ++ (x ∷ [])) o
-put-set at t o i x is room =
+put_set at t o i x is room =
     let front = take-set-le at o i x (omega arith) in
     let rest = ap (drop i) (set_split o i x room) ∙ drop_at (take i o) _ i (length-take-le i o (omega arith)) in
     let long : suc i ≡ at + length (t ++ (x ∷ [])) = omega (arith, length-append t (x ∷ [])) in
@@ -70,7 +70,7 @@ module _
     (g : Going all (t ∷ ts) at o m o₁)
   where
     pub fits_next : m + length t ≤ length o₁
-    fits_next = room-first m t (joined ts) o₁ g.room
+    fits_next = room_first m t (joined ts) o₁ g.room
 
     pub next : {o₂ : List ℕ} {n : ℕ} → Put t m o₁ o₂ n → Going all ts at o n o₂
     next {o₂} {n} p =
@@ -87,15 +87,15 @@ ends {m = m} {o₁ = o₁} g = g.ending record { ends = sym (add-zero m); holds 
 -- ---- from the start
 pub from_start : {t o o' : List ℕ} {n : ℕ} → Put t 0 o o' n → Wrote t o o' n
 from_start {t} {o} p = record {
-  long-is = p.ends ∙ zero-add (length t);
+  long_is = p.ends ∙ zero-add (length t);
   holds = p.holds ∙ ap (λ k. t ++ drop k o) (zero-add (length t));
 }
 
-pub wrote-front : {t o o' : List ℕ} {n : ℕ} → Wrote t o o' n → take n o' ≡ t
-wrote-front {t} {o} w = ap₂ take w.long-is w.holds ∙ take-append_seam t (drop (length t) o)
+pub wrote_front : {t o o' : List ℕ} {n : ℕ} → Wrote t o o' n → take n o' ≡ t
+wrote_front {t} {o} w = ap₂ take w.long_is w.holds ∙ take-append_seam t (drop (length t) o)
 
 -- so that a caller can lend the text as a part of the buffer
-pub wrote-counts : {t o o' : List ℕ} {n : ℕ} → Wrote t o o' n → IsPrefixLen n o'
-wrote-counts {t} {o} w =
+pub wrote_counts : {t o o' : List ℕ} {n : ℕ} → Wrote t o o' n → IsPrefixLen n o'
+wrote_counts {t} {o} w =
     let long = ap length w.holds ∙ length-append t (drop (length t) o) in
-    (omega (arith, w.long-is), w.long-is ∙ sym (ap length (wrote-front w)))
+    (omega (arith, w.long_is), w.long_is ∙ sym (ap length (wrote_front w)))

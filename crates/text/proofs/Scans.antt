@@ -2,71 +2,71 @@
 -- decides what the whole answers, so that one equation is the whole invariant.
 use Rattle.std.proofs.Common.{◌≡◌, ℕ, suc, ◌+◌, ◌-◌, ◌*◌, ◌<◌, ◌≤◌, false, eqb, List, [], ◌∷◌, length, get_or, take, drop, refl, inl, inr, arith, drop-cons, le-ltb, lt-ltb, eq-eqb, ne_eqb, le-leb}
 use borrow.Author.Tests.{lt-leb}
-use Rattle.basics.proofs.Tests.{test_of, true-within}
+use Rattle.basics.proofs.Tests.{test_of, true_within}
 use Rattle.text.specs.declared.Digits.TheVariants.{Malformed}
-use Rattle.text.specs.Text.{lineFeed, digitZero, digitNine}
-use Rattle.text.specs.Lines.{maxDigits, line_of, begins, digitsFrom, number_of}
+use Rattle.text.specs.Text.{line_feed, digit_zero, digit_nine}
+use Rattle.text.specs.Lines.{max_digits, line_of, begins, digits_from, number_of}
 
 -- ---- the first line, from an offset on
 module _ (s : List ℕ) (i : ℕ) (h : i < length s) where
-  pub line-ends : get_or s i 0 ≡ lineFeed → line_of (drop i s) ≡ []
-  line-ends e = rw (drop-cons s i 0 h, eq-eqb (get_or s i 0) lineFeed e, line_of)
+  pub line_ends : get_or s i 0 ≡ line_feed → line_of (drop i s) ≡ []
+  line_ends e = rw (drop-cons s i 0 h, eq-eqb (get_or s i 0) line_feed e, line_of)
 
-  pub line-goes-on : (get_or s i 0 ≡ lineFeed → ⊥) → line_of (drop i s) ≡ get_or s i 0 ∷ line_of (drop (suc i) s)
-  line-goes-on n = rw (drop-cons s i 0 h, ne_eqb (get_or s i 0) lineFeed n, line_of)
+  pub line_goes_on : (get_or s i 0 ≡ line_feed → ⊥) → line_of (drop i s) ≡ get_or s i 0 ∷ line_of (drop (suc i) s)
+  line_goes_on n = rw (drop-cons s i 0 h, ne_eqb (get_or s i 0) line_feed n, line_of)
 
 -- a line is the front of its text
-pub line-fits : (s : List ℕ) → length (line_of s) ≤ length s
-line-fits [] = omega arith
-line-fits (b ∷ s) =
-    elim (test_of (eqb b lineFeed)) [
+pub line_fits : (s : List ℕ) → length (line_of s) ≤ length s
+line_fits [] = omega arith
+line_fits (b ∷ s) =
+    elim (test_of (eqb b line_feed)) [
       | inl e ↦ rw (e, line_of) (omega arith)
-      | inr e ↦ rw (e, line_of) (omega (arith, line-fits s))
+      | inr e ↦ rw (e, line_of) (omega (arith, line_fits s))
     ]
 
 -- ---- a key, from an offset on
 module _ (key s : List ℕ) (i : ℕ) (h : i < length key) (g : i < length s) where
-  pub key-goes-on : get_or key i 0 ≡ get_or s i 0
+  pub key_goes_on : get_or key i 0 ≡ get_or s i 0
       → begins (drop i key) (drop i s) ≡ begins (drop (suc i) key) (drop (suc i) s)
-  key-goes-on e = rw (drop-cons key i 0 h, drop-cons s i 0 g, eq-eqb (get_or key i 0) (get_or s i 0) e)
+  key_goes_on e = rw (drop-cons key i 0 h, drop-cons s i 0 g, eq-eqb (get_or key i 0) (get_or s i 0) e)
 
-  pub key-differs : (get_or key i 0 ≡ get_or s i 0 → ⊥) → begins (drop i key) (drop i s) ≡ false
-  key-differs n = rw (drop-cons key i 0 h, drop-cons s i 0 g, ne_eqb (get_or key i 0) (get_or s i 0) n)
+  pub key_differs : (get_or key i 0 ≡ get_or s i 0 → ⊥) → begins (drop i key) (drop i s) ≡ false
+  key_differs n = rw (drop-cons key i 0 h, drop-cons s i 0 g, ne_eqb (get_or key i 0) (get_or s i 0) n)
 
-pub key-too-long : (key s : List ℕ) → length s < length key → begins key s ≡ false
-key-too-long [] s h = absurd (omega arith)
-key-too-long (x ∷ key) [] h = refl
-key-too-long (x ∷ key) (y ∷ s) h =
-    elim (test_of (eqb x y)) [ inl e ↦ rw e (key-too-long key s (omega arith)) | inr e ↦ rw e ]
+pub key_too_long : (key s : List ℕ) → length s < length key → begins key s ≡ false
+key_too_long [] s h = absurd (omega arith)
+key_too_long (x ∷ key) [] h = refl
+key_too_long (x ∷ key) (y ∷ s) h =
+    elim (test_of (eqb x y)) [ inl e ↦ rw e (key_too_long key s (omega arith)) | inr e ↦ rw e ]
 
 -- ---- a number's form
-pub number-empty : (s : List ℕ) → length s < 1 → number_of s ≡ Malformed
+pub number_empty : (s : List ℕ) → length s < 1 → number_of s ≡ Malformed
 unfolding number_of
-number-empty s h = simp (lt-leb 1 (length s) h)
+number_empty s h = simp (lt-leb 1 (length s) h)
 
-pub number-long : (s : List ℕ) → maxDigits < length s → number_of s ≡ Malformed
+pub number_long : (s : List ℕ) → max_digits < length s → number_of s ≡ Malformed
 unfolding number_of
-number-long s h = simp (le-leb 1 (length s) (omega arith), lt-leb (length s) maxDigits h)
+number_long s h = simp (le-leb 1 (length s) (omega arith), lt-leb (length s) max_digits h)
 
-module _ (s : List ℕ) (some : 1 ≤ length s) (few : length s ≤ maxDigits) where
-  pub number-leads : get_or s 0 0 ≡ digitZero → 1 < length s → number_of s ≡ Malformed
+module _ (s : List ℕ) (some : 1 ≤ length s) (few : length s ≤ max_digits) where
+  pub number_leads : get_or s 0 0 ≡ digit_zero → 1 < length s → number_of s ≡ Malformed
   unfolding number_of
-  number-leads e h =
+  number_leads e h =
       simp (
-        true-within 1 maxDigits (length s) some few,
-        eq-eqb (get_or s 0 0) digitZero e,
+        true_within 1 max_digits (length s) some few,
+        eq-eqb (get_or s 0 0) digit_zero e,
         lt-ltb 1 (length s) h,
       )
 
-  pub number-starts : (get_or s 0 0 ≡ digitZero → ⊥) → number_of s ≡ digitsFrom 0 s
+  pub number_starts : (get_or s 0 0 ≡ digit_zero → ⊥) → number_of s ≡ digits_from 0 s
   unfolding number_of
-  number-starts n =
-      simp (true-within 1 maxDigits (length s) some few, ne_eqb (get_or s 0 0) digitZero n)
+  number_starts n =
+      simp (true_within 1 max_digits (length s) some few, ne_eqb (get_or s 0 0) digit_zero n)
 
-  pub number-single : length s ≤ 1 → number_of s ≡ digitsFrom 0 s
+  pub number_single : length s ≤ 1 → number_of s ≡ digits_from 0 s
   unfolding number_of
-  number-single h =
-      elim (test_of (eqb (get_or s 0 0) digitZero)) [
-        | inl e ↦ simp (true-within 1 maxDigits (length s) some few, e, le-ltb 1 (length s) h)
-        | inr e ↦ simp (true-within 1 maxDigits (length s) some few, e)
+  number_single h =
+      elim (test_of (eqb (get_or s 0 0) digit_zero)) [
+        | inl e ↦ simp (true_within 1 max_digits (length s) some few, e, le-ltb 1 (length s) h)
+        | inr e ↦ simp (true_within 1 max_digits (length s) some few, e)
       ]

@@ -3,10 +3,10 @@
 use Rattle.std.specs.Prelude.{◌≡◌, ℕ, ◌^◌, ◌<◌, List}
 use Rattle.text.specs.declared.Digits.TheVariants.{Value}
 use Rattle.text.specs.Text.{decimal}
-use Rattle.text.specs.Lines.{maxDigits, number_of}
+use Rattle.text.specs.Lines.{max_digits, number_of}
 
 pub record Numerals : Type 0 where
   -- what is written reads back
-  pub reads-back : (v : ℕ) → v < 10 ^ maxDigits → number_of (decimal v) ≡ Value v
+  pub reads_back : (v : ℕ) → v < 10 ^ max_digits → number_of (decimal v) ≡ Value v
   -- and nothing else is read
-  pub one_way : (s : List ℕ) (v : ℕ) → number_of s ≡ Value v → (s ≡ decimal v) × (v < 10 ^ maxDigits)
+  pub one_way : (s : List ℕ) (v : ℕ) → number_of s ≡ Value v → (s ≡ decimal v) × (v < 10 ^ max_digits)

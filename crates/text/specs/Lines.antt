@@ -1,20 +1,20 @@
 -- One line of a text: a key, a number and a line feed, and what its reading answers.
 use Rattle.std.specs.Prelude.{ℕ, suc, ◌+◌, ◌-◌, ◌*◌, Bool, true, false, not, ◌&&◌, List, [], ◌∷◌, length, drop, ◌==◌, nat_lt, slice_index}
 use Rattle.basics.specs.Basics.{pick, within}
-use Rattle.text.specs.Text.{lineFeed, digitZero, digitNine}
+use Rattle.text.specs.Text.{line_feed, digit_zero, digit_nine}
 use Rattle.text.specs.declared.Digits.{Digits}
 use Rattle.text.specs.declared.Digits.TheVariants.{Value, Malformed}
 use Rattle.text.specs.declared.Line.{Line}
 use Rattle.text.specs.declared.Line.TheVariants as L
 
 -- a number's digits: 1 to 12
-abbrev pub maxDigits : ℕ
-maxDigits = 12
+abbrev pub max_digits : ℕ
+max_digits = 12
 
 -- the bytes before the first line feed, or all
 abbrev pub line_of : List ℕ → List ℕ
 line_of [] = []
-line_of (b ∷ s) = elim (b == lineFeed) [ true ↦ [] | false ↦ b ∷ line_of s ]
+line_of (b ∷ s) = elim (b == line_feed) [ true ↦ [] | false ↦ b ∷ line_of s ]
 
 -- a text begins with a key
 abbrev pub begins : List ℕ → List ℕ → Bool
@@ -23,17 +23,17 @@ begins (x ∷ key) [] = false
 begins (x ∷ key) (y ∷ s) = x == y && begins key s
 
 -- decimal digits after those that make v
-abbrev pub digitsFrom : ℕ → List ℕ → Digits
-digitsFrom v [] = Value v
-digitsFrom v (b ∷ s) =
-    elim (within digitZero digitNine b) [ true ↦ digitsFrom (10 * v + (b - digitZero)) s | false ↦ Malformed ]
+abbrev pub digits_from : ℕ → List ℕ → Digits
+digits_from v [] = Value v
+digits_from v (b ∷ s) =
+    elim (within digit_zero digit_nine b) [ true ↦ digits_from (10 * v + (b - digit_zero)) s | false ↦ Malformed ]
 
 -- 1 to 12 digits, no leading zero unless the number is 0 itself
-abbrev pub wellFormed : List ℕ → Bool
-wellFormed s = within 1 maxDigits (length s) && not (slice_index s 0 == digitZero && nat_lt 1 (length s))
+abbrev pub well_formed : List ℕ → Bool
+well_formed s = within 1 max_digits (length s) && not (slice_index s 0 == digit_zero && nat_lt 1 (length s))
 
 unfoldable pub number_of : List ℕ → Digits
-number_of s = pick (wellFormed s) (digitsFrom 0 s) Malformed
+number_of s = pick (well_formed s) (digits_from 0 s) Malformed
 
 -- the refusals that every line may meet: there is no such line, no number in it, or none in its range
 abbrev pub missing : ℕ
@@ -42,13 +42,13 @@ missing = 1
 abbrev pub malformed : ℕ
 malformed = 2
 
-abbrev pub outOfRange : ℕ
-outOfRange = 3
+abbrev pub out_of_range : ℕ
+out_of_range = 3
 
 -- a number in its range, with the offset after its line
 abbrev pub ranged : Digits → ℕ → ℕ → ℕ → ℕ → Line
 ranged Malformed low high k next = L.Refused malformed k
-ranged (Value v) low high k next = pick (within low high v) (L.Number v next) (L.Refused outOfRange k)
+ranged (Value v) low high k next = pick (within low high v) (L.Number v next) (L.Refused out_of_range k)
 
 -- the line k that begins at an offset of a text
 unfoldable pub line_at : List ℕ → ℕ → ℕ → List ℕ → ℕ → ℕ → Line

@@ -9,25 +9,25 @@ abbrev pub bytes : String → List ℕ
 bytes String.[] = []
 bytes (String.◌∷◌ c s) = code c ∷ bytes s
 
-abbrev pub lineFeed : ℕ
-lineFeed = 10
+abbrev pub line_feed : ℕ
+line_feed = 10
 
 -- quoted lines, each with its line feed
 abbrev pub lined : List String → List ℕ
 lined [] = []
-lined (s ∷ ss) = bytes s ++ (lineFeed ∷ lined ss)
+lined (s ∷ ss) = bytes s ++ (line_feed ∷ lined ss)
 
-abbrev pub digitZero : ℕ
-digitZero = 48
+abbrev pub digit_zero : ℕ
+digit_zero = 48
 
-abbrev pub digitNine : ℕ
-digitNine = 57
+abbrev pub digit_nine : ℕ
+digit_nine = 57
 
 -- v in decimal, the highest digit first and no leading zero; any fuel above v is enough
 unfoldable pub digits : ℕ → ℕ → List ℕ
 digits zero v = []
 digits (suc fuel) v =
-    elim (nat_lt v 10) [ true ↦ [] | false ↦ digits fuel (v / 10) ] ++ ((digitZero + v % 10) ∷ [])
+    elim (nat_lt v 10) [ true ↦ [] | false ↦ digits fuel (v / 10) ] ++ ((digit_zero + v % 10) ∷ [])
 
 unfoldable pub decimal : ℕ → List ℕ
 decimal v = digits (suc v) v
@@ -43,5 +43,5 @@ joined [] = []
 joined (t ∷ ts) = t ++ joined ts
 
 -- a key with its equals sign, a value, a line feed
-unfoldable pub keyLine : List ℕ → List ℕ → List ℕ
-keyLine key value = joined (key ∷ value ∷ (lineFeed ∷ []) ∷ [])
+unfoldable pub key_line : List ℕ → List ℕ → List ℕ
+key_line key value = joined (key ∷ value ∷ (line_feed ∷ []) ∷ [])

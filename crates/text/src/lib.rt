@@ -4,8 +4,8 @@
 mod writers;
 
 ghost use Rattle.std.specs.Prelude.{◌≡◌, ◌+◌, ◌*◌, ◌^◌, ◌<◌, false, ◌&&◌, length, ◌==◌, nat_lt, slice_index};
-ghost use Rattle.basics.specs.Basics.{isIn};
-ghost use Rattle.text.specs.Text.{lineFeed};
+ghost use Rattle.basics.specs.Basics.{is_in};
+ghost use Rattle.text.specs.Text.{line_feed};
 ghost use Rattle.text.specs.Lines.{line_of, begins, number_of};
 ghost use Rattle.text.specs.Lines.{line_at, end_at};
 ghost use Rattle.text.specs.inside.Fronts.{Fronts, unread};
@@ -111,7 +111,7 @@ fn digits_at(s: &[u8]) -> Front
 
 // Whether a line feed stands at an index.
 fn feed_at(s: &[u8], at: usize) -> bool
-    ensures { result ≡ nat_lt at (length s.now) && (slice_index s.now at == lineFeed) }
+    ensures { result ≡ nat_lt at (length s.now) && (slice_index s.now at == line_feed) }
 {
     if at < s.len() {
         return s[at] == b'\n';
@@ -152,7 +152,7 @@ fn goes_on(s: &[u8], line: u32) -> Line
 // The line that begins at an offset: a key, a number in its range, and a line feed. What is no longer than the key does
 // not hold it and a feed. As neither key nor digits have a feed, they are passed first, and it is sought only behind them.
 pub fn line_at(text: &[u8], offset: usize, line: u32, key: &[u8], low: u64, high: u64) -> Line
-    requires { isIn lineFeed key.now ≡ false }
+    requires { is_in line_feed key.now ≡ false }
     ensures { result ≡ line_at key.now low high text.now offset line }
 {
     if text.len() < offset {

@@ -1,6 +1,6 @@
 // Text out: each writer puts its text at an offset of a lent buffer and says where the text ends.
 ghost use Rattle.std.specs.Prelude.{◌≡◌, ◌+◌, ◌<◌, ◌≤◌, length, unsigned_abs};
-ghost use Rattle.text.specs.Text.{digitZero, decimal, signed, keyLine};
+ghost use Rattle.text.specs.Text.{digit_zero, decimal, signed, key_line};
 ghost use Rattle.text.specs.inside.Puts.{Put};
 
 pub fn put_bytes(out: &mut [u8], at: usize, text: &[u8]) -> usize
@@ -31,7 +31,7 @@ fn places(n: u64) -> usize
 // The byte of a digit.
 fn digit(d: u64) -> u8
     requires { d < 10 }
-    ensures { result ≡ digitZero + d }
+    ensures { result ≡ digit_zero + d }
 {
     b'0' + d as u8
 }
@@ -72,8 +72,8 @@ pub fn put_signed(out: &mut [u8], at: usize, z: i64) -> usize
 }
 
 pub fn put_line(out: &mut [u8], at: usize, key: &[u8], n: u64) -> usize
-    requires { at + length (keyLine key.now (decimal n)) ≤ length out.old }
-    ensures { Put (keyLine key.now (decimal n)) at out.old out.new result }
+    requires { at + length (key_line key.now (decimal n)) ≤ length out.old }
+    ensures { Put (key_line key.now (decimal n)) at out.old out.new result }
 {
     let at = put_bytes(out, at, key);
     let at = put_number(out, at, n);
@@ -81,8 +81,8 @@ pub fn put_line(out: &mut [u8], at: usize, key: &[u8], n: u64) -> usize
 }
 
 pub fn put_signed_line(out: &mut [u8], at: usize, key: &[u8], z: i64) -> usize
-    requires { at + length (keyLine key.now (signed z)) ≤ length out.old }
-    ensures { Put (keyLine key.now (signed z)) at out.old out.new result }
+    requires { at + length (key_line key.now (signed z)) ≤ length out.old }
+    ensures { Put (key_line key.now (signed z)) at out.old out.new result }
 {
     let at = put_bytes(out, at, key);
     let at = put_signed(out, at, z);

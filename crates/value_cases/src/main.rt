@@ -2,8 +2,8 @@
 // late. It is the planner's own search: how many values there are it says itself (`fixed_points::try_values`), and each is
 // found by its own first value and step.
 ghost use Rattle.std.specs.Prelude.{◌≡◌, true, ◌≤◌};
-ghost use Rattle.rows.specs.Rows.{maxTicks, maxSwitch};
-ghost use Rattle.fixed_points.specs.inside.Loads.{baseMax, Columns};
+ghost use Rattle.rows.specs.Rows.{max_ticks, max_switch};
+ghost use Rattle.fixed_points.specs.inside.Loads.{base_max, Columns};
 ghost use Rattle.value_cases.specs.Loads.{in_range};
 
 use analysis::blocking_time;
@@ -27,7 +27,7 @@ fn in_range(task: Load) -> bool
 
 // The first value and those after so many steps.
 fn print_values(base: u64, limit: u64, periods: &[u64], costs: &[u64], n: usize, steps: u64)
-    requires { (1 ≤ base) × (base ≤ baseMax) × (limit ≤ maxTicks) × Columns n periods.now costs.now }
+    requires { (1 ≤ base) × (base ≤ base_max) × (limit ≤ max_ticks) × Columns n periods.now costs.now }
 {
     let mut value = first_value(base, periods, costs, n);
     io::print_decimal(STDOUT, value);
@@ -40,7 +40,7 @@ fn print_values(base: u64, limit: u64, periods: &[u64], costs: &[u64], n: usize,
 
 // The values up to the last that the search tries, and what is found.
 fn print_search(base: u64, limit: u64, periods: &[u64], costs: &[u64], n: usize)
-    requires { (1 ≤ base) × (base ≤ baseMax) × (limit ≤ maxTicks) × Columns n periods.now costs.now }
+    requires { (1 ≤ base) × (base ≤ base_max) × (limit ≤ max_ticks) × Columns n periods.now costs.now }
 {
     let tried = try_values(base, limit, periods, costs, n);
     print_values(base, limit, periods, costs, n, tried.steps);
@@ -57,7 +57,7 @@ fn print_search(base: u64, limit: u64, periods: &[u64], costs: &[u64], n: usize)
 // The same for a task over a largest hold, below the first n of two tasks.
 fn print_between(task: Load, hold: u64, first: Load, second: Load, n: usize)
     requires { (in_range task ≡ true) × (in_range first ≡ true) × (in_range second ≡ true)
-        × (hold ≤ maxTicks) × (n ≤ 2) }
+        × (hold ≤ max_ticks) × (n ≤ 2) }
 {
     let periods = [first.period, second.period];
     let costs = [first.cost, second.cost];
@@ -89,7 +89,7 @@ fn show(name: &[u8], task: Load, hold: u64, first: Load, second: Load, n: usize)
 
 // A task of a table with some switch.
 fn task(period: u64, worst: u64, switch: u64) -> Load
-    requires { (worst ≤ maxTicks) × (switch ≤ maxSwitch) }
+    requires { (worst ≤ max_ticks) × (switch ≤ max_switch) }
 {
     let cost = worst + switch;
     Load { period, cost }
@@ -97,7 +97,7 @@ fn task(period: u64, worst: u64, switch: u64) -> Load
 
 // Document 01's task 13, with some period, over a largest hold and below the first n of tasks 11 and 12.
 fn show_13(name: &[u8], period: u64, hold: u64, switch: u64, n: usize)
-    requires { switch ≤ maxSwitch }
+    requires { switch ≤ max_switch }
 {
     let upper = task(24, 6, switch);
     let lower = task(18, 2, switch);

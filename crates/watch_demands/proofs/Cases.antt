@@ -4,63 +4,63 @@ use mathlib.Core.Bool.{false}
 use mathlib.Core.List.{[]}
 use Prim.Native.Nat.{ℕ, zero, suc, ◌≤◌, ◌<◌}
 use native.Mathlib.Omega.{arith}
-use Rattle.text.specs.Text.{digits, decimal, signed, keyLine}
+use Rattle.text.specs.Text.{digits, decimal, signed, key_line}
 use Rattle.text.specs.Lines.{number_of, line_at}
-use Rattle.grammars.specs.Forms.{formAt}
-use Rattle.grammars.specs.Grammars.{readFor}
+use Rattle.grammars.specs.Forms.{form_at}
+use Rattle.grammars.specs.Grammars.{read_for}
 use Rattle.grammars.proofs.Decision.{decides}
 use Rattle.rows.specs.Rows.{cost, row_at}
 use Rattle.responses.specs.Extremes.{smallest, largest}
-use Rattle.responses.specs.Figures.{blocking, rows_above, rowsBelow, isLate}
+use Rattle.responses.specs.Figures.{blocking, rows_above, rows_below, is_late}
 use Rattle.boards.specs.Claims.{AfterFirstReleases, NoneLate}
-use Rattle.plans.specs.Plans.{refusalText}
+use Rattle.plans.specs.Plans.{refusal_text}
 use Rattle.plans.specs.Outcomes.{fitted}
-use Rattle.watch_demands.specs.Jobs.{index_of, rankWith}
-use Rattle.watch_demands.specs.Runs.{jobText}
-use Rattle.watch_demands.specs.Calls.{runInTime, watched}
-use Rattle.watch_demands.specs.WatchLines.{watchText, watch-start}
-use Rattle.watch_demands.specs.Cases.{AllSo, runs, refusals, runOn, sample, sampleOrder, sampleOffset, lateOrder}
+use Rattle.watch_demands.specs.Jobs.{index_of, rank_with}
+use Rattle.watch_demands.specs.Runs.{job_text}
+use Rattle.watch_demands.specs.Calls.{run_in_time, watched}
+use Rattle.watch_demands.specs.WatchLines.{watch_text, watch_start}
+use Rattle.watch_demands.specs.Cases.{AllSo, runs, refusals, run_on, sample, sample_order, sample_offset, late_order}
 use Rattle.watch_demands.specs.Cases.{WatchMet}
-use Rattle.watch_demands.proofs.Texts.{watch-plain}
+use Rattle.watch_demands.proofs.Texts.{watch_plain}
 
 pub runs_so : AllSo runs
-unfolding digits decimal signed keyLine number_of line_at formAt readFor
-    cost blocking smallest largest refusalText fitted index_of rankWith jobText runInTime watched
+unfolding digits decimal signed key_line number_of line_at form_at read_for
+    cost blocking smallest largest refusal_text fitted index_of rank_with job_text run_in_time watched
 runs_so = (refl, (refl, (refl, (refl, (refl, (refl, (refl, (refl, (refl, tt)))))))))
 
-pub refusals-so : AllSo refusals
-unfolding digits decimal signed keyLine number_of line_at formAt readFor
-    cost blocking smallest largest refusalText fitted index_of rankWith jobText runInTime watched
-refusals-so = (refl, (refl, (refl, (refl, (refl, (refl, (refl, (refl, (refl, (refl, (refl, (refl, (refl, (refl, (refl, (refl, (refl, (refl, (refl, (refl, (refl, tt)))))))))))))))))))))
+pub refusals_so : AllSo refusals
+unfolding digits decimal signed key_line number_of line_at form_at read_for
+    cost blocking smallest largest refusal_text fitted index_of rank_with job_text run_in_time watched
+refusals_so = (refl, (refl, (refl, (refl, (refl, (refl, (refl, (refl, (refl, (refl, (refl, (refl, (refl, (refl, (refl, (refl, (refl, (refl, (refl, (refl, (refl, tt)))))))))))))))))))))
 
-pub watch-met : WatchMet
-unfolding digits decimal signed keyLine number_of line_at formAt readFor
-    cost blocking smallest largest index_of rankWith
-watch-met = record {
-  told = (decides watchText watch-plain watch-start sample).as_written _ refl;
-  none-late = in-time;
-  fails = (decides watchText watch-plain watch-start (runOn "ticks=0" [])).reason 3 24 refl;
-  late = record { there = omega arith; late = refl; above-in-time = above };
+pub watch_met : WatchMet
+unfolding digits decimal signed key_line number_of line_at form_at read_for
+    cost blocking smallest largest index_of rank_with
+watch_met = record {
+  told = (decides watch_text watch_plain watch_start sample).as_written _ refl;
+  none_late = in_time;
+  fails = (decides watch_text watch_plain watch_start (run_on "ticks=0" [])).reason 3 24 refl;
+  late = record { there = omega arith; late = refl; above_in_time = above };
   printed = refl;
-  held-early = held;
+  held_early = held;
   room = refl;
-  first-job = refl;
+  first_job = refl;
   with_it = refl;
-  third-job = refl;
-  fourth-job = refl;
-  fifth-job = refl;
-  seventh-job = refl;
+  third_job = refl;
+  fourth_job = refl;
+  fifth_job_lem = refl;
+  seventh_job = refl;
 }
   where
-    in-time : NoneLate sampleOrder
-    in-time zero l = refl
-    in-time (suc zero) l = refl
-    in-time (suc (suc i)) l = absurd (omega arith)
+    in_time : NoneLate sample_order
+    in_time zero l = refl
+    in_time (suc zero) l = refl
+    in_time (suc (suc i)) l = absurd (omega arith)
 
-    above : (j : ℕ) → j < 1 → isLate (row_at lateOrder j) (rows_above lateOrder j) (rowsBelow lateOrder j) ≡ false
+    above : (j : ℕ) → j < 1 → is_late (row_at late_order j) (rows_above late_order j) (rows_below late_order j) ≡ false
     above zero l = refl
     above (suc j) l = absurd (omega arith)
 
-    held : AfterFirstReleases sampleOrder sampleOffset 1 11
+    held : AfterFirstReleases sample_order sample_offset 1 11
     held zero l = omega arith
     held (suc j) l = absurd (omega arith)

@@ -14,9 +14,9 @@ use Rattle.basics.specs.Basics.{pick, sum_to}
 use Rattle.basics.proofs.Tests.{test_of, false_of, le-or-lt}
 use Rattle.rows.specs.Rows.{row_at}
 use Rattle.rows.specs.Rows.{Row}
-use Rattle.boards.proofs.Sums.{Above, sum-tight}
-use Rattle.boards.proofs.Releases.{released, released-exactly, released-grows}
-use Rattle.watch_demands.specs.Jobs.{first_of, releaseOf, ahead, index_of, has_index, rankWith, Earlier}
+use Rattle.boards.proofs.Sums.{Above, sum_tight}
+use Rattle.boards.proofs.Releases.{released, released_exactly, released_grows}
+use Rattle.watch_demands.specs.Jobs.{first_of, release_of, ahead, index_of, has_index, rank_with, Earlier}
 
 -- ---- the first number that passes a test
 first-is : (n : ℕ) (test : ℕ → Bool) (i : ℕ) → i < n → test i ≡ true → ((j : ℕ) → j < i → test j ≡ false)
@@ -47,7 +47,7 @@ first_passes (suc n) test i e l = elim (test_of (test 0)) [
 -- ---- the part of each rank in an index
 sum_less : (n i : ℕ) (f g : ℕ → ℕ) → i < n → Above n (λ j. f j ≤ g j) → f i < g i → sum_to n f < sum_to n g
 sum_less n i f g l h s = elim (le-or-lt (sum_to n g) (sum_to n f)) [
-  | inl e ↦ omega (arith, sum-tight n f g h e i l)
+  | inl e ↦ omega (arith, sum_tight n f g h e i l)
   | inr e ↦ e
 ]
 
@@ -55,39 +55,39 @@ sum_less n i f g l h s = elim (le-or-lt (sum_to n g) (sum_to n f)) [
 abbrev pub until : ℕ → ℕ → ℕ → ℕ
 until i r j = pick (ltb j i) (suc r) r
 
-pub until-above : (i r j : ℕ) → j < i → until i r j ≡ suc r
-until-above i r j l = rw (lt-ltb j i l)
+pub until_above : (i r j : ℕ) → j < i → until i r j ≡ suc r
+until_above i r j l = rw (lt-ltb j i l)
 
-pub until-below : (i r j : ℕ) → i ≤ j → until i r j ≡ r
-until-below i r j l = rw (le-ltb j i l)
+pub until_below : (i r j : ℕ) → i ≤ j → until i r j ≡ r
+until_below i r j l = rw (le-ltb j i l)
 
-until-least : (i r j : ℕ) → r ≤ until i r j
-until-least i r j = elim (le-or-lt i j) [
-  | inl l ↦ omega (arith, until-below i r j l)
-  | inr l ↦ omega (arith, until-above i r j l)
+until_least : (i r j : ℕ) → r ≤ until i r j
+until_least i r j = elim (le-or-lt i j) [
+  | inl l ↦ omega (arith, until_below i r j l)
+  | inr l ↦ omega (arith, until_above i r j l)
 ]
 
-until-most : (i r j : ℕ) → until i r j ≤ suc r
-until-most i r j = elim (le-or-lt i j) [
-  | inl l ↦ omega (arith, until-below i r j l)
-  | inr l ↦ omega (arith, until-above i r j l)
+until_most : (i r j : ℕ) → until i r j ≤ suc r
+until_most i r j = elim (le-or-lt i j) [
+  | inl l ↦ omega (arith, until_below i r j l)
+  | inr l ↦ omega (arith, until_above i r j l)
 ]
 
 module _ (order : List Row) (offset : ℕ → ℕ) (periods : (j : ℕ) → j < length order → 1 ≤ (row_at order j).period) where
   abbrev at : ℕ → ℕ → ℕ
-  at = releaseOf order offset
+  at = release_of order offset
 
-  until-grows : (i k j m x : ℕ) → Earlier order offset i k j m → until i (at i k) x ≤ until j (at j m) x
-  until-grows i k j m x (inl l) = omega (arith, until-most i (at i k) x, until-least j (at j m) x)
-  until-grows i k j m x (inr l) = elim (le-or-lt i x) [
-    | inl b ↦ omega (arith, until-below i (at i k) x b, until-least j (at j m) x, l.0)
-    | inr b ↦ omega (arith, until-above i (at i k) x b, until-above j (at j m) x (omega (arith, l.1)), l.0)
+  until_grows : (i k j m x : ℕ) → Earlier order offset i k j m → until i (at i k) x ≤ until j (at j m) x
+  until_grows i k j m x (inl l) = omega (arith, until_most i (at i k) x, until_least j (at j m) x)
+  until_grows i k j m x (inr l) = elim (le-or-lt i x) [
+    | inl b ↦ omega (arith, until_below i (at i k) x b, until_least j (at j m) x, l.0)
+    | inr b ↦ omega (arith, until_above i (at i k) x b, until_above j (at j m) x (omega (arith, l.1)), l.0)
   ]
 
   -- its own rank's part takes the job in
-  pub until-own : (i k j m : ℕ) → Earlier order offset i k j m → suc (at i k) ≤ until j (at j m) i
-  until-own i k j m (inl l) = omega (arith, until-least j (at j m) i)
-  until-own i k j m (inr l) = omega (arith, until-above j (at j m) i l.1, l.0)
+  pub until_own : (i k j m : ℕ) → Earlier order offset i k j m → suc (at i k) ≤ until j (at j m) i
+  until_own i k j m (inl l) = omega (arith, until_least j (at j m) i)
+  until_own i k j m (inr l) = omega (arith, until_above j (at j m) i l.1, l.0)
 
   -- ---- indices count up
   pub counts_up : (i k j m : ℕ) → i < length order → Earlier order offset i k j m
@@ -95,17 +95,17 @@ module _ (order : List Row) (offset : ℕ → ℕ) (periods : (j : ℕ) → j < 
   unfolding index_of
   counts_up i k j m l e =
       let p = (row_at order i).period in
-      let own = released-exactly p (offset i) (periods i l) k (at i k) refl in
-      let taken = released-grows p (offset i) (periods i l) (suc (at i k)) (until j (at j m) i) (until-own i k j m e) in
+      let own = released_exactly p (offset i) (periods i l) k (at i k) refl in
+      let taken = released_grows p (offset i) (periods i l) (suc (at i k)) (until j (at j m) i) (until_own i k j m e) in
       let before : ahead order offset i (at i k) i ≡ k =
-      ap (released p (offset i)) (until-below i (at i k) i (omega arith)) ∙ own.0 in
+      ap (released p (offset i)) (until_below i (at i k) i (omega arith)) ∙ own.0 in
       sum_less (length order) i (ahead order offset i (at i k)) (ahead order offset j (at j m)) l
-      (λ x b. released-grows (row_at order x).period (offset x) (periods x b) (until i (at i k) x)
-      (until j (at j m) x) (until-grows i k j m x e))
+      (λ x b. released_grows (row_at order x).period (offset x) (periods x b) (until i (at i k) x)
+      (until j (at j m) x) (until_grows i k j m x e))
       (omega (arith, before, own.1, taken))
 
-  pub later-job : (i k m : ℕ) → i < length order → k < m → index_of order offset i k < index_of order offset i m
-  later-job i k m l b =
+  pub later_job : (i k m : ℕ) → i < length order → k < m → index_of order offset i k < index_of order offset i m
+  later_job i k m l b =
       counts_up i k i m l (inl (omega (arith, periods i l, mul-le-mul_right (row_at order i).period b)))
 
   pub one_each : (i k j m : ℕ) → i < length order → j < length order
@@ -130,38 +130,38 @@ module _ (order : List Row) (offset : ℕ → ℕ) (periods : (j : ℕ) → j < 
           eq_of_mul-eq-mul_right (row_at order i).period (periods i li) k m (omega arith)
 
   -- of one rank's jobs, the one with the lower index is the earlier
-  pub earlier-job : (i a b : ℕ) → i < length order → index_of order offset i a < index_of order offset i b → a < b
-  earlier-job i a b l h = elim (le-or-lt b a) [
+  pub earlier_job : (i a b : ℕ) → i < length order → index_of order offset i a < index_of order offset i b → a < b
+  earlier_job i a b l h = elim (le-or-lt b a) [
     | inl g ↦ elim (le-or-lt a b) [
       | inl f ↦ absurd (omega (arith, ap (index_of order offset i) (le_antisymm f g)))
-      | inr f ↦ absurd (omega (arith, later-job i b a l f))
+      | inr f ↦ absurd (omega (arith, later_job i b a l f))
     ]
     | inr g ↦ g
   ]
 
   -- ---- the rank with a job's index
-  index-least : (i k : ℕ) → i < length order → k ≤ index_of order offset i k
-  index-least i zero l = omega arith
-  index-least i (suc k) l = omega (arith, index-least i k l, later-job i k (suc k) l (omega arith))
+  index_least : (i k : ℕ) → i < length order → k ≤ index_of order offset i k
+  index_least i zero l = omega arith
+  index_least i (suc k) l = omega (arith, index_least i k l, later_job i k (suc k) l (omega arith))
 
-  has-own : (i k : ℕ) → i < length order → has_index order offset (index_of order offset i k) i ≡ true
-  has-own i k l =
+  has_own : (i k : ℕ) → i < length order → has_index order offset (index_of order offset i k) i ≡ true
+  has_own i k l =
       let m = index_of order offset i k in
-      let within : k < suc m = omega (arith, index-least i k l) in
+      let within : k < suc m = omega (arith, index_least i k l) in
       lt-ltb (first_of (suc m) (λ x. eqb (index_of order offset i x) m)) (suc m)
       (first_below (suc m) (λ x. eqb (index_of order offset i x) m) k within (eq-eqb m m refl))
 
-  has-no-other : (i k j : ℕ) → i < length order → j < length order
+  has_no_other : (i k j : ℕ) → i < length order → j < length order
       → has_index order offset (index_of order offset i k) j ≡ true → j ≡ i
-  has-no-other i k j li lj e =
+  has_no_other i k j li lj e =
       let m = index_of order offset i k in
       let x = first_of (suc m) (λ x. eqb (index_of order offset j x) m) in
       let found = first_passes (suc m) (λ x. eqb (index_of order offset j x) m) x refl (ltb-true x (suc m) e) in
       (one_each j x i k lj li (eqb-true (index_of order offset j x) m found)).0
 
-  pub rank_is : (i k : ℕ) → i < length order → rankWith order offset (index_of order offset i k) ≡ i
-  unfolding rankWith
+  pub rank_is : (i k : ℕ) → i < length order → rank_with order offset (index_of order offset i k) ≡ i
+  unfolding rank_with
   rank_is i k l =
       let m = index_of order offset i k in
-      first-is (length order) (has_index order offset m) i l (has-own i k l)
-      (λ j b. false_of (has_index order offset m j) (λ e. omega (arith, has-no-other i k j l (omega arith) e)))
+      first-is (length order) (has_index order offset m) i l (has_own i k l)
+      (λ j b. false_of (has_index order offset m j) (λ e. omega (arith, has_no_other i k j l (omega arith) e)))

@@ -13,14 +13,14 @@ use Rattle.basics.proofs.Tests.{le-or-lt}
 use Rattle.rows.specs.Rows.{row_at, cost}
 use Rattle.rows.specs.Rows.{Row}
 use Rattle.responses.specs.Claims.{NoneHolds}
-use Rattle.boards.specs.Boards.{Done, isDone}
+use Rattle.boards.specs.Boards.{Done, is_done}
 use Rattle.boards.specs.Claims.{LastsInRange, Finishes, AfterFirstReleases}
-use Rattle.boards.proofs.Document01.{same-board}
+use Rattle.boards.proofs.Document01.{same_board}
 use Rattle.demands.specs.Demands.{Promised}
-use Rattle.watch_demands.specs.Jobs.{index_of, rankWith, length_of, Indexed}
-use Rattle.watch_demands.specs.Runs.{finishedBy, FinishedWithin}
+use Rattle.watch_demands.specs.Jobs.{index_of, rank_with, length_of, Indexed}
+use Rattle.watch_demands.specs.Runs.{finished_by, FinishedWithin}
 use Rattle.watch_demands.specs.Demands.{RunKept}
-use Rattle.watch_demands.proofs.Finished.{finished-only}
+use Rattle.watch_demands.proofs.Finished.{finished_only}
 
 -- a number within a list, whatever stands past its end
 get_d_any : (l : List ℕ) (i a b : ℕ) → i < length l → get_or l i a ≡ get_or l i b
@@ -36,7 +36,7 @@ module _ (order : List Row) (offset : ℕ → ℕ) (lengths : List ℕ) where
   pub lasts : Indexed order offset
       → ((i : ℕ) → i < length order → (row_at order i).best ≤ cost (row_at order i))
       → ((m : ℕ) → m < length lengths
-      → let r = row_at order (rankWith order offset m) in
+      → let r = row_at order (rank_with order offset m) in
       (r.best ≤ get_or lengths m 0) × (get_or lengths m 0 ≤ cost r))
       → LastsInRange order need
   lasts indexed sane suits i k l =
@@ -60,27 +60,27 @@ module _ (order : List Row) (offset : ℕ → ℕ) (lengths : List ℕ) where
   past i k l = get_or-eq_default lengths (cost (row_at order i)) l
 
   -- with no hold a run is the same whatever it says of stretches
-  pub finished-same : NoneHolds order → (keeps : ℕ → Bool) (ticks : ℕ) (ds : List Done)
-      → FinishedWithin order offset need keeps ticks ds → ds ≡ finishedBy order offset lengths ticks
-  finished-same none keeps ticks ds w =
-      finished-only order offset need keeps ticks ds w
-      ∙ ((same-board order offset need keeps).same-finished none ticks
-      ∙ sym ((same-board order offset need _).same-finished none ticks))
+  pub finished_same : NoneHolds order → (keeps : ℕ → Bool) (ticks : ℕ) (ds : List Done)
+      → FinishedWithin order offset need keeps ticks ds → ds ≡ finished_by order offset lengths ticks
+  finished_same none keeps ticks ds w =
+      finished_only order offset need keeps ticks ds w
+      ∙ ((same_board order offset need keeps).same_finished none ticks
+      ∙ sym ((same_board order offset need _).same_finished none ticks))
 
-  pub run-kept : Promised order → LastsInRange order need → (keeps : ℕ → Bool) (ticks : ℕ) (ds : List Done)
+  pub run_kept : Promised order → LastsInRange order need → (keeps : ℕ → Bool) (ticks : ℕ) (ds : List Done)
       → FinishedWithin order offset need keeps ticks ds → RunKept order offset lengths ds
-  run-kept promised in-range keeps ticks ds w =
-      let k = promised.kept offset need keeps in-range in
-      let runs = promised.by-rules offset need keeps in-range in
+  run_kept promised is_in_range keeps ticks ds w =
+      let k = promised.kept offset need keeps is_in_range in
+      let runs = promised.by_rules offset need keeps is_in_range in
       record {
-        in-time = λ i r f e.
+        in_time = λ i r f e.
             let done = ((w.these i r f).0 e).0 in
-            let job = runs.a-job i r f done in
+            let job = runs.a_job i r f done in
             let release : r ≡ offset i + job.1.0 * (row_at order i).period = job.1.1 in
-            let t = k.in-time i job.1.0 job.0 in
+            let t = k.in_time i job.1.0 job.0 in
             let same = k.once i r f t.0 job.0 done
             (subst (λ x. Finishes order offset need keeps i x t.0) (sym release) t.3) in
             (omega (arith, t.1, same, release), omega (arith, t.2, same, release));
-        not-early = λ i r f e started.
-            let done = ((w.these i r f).0 e).0 in k.not-early i r f (runs.a-job i r f done).0 started done;
+        not_early = λ i r f e started.
+            let done = ((w.these i r f).0 e).0 in k.not_early i r f (runs.a_job i r f done).0 started done;
       }

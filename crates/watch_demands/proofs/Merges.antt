@@ -15,10 +15,10 @@ use Rattle.basics.proofs.Tests.{test_of, le-or-lt}
 use Rattle.rows.specs.Rows.{row_at}
 use Rattle.rows.specs.Rows.{Row}
 use Rattle.boards.proofs.Sums.{Above, sum-zero, sum-le}
-use Rattle.boards.proofs.Releases.{released-before, unreleased}
+use Rattle.boards.proofs.Releases.{released_before_lem, unreleased}
 use Rattle.watch_demands.specs.inside.Least.{LeastIs}
-use Rattle.watch_demands.specs.Jobs.{releaseOf, ahead, index_of, Earlier, Indexed}
-use Rattle.watch_demands.proofs.Jobs.{until, until-above, until-below, until-own}
+use Rattle.watch_demands.specs.Jobs.{release_of, ahead, index_of, Earlier, Indexed}
+use Rattle.watch_demands.proofs.Jobs.{until, until_above, until_below, until_own}
 use Rattle.watch_demands.proofs.Jobs.{counts_up, one_each, rank_is}
 
 -- ---- sums
@@ -47,8 +47,8 @@ least-one f = record {
   first = λ j l. absurd (not-suc-le-zero l);
 }
 
-pub least-same : {n r : ℕ} {f : ℕ → ℕ} → LeastIs n f r → f r ≤ f n → LeastIs (n + 1) f r
-least-same {n} {r} {f} x h = record {
+pub least_same : {n r : ℕ} {f : ℕ → ℕ} → LeastIs n f r → f r ≤ f n → LeastIs (n + 1) f r
+least_same {n} {r} {f} x h = record {
   within = omega (arith, x.within);
   least = λ j l. elim (le-or-lt n j) [
     | inl b ↦ (let e : j ≡ n = omega arith in rw e h)
@@ -57,8 +57,8 @@ least-same {n} {r} {f} x h = record {
   first = x.first;
 }
 
-pub least-new : {n r : ℕ} {f : ℕ → ℕ} → LeastIs n f r → f n < f r → LeastIs (n + 1) f n
-least-new {n} {r} {f} x h = record {
+pub least_new : {n r : ℕ} {f : ℕ → ℕ} → LeastIs n f r → f n < f r → LeastIs (n + 1) f n
+least_new {n} {r} {f} x h = record {
   within = omega arith;
   least = λ j l. elim (le-or-lt n j) [
     | inl b ↦ (let e : j ≡ n = omega arith in rw e (omega arith))
@@ -67,24 +67,24 @@ least-new {n} {r} {f} x h = record {
   first = λ j l. omega (arith, h, x.least j l);
 }
 
-least-of : (n : ℕ) (f : ℕ → ℕ) → (r : ℕ) × LeastIs (suc n) f r
-least-of zero f = (0, least-one f)
-least-of (suc n) f =
-    let x = least-of n f in
+least_of : (n : ℕ) (f : ℕ → ℕ) → (r : ℕ) × LeastIs (suc n) f r
+least_of zero f = (0, least-one f)
+least_of (suc n) f =
+    let x = least_of n f in
     elim (le-or-lt (f x.0) (f (suc n))) [
-      | inl h ↦ (x.0, rw add-one at (least-same x.1 h))
-      | inr h ↦ (suc n, rw add-one at (least-new x.1 h))
+      | inl h ↦ (x.0, rw add-one at (least_same x.1 h))
+      | inr h ↦ (suc n, rw add-one at (least_new x.1 h))
     ]
 
 -- ---- one job more of rank r
 abbrev pub bump : ℕ → (ℕ → ℕ) → ℕ → ℕ
 bump r count i = pick (eqb i r) (suc (count i)) (count i)
 
-bump-own : (r : ℕ) (count : ℕ → ℕ) → bump r count r ≡ suc (count r)
-bump-own r count = rw (eq-eqb r r refl)
+bump_own : (r : ℕ) (count : ℕ → ℕ) → bump r count r ≡ suc (count r)
+bump_own r count = rw (eq-eqb r r refl)
 
-bump-other : (r : ℕ) (count : ℕ → ℕ) (i : ℕ) → (i ≡ r → ⊥) → bump r count i ≡ count i
-bump-other r count i h = rw (ne_eqb i r h)
+bump_other : (r : ℕ) (count : ℕ → ℕ) (i : ℕ) → (i ≡ r → ⊥) → bump r count i ≡ count i
+bump_other r count i h = rw (ne_eqb i r h)
 
 -- ---- the first jobs
 module _ (order : List Row) (offset : ℕ → ℕ) where
@@ -94,12 +94,12 @@ module _ (order : List Row) (offset : ℕ → ℕ) where
     pub sooner :
         (i k j : ℕ) → i < length order → j < length order → k < count i → Earlier order offset i k j (count j)
 
-  pub merged-none : Merged (λ j. 0) 0
-  merged-none = record { total = sum-zero (length order); sooner = λ i k j a b l. absurd (not-suc-le-zero l) }
+  pub merged_none : Merged (λ j. 0) 0
+  merged_none = record { total = sum-zero (length order); sooner = λ i k j a b l. absurd (not-suc-le-zero l) }
 
 module _ (order : List Row) (offset : ℕ → ℕ) (periods : (j : ℕ) → j < length order → 1 ≤ (row_at order j).period) where
   abbrev at : ℕ → ℕ → ℕ
-  at = releaseOf order offset
+  at = release_of order offset
 
   module _
       {count : ℕ → ℕ} {m : ℕ} (c : Merged order offset count m)
@@ -117,20 +117,20 @@ module _ (order : List Row) (offset : ℕ → ℕ) (periods : (j : ℕ) → j < 
             | inr h ↦ (
                 let k = ahead order offset r next j in
                 let e = c.sooner j k r l x.within h in
-                let before = released-before (row_at order j).period (offset j) (periods j l) k (until r next j)
-                (until-own order offset periods j k r (count r) e) in
+                let before = released_before_lem (row_at order j).period (offset j) (periods j l) k (until r next j)
+                (until_own order offset periods j k r (count r) e) in
                 absurd (omega arith))
           ])
         where
           within : until r next j ≤ at j (count j)
           within = elim (le-or-lt r j) [
-            | inl h ↦ omega (arith, until-below r next j h, x.least j l)
-            | inr h ↦ omega (arith, until-above r next j h, x.first j h)
+            | inl h ↦ omega (arith, until_below r next j h, x.least j l)
+            | inr h ↦ omega (arith, until_above r next j h, x.first j h)
           ]
 
-      pub merged-index : index_of order offset r (count r) ≡ m
+      pub merged_index : index_of order offset r (count r) ≡ m
       unfolding index_of
-      merged-index = sum_same (length order) (ahead order offset r next) count counted ∙ c.total
+      merged_index = sum_same (length order) (ahead order offset r next) count counted ∙ c.total
 
       later : next < at r (suc (count r))
       later = omega (arith, periods r x.within)
@@ -162,11 +162,11 @@ module _ (order : List Row) (offset : ℕ → ℕ) (periods : (j : ℕ) → j < 
           less : j ≤ r → (j ≡ r → ⊥) → j < r
           less a b = elim (le-or-lt r j) [ inl h ↦ absurd (b (le_antisymm a h)) | inr h ↦ h ]
 
-      pub merged-next : Merged order offset (bump r count) (suc m)
-      merged-next = record {
+      pub merged_next : Merged order offset (bump r count) (suc m)
+      merged_next = record {
         total =
-            sum_bump (length order) r count (bump r count) x.within (bump-own r count)
-            (λ j l h. bump-other r count j h)
+            sum_bump (length order) r count (bump r count) x.within (bump_own r count)
+            (λ j l h. bump_other r count j h)
             ∙ ap suc c.total;
         sooner = λ i k j a b l. elim (le-or-lt (count i) k) [
           | inl h ↦ elim (test_of (eqb i r)) [
@@ -185,26 +185,26 @@ module _ (order : List Row) (offset : ℕ → ℕ) (periods : (j : ℕ) → j < 
   next_of : 1 ≤ length order → (count : ℕ → ℕ) → (r : ℕ) × LeastIs (length order) (λ j. at j (count j)) r
   next_of some count =
       let e : suc (length order - 1) ≡ length order = omega arith in
-      rw e at (least-of (length order - 1) (λ j. at j (count j)))
+      rw e at (least_of (length order - 1) (λ j. at j (count j)))
 
   merged-at : 1 ≤ length order → (m : ℕ) → (count : ℕ → ℕ) × Merged order offset count m
-  merged-at some zero = (λ j. 0, merged-none order offset)
+  merged-at some zero = (λ j. 0, merged_none order offset)
   merged-at some (suc m) =
       let c = merged-at some m in
       let x = next_of some c.0 in
-      (bump x.0 c.0, merged-next c.1 x.0 x.1)
+      (bump x.0 c.0, merged_next c.1 x.0 x.1)
 
-  none-left-out : 1 ≤ length order → (m : ℕ)
+  none_left_out : 1 ≤ length order → (m : ℕ)
       → (i : ℕ) × (k : ℕ) × (i < length order) × (index_of order offset i k ≡ m)
-  none-left-out some m =
+  none_left_out some m =
       let c = merged-at some m in
       let x = next_of some c.0 in
-      (x.0, c.0 x.0, x.1.within, merged-index c.1 x.0 x.1)
+      (x.0, c.0 x.0, x.1.within, merged_index c.1 x.0 x.1)
 
   pub indexed : Indexed order offset
   indexed = record {
     counts_up = λ i k j m li lj. counts_up order offset periods i k j m li;
     one_each = one_each order offset periods;
-    none-left-out = none-left-out;
+    none_left_out = none_left_out;
     rank_is = rank_is order offset periods;
   }

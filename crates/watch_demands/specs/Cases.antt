@@ -3,16 +3,16 @@
 use Rattle.std.specs.Prelude.{◌≡◌, true, List, [], ◌∷◌, ◌++◌, ℕ}
 use Prim.Native.String.{String}
 use Rattle.text.specs.Text.{lined}
-use Rattle.rows.specs.Rows.{row, rowsFor}
+use Rattle.rows.specs.Rows.{row, rows_for}
 use Rattle.rows.specs.Rows.{Row}
-use Rattle.boards.specs.Boards.{isDone}
+use Rattle.boards.specs.Boards.{is_done}
 use Rattle.boards.specs.Claims.{AfterFirstReleases, NoneLate}
 use Rattle.plans.specs.Outcomes.{Outcome, writes, refuses}
 use Rattle.demands.specs.Demands.{FirstLate}
-use Rattle.watch_demands.specs.Jobs.{index_of, rankWith}
+use Rattle.watch_demands.specs.Jobs.{index_of, rank_with}
 use Rattle.watch_demands.specs.WatchLines.{offset_of}
-use Rattle.watch_demands.specs.Runs.{finishedBy}
-use Rattle.watch_demands.specs.Calls.{watched, watchRoom, watcherPrints}
+use Rattle.watch_demands.specs.Runs.{finished_by}
+use Rattle.watch_demands.specs.Calls.{watched, watch_room, watcher_prints}
 use Rattle.watch_demands.specs.Demands.{TellsRun, FailsRun}
 
 -- a text, a buffer's room and the outcome; a text and what the program prints
@@ -22,7 +22,7 @@ pub data Case : Type 0 where
 
 abbrev pub IsSo : Case → Type 0
 IsSo (call text room w) = watched text room ≡ w
-IsSo (prints text output) = watcherPrints text ≡ output
+IsSo (prints text output) = watcher_prints text ≡ output
 
 abbrev pub AllSo : List Case → Type 0
 AllSo [] = Unit {0}
@@ -36,37 +36,37 @@ table_of worst1 hold1 hold2 = lined (
     ∷ "task=2" ∷ "period=6" ∷ "worst=2" ∷ "best=2" ∷ "alpha=1000" ∷ "beta=0" ∷ hold2 ∷ "points=0"
     ∷ [])
 
-abbrev pub runOn : String → List String → List ℕ
-runOn ticks lengths =
+abbrev pub run_on : String → List String → List ℕ
+run_on ticks lengths =
     table_of "worst=2" "hold=0" "hold=0"
     ++ lined ("rank=2" ∷ "rank=1" ∷ "release=1" ∷ "release=1" ∷ ticks ∷ lengths)
 
 -- the first length is task 2's, which is above; the third is the job's of tick 7
-abbrev pub sampleLengths : List String
-sampleLengths = "lengths=3" ∷ "length=3" ∷ "length=1" ∷ "length=2" ∷ []
+abbrev pub sample_lengths : List String
+sample_lengths = "lengths=3" ∷ "length=3" ∷ "length=1" ∷ "length=2" ∷ []
 
 abbrev pub sample : List ℕ
-sample = runOn "ticks=17" sampleLengths
+sample = run_on "ticks=17" sample_lengths
 
 -- the jobs of the run, in order of finish; on tick 13 task 2 takes the processor from task 1's job of tick 11
-abbrev pub fourJobs : List String
-fourJobs =
+abbrev pub four_jobs : List String
+four_jobs =
     "task=2" ∷ "release=1" ∷ "finish=4"
     ∷ "task=1" ∷ "release=1" ∷ "finish=5"
     ∷ "task=2" ∷ "release=7" ∷ "finish=9"
     ∷ "task=2" ∷ "release=13" ∷ "finish=16"
     ∷ []
 
-abbrev pub fifthJob : List String
-fifthJob = "task=1" ∷ "release=11" ∷ "finish=17" ∷ []
+abbrev pub fifth_job : List String
+fifth_job = "task=1" ∷ "release=11" ∷ "finish=17" ∷ []
 
 -- the run of another table or with other ranks, no lengths and five ticks
 abbrev pub other : List ℕ → List String → List ℕ
 other table ranks = table ++ lined ranks ++ lined ("release=0" ∷ "release=0" ∷ "ticks=5" ∷ "lengths=0" ∷ [])
 
 -- task 1 takes all but a tick of ten, so that task 2 is late below it
-abbrev pub lateBelow : List ℕ
-lateBelow = other (table_of "worst=8" "hold=0" "hold=0") ("rank=1" ∷ "rank=2" ∷ [])
+abbrev pub late_below : List ℕ
+late_below = other (table_of "worst=8" "hold=0" "hold=0") ("rank=1" ∷ "rank=2" ∷ [])
 
 -- the sample's table with a curve in its first row, and its run
 abbrev pub curved : List String → List ℕ
@@ -76,26 +76,26 @@ curved points =
     ∷ "task=1" ∷ "period=10" ∷ "worst=2" ∷ "best=1" ∷ "alpha=1000" ∷ "beta=0" ∷ "hold=0" ∷ points)
     ++ lined (
     "task=2" ∷ "period=6" ∷ "worst=2" ∷ "best=2" ∷ "alpha=1000" ∷ "beta=0" ∷ "hold=0" ∷ "points=0"
-    ∷ "rank=2" ∷ "rank=1" ∷ "release=1" ∷ "release=1" ∷ "ticks=17" ∷ sampleLengths)
+    ∷ "rank=2" ∷ "rank=1" ∷ "release=1" ∷ "release=1" ∷ "ticks=17" ∷ sample_lengths)
 
 abbrev pub runs : List Case
 runs =
     -- a curve changes nothing of a run, whatever it permits
     call (curved ("points=2" ∷ "delay=0" ∷ "allow=0" ∷ "delay=1" ∷ "allow=0" ∷ [])) 134
-    (writes (lined fourJobs ++ lined fifthJob))
+    (writes (lined four_jobs ++ lined fifth_job))
     -- the last tick counts, and a finish past it does not; a buffer with just room, and one byte short
-    ∷ call sample 134 (writes (lined fourJobs ++ lined fifthJob))
+    ∷ call sample 134 (writes (lined four_jobs ++ lined fifth_job))
     ∷ call sample 133 (refuses 9 0)
-    ∷ call (runOn "ticks=16" sampleLengths) 106 (writes (lined fourJobs))
-    ∷ prints sample (lined fourJobs ++ lined fifthJob)
+    ∷ call (run_on "ticks=16" sample_lengths) 106 (writes (lined four_jobs))
+    ∷ prints sample (lined four_jobs ++ lined fifth_job)
     -- no job is finished: no line, in any buffer
-    ∷ call (runOn "ticks=3" sampleLengths) 0 (writes [])
+    ∷ call (run_on "ticks=3" sample_lengths) 0 (writes [])
     -- without lengths every job takes its worst and the switch
     ∷ call (other (table_of "worst=2" "hold=0" "hold=0") ("rank=2" ∷ "rank=1" ∷ [])) 26
     (writes (lined ("task=2" ∷ "release=0" ∷ "finish=3" ∷ [])))
     -- a late task, with its rank, whatever the buffer
-    ∷ call lateBelow 0 (refuses 7 2)
-    ∷ prints lateBelow (lined ("plan=0" ∷ "refusal=7" ∷ "line=2" ∷ []))
+    ∷ call late_below 0 (refuses 7 2)
+    ∷ prints late_below (lined ("plan=0" ∷ "refusal=7" ∷ "line=2" ∷ []))
     ∷ []
 
 abbrev pub refusals : List Case
@@ -103,11 +103,11 @@ refusals =
     -- a curve is refused as in every table
     call (curved ("points=2" ∷ "delay=1" ∷ "allow=0" ∷ "delay=1" ∷ [])) 0 (refuses 11 14)
     -- the first length is not task 1's, which may take 1; the second is not task 2's; a length past worst and switch
-    ∷ call (runOn "ticks=17" ("lengths=2" ∷ "length=1" ∷ "length=3" ∷ [])) 0 (refuses 3 26)
-    ∷ call (runOn "ticks=17" ("lengths=2" ∷ "length=2" ∷ "length=0" ∷ [])) 0 (refuses 3 27)
-    ∷ call (runOn "ticks=17" ("lengths=2" ∷ "length=2" ∷ "length=4" ∷ [])) 0 (refuses 3 27)
+    ∷ call (run_on "ticks=17" ("lengths=2" ∷ "length=1" ∷ "length=3" ∷ [])) 0 (refuses 3 26)
+    ∷ call (run_on "ticks=17" ("lengths=2" ∷ "length=2" ∷ "length=0" ∷ [])) 0 (refuses 3 27)
+    ∷ call (run_on "ticks=17" ("lengths=2" ∷ "length=2" ∷ "length=4" ∷ [])) 0 (refuses 3 27)
     -- past the last tick too: the seventh job is task 1's, of tick 21
-    ∷ call (runOn "ticks=1" (
+    ∷ call (run_on "ticks=1" (
     "lengths=7" ∷ "length=3" ∷ "length=1" ∷ "length=2" ∷ "length=1" ∷ "length=3" ∷ "length=3" ∷ "length=4" ∷ [])) 0
     (refuses 3 32)
     -- a hold, also one that would be past its worst, and of the second row
@@ -122,48 +122,48 @@ refusals =
     (refuses 3 22)
     ∷ call (table_of "worst=2" "hold=0" "hold=0" ++ lined ("rank=2" ∷ "rank=1" ∷ "release=1000000" ∷ [])) 0
     (refuses 1 23)
-    ∷ call (runOn "ticks=0" []) 0 (refuses 3 24)
-    ∷ call (runOn "ticks=1000001" []) 0 (refuses 3 24)
-    ∷ call (runOn "ticks=1000000" ("lengths=2049" ∷ [])) 0 (refuses 3 25)
-    ∷ call (runOn "ticks=1000000" ("lengths=2048" ∷ "lengths=2" ∷ [])) 0 (refuses 1 26)
-    ∷ call (runOn "ticks=17" ("lengths=1" ∷ [])) 0 (refuses 1 26)
-    ∷ call (runOn "ticks=17" ("lengths=0" ∷ "length=3" ∷ [])) 0 (refuses 1 26)
-    ∷ call (runOn "lengths=0" []) 0 (refuses 1 24)
-    ∷ call (runOn "ticks=017" []) 0 (refuses 2 24)
+    ∷ call (run_on "ticks=0" []) 0 (refuses 3 24)
+    ∷ call (run_on "ticks=1000001" []) 0 (refuses 3 24)
+    ∷ call (run_on "ticks=1000000" ("lengths=2049" ∷ [])) 0 (refuses 3 25)
+    ∷ call (run_on "ticks=1000000" ("lengths=2048" ∷ "lengths=2" ∷ [])) 0 (refuses 1 26)
+    ∷ call (run_on "ticks=17" ("lengths=1" ∷ [])) 0 (refuses 1 26)
+    ∷ call (run_on "ticks=17" ("lengths=0" ∷ "length=3" ∷ [])) 0 (refuses 1 26)
+    ∷ call (run_on "lengths=0" []) 0 (refuses 1 24)
+    ∷ call (run_on "ticks=017" []) 0 (refuses 2 24)
     -- what a line refuses comes before a late task
-    ∷ call (lateBelow ++ lined ("length=3" ∷ [])) 0 (refuses 1 26)
+    ∷ call (late_below ++ lined ("length=3" ∷ [])) 0 (refuses 1 26)
     ∷ []
 
 -- ---- nothing is claimed in vain
-abbrev pub sampleRows : List Row
-sampleRows = row 1 10 2 1 1000 0 0 1 ∷ row 2 6 2 2 1000 0 0 1 ∷ []
+abbrev pub sample_rows : List Row
+sample_rows = row 1 10 2 1 1000 0 0 1 ∷ row 2 6 2 2 1000 0 0 1 ∷ []
 
-abbrev pub sampleOrder : List Row
-sampleOrder = rowsFor (2 ∷ 1 ∷ []) sampleRows
+abbrev pub sample_order : List Row
+sample_order = rows_for (2 ∷ 1 ∷ []) sample_rows
 
-abbrev pub sampleOffset : ℕ → ℕ
-sampleOffset = offset_of sampleRows (2 ∷ 1 ∷ []) (1 ∷ 1 ∷ [])
+abbrev pub sample_offset : ℕ → ℕ
+sample_offset = offset_of sample_rows (2 ∷ 1 ∷ []) (1 ∷ 1 ∷ [])
 
 -- task 1 takes nine ticks of ten above it
-abbrev pub lateOrder : List Row
-lateOrder = rowsFor (1 ∷ 2 ∷ []) (row 1 10 8 1 1000 0 0 1 ∷ row 2 6 2 2 1000 0 0 1 ∷ [])
+abbrev pub late_order : List Row
+late_order = rows_for (1 ∷ 2 ∷ []) (row 1 10 8 1 1000 0 0 1 ∷ row 2 6 2 2 1000 0 0 1 ∷ [])
 
 pub record WatchMet : Type 0 where
   -- a text that tells a run, of an order in which no task is late; one that fails; and a late order's
-  pub told : TellsRun sample 7 sampleRows (2 ∷ 1 ∷ []) (1 ∷ 1 ∷ []) 17 (3 ∷ 1 ∷ 2 ∷ [])
-  pub none-late : NoneLate sampleOrder
-  pub fails : FailsRun (runOn "ticks=0" []) 3 24
-  pub late : FirstLate lateOrder 1
+  pub told : TellsRun sample 7 sample_rows (2 ∷ 1 ∷ []) (1 ∷ 1 ∷ []) 17 (3 ∷ 1 ∷ 2 ∷ [])
+  pub none_late : NoneLate sample_order
+  pub fails : FailsRun (run_on "ticks=0" []) 3 24
+  pub late : FirstLate late_order 1
   -- a job that is printed, and is held to its best line
-  pub printed : isDone 1 11 17 (finishedBy sampleOrder sampleOffset (3 ∷ 1 ∷ 2 ∷ []) 17) ≡ true
-  pub held-early : AfterFirstReleases sampleOrder sampleOffset 1 11
+  pub printed : is_done 1 11 17 (finished_by sample_order sample_offset (3 ∷ 1 ∷ 2 ∷ []) 17) ≡ true
+  pub held_early : AfterFirstReleases sample_order sample_offset 1 11
   -- the program's buffer
-  pub room : watchRoom ≡ 65536
+  pub room : watch_room ≡ 65536
   -- the jobs in order of release: both of tick 1, the higher rank first, that of tick 7, those of ticks 11, 13, 19 and
   -- 21
-  pub first-job : index_of sampleOrder sampleOffset 0 0 ≡ 0
-  pub with_it : index_of sampleOrder sampleOffset 1 0 ≡ 1
-  pub third-job : index_of sampleOrder sampleOffset 0 1 ≡ 2
-  pub fourth-job : rankWith sampleOrder sampleOffset 3 ≡ 1
-  pub fifth-job : rankWith sampleOrder sampleOffset 4 ≡ 0
-  pub seventh-job : rankWith sampleOrder sampleOffset 6 ≡ 1
+  pub first_job : index_of sample_order sample_offset 0 0 ≡ 0
+  pub with_it : index_of sample_order sample_offset 1 0 ≡ 1
+  pub third_job : index_of sample_order sample_offset 0 1 ≡ 2
+  pub fourth_job : rank_with sample_order sample_offset 3 ≡ 1
+  pub fifth_job_lem : rank_with sample_order sample_offset 4 ≡ 0
+  pub seventh_job : rank_with sample_order sample_offset 6 ≡ 1

@@ -4,107 +4,107 @@ use Rattle.std.specs.Prelude.{true, List, [], ◌∷◌, ◌++◌, ℕ, zero, su
 use Rattle.basics.specs.Basics.{pick}
 use Rattle.text.specs.Text.{bytes}
 use Rattle.grammars.specs.Forms.{natural, size}
-use Rattle.grammars.specs.Grammars.{Expected, the_end, a-line, Grammar}
+use Rattle.grammars.specs.Grammars.{Expected, the_end, a_line, Grammar}
 use Rattle.grammars.specs.Sequences.{Sequel, first, sequence}
-use Rattle.rows.specs.Rows.{holdAt, row_at, rowsFor, cost, tasksOf, position_of}
+use Rattle.rows.specs.Rows.{hold_at, row_at, rows_for, cost, tasks_of, position_of}
 use Rattle.rows.specs.Rows.{Row}
-use Rattle.tables.specs.TableLines.{Stage, at-board, at-tasks, at-switch, at_field, at-rank, at-end, expected, table}
+use Rattle.tables.specs.TableLines.{Stage, at_board, at_tasks, at_switch, at_field, at_rank, at-end, expected, table}
 use Rattle.tables.specs.TableLines.{table_at}
-use Rattle.watch_demands.specs.Jobs.{rankWith}
+use Rattle.watch_demands.specs.Jobs.{rank_with}
 
 -- a first release; the ticks of a run; how many lengths there are
-abbrev pub minRelease : ℕ
-minRelease = 0
+abbrev pub min_release : ℕ
+min_release = 0
 
-abbrev pub maxRelease : ℕ
-maxRelease = 1000000
+abbrev pub max_release : ℕ
+max_release = 1000000
 
-abbrev pub minRun : ℕ
-minRun = 1
+abbrev pub min_run : ℕ
+min_run = 1
 
-abbrev pub maxRun : ℕ
-maxRun = 1000000
+abbrev pub max_run : ℕ
+max_run = 1000000
 
-abbrev pub minLengths : ℕ
-minLengths = 0
+abbrev pub min_lengths : ℕ
+min_lengths = 0
 
-abbrev pub maxLengths : ℕ
-maxLengths = 2048
+abbrev pub max_lengths : ℕ
+max_lengths = 2048
 
 -- ---- the table
 -- as the reviewer takes it, but that a hold is 0 and nothing else
-abbrev pub noHold : ℕ
-noHold = 0
+abbrev pub no_hold : ℕ
+no_hold = 0
 
-abbrev pub unheldLine : Stage → Expected
-unheldLine at-board = expected at-board
-unheldLine (at-tasks b) = expected (at-tasks b)
-unheldLine (at-switch n b) = expected (at-switch n b)
-unheldLine (at_field n b s rs vs) =
-    pick (eqb (length vs) holdAt) (a-line (bytes "hold=") (natural noHold noHold)) (expected (at_field n b s rs vs))
-unheldLine (at-rank n b rs os) = expected (at-rank n b rs os)
-unheldLine (at-end b rs os) = expected (at-end b rs os)
+abbrev pub unheld_line : Stage → Expected
+unheld_line at_board = expected at_board
+unheld_line (at_tasks b) = expected (at_tasks b)
+unheld_line (at_switch n b) = expected (at_switch n b)
+unheld_line (at_field n b s rs vs) =
+    pick (eqb (length vs) hold_at) (a_line (bytes "hold=") (natural no_hold no_hold)) (expected (at_field n b s rs vs))
+unheld_line (at_rank n b rs os) = expected (at_rank n b rs os)
+unheld_line (at-end b rs os) = expected (at-end b rs os)
 
 abbrev pub unheld : Grammar Stage
-unheld = record { expected = unheldLine; fault = (table true).fault; after = (table true).after }
+unheld = record { expected = unheld_line; fault = (table true).fault; after = (table true).after }
 
 -- ---- the run
 -- the first releases so far; with them the ticks; with them the lengths so far, of as many as there are
 pub data RunStage : Type 0 where
-  at-release : (releases : List ℕ) → RunStage
-  at-ticks : (releases : List ℕ) → RunStage
-  at-lengths : (releases : List ℕ) (ticks : ℕ) → RunStage
+  at_release : (releases : List ℕ) → RunStage
+  at_ticks : (releases : List ℕ) → RunStage
+  at_lengths : (releases : List ℕ) (ticks : ℕ) → RunStage
   at_length : (count : ℕ) (releases : List ℕ) (ticks : ℕ) (lengths : List ℕ) → RunStage
   run_end : (releases : List ℕ) (ticks : ℕ) (lengths : List ℕ) → RunStage
 
 -- as many first releases as rows, then the ticks; as many lengths as the text says, then the end
-abbrev pub releasesStage : ℕ → List ℕ → RunStage
-releasesStage rows releases = pick (eqb (length releases) rows) (at-ticks releases) (at-release releases)
+abbrev pub releases_stage : ℕ → List ℕ → RunStage
+releases_stage rows releases = pick (eqb (length releases) rows) (at_ticks releases) (at_release releases)
 
-abbrev pub lengthsStage : ℕ → List ℕ → ℕ → List ℕ → RunStage
-lengthsStage count releases ticks lengths =
+abbrev pub lengths_stage : ℕ → List ℕ → ℕ → List ℕ → RunStage
+lengths_stage count releases ticks lengths =
     pick (eqb (length lengths) count) (run_end releases ticks lengths) (at_length count releases ticks lengths)
 
 -- of a table's rows, and of the tasks of its rank lines
 module _ (rows : List Row) (tasks : List ℕ) where
   -- rank i's first release is that of its row
   abbrev pub offset_of : List ℕ → ℕ → ℕ
-  offset_of releases i = get_or releases (position_of (get_or tasks i 0) (tasksOf rows)) 0
+  offset_of releases i = get_or releases (position_of (get_or tasks i 0) (tasks_of rows)) 0
 
   -- the row of the job that the next length is for
-  abbrev pub nextRow : List ℕ → List ℕ → Row
-  nextRow releases lengths =
-      let order = rowsFor tasks rows in row_at order (rankWith order (offset_of releases) (length lengths))
+  abbrev pub next_row : List ℕ → List ℕ → Row
+  next_row releases lengths =
+      let order = rows_for tasks rows in row_at order (rank_with order (offset_of releases) (length lengths))
 
-  abbrev pub runLine : RunStage → Expected
-  runLine (at-release rels) = a-line (bytes "release=") (natural minRelease maxRelease)
-  runLine (at-ticks rels) = a-line (bytes "ticks=") (natural minRun maxRun)
-  runLine (at-lengths rels t) = a-line (bytes "lengths=") (natural minLengths maxLengths)
-  runLine (at_length n rels t ls) = let r = nextRow rels ls in a-line (bytes "length=") (natural r.best (cost r))
-  runLine (run_end rels t ls) = the_end
+  abbrev pub run_line : RunStage → Expected
+  run_line (at_release rels) = a_line (bytes "release=") (natural min_release max_release)
+  run_line (at_ticks rels) = a_line (bytes "ticks=") (natural min_run max_run)
+  run_line (at_lengths rels t) = a_line (bytes "lengths=") (natural min_lengths max_lengths)
+  run_line (at_length n rels t ls) = let r = next_row rels ls in a_line (bytes "length=") (natural r.best (cost r))
+  run_line (run_end rels t ls) = the_end
 
-  abbrev pub runAfter : RunStage → ℕ → RunStage
-  runAfter (at-release rels) v = releasesStage (length rows) (rels ++ (v ∷ []))
-  runAfter (at-ticks rels) v = at-lengths rels v
-  runAfter (at-lengths rels t) v = lengthsStage v rels t []
-  runAfter (at_length n rels t ls) v = lengthsStage n rels t (ls ++ (v ∷ []))
-  runAfter (run_end rels t ls) v = run_end rels t ls
+  abbrev pub run_after : RunStage → ℕ → RunStage
+  run_after (at_release rels) v = releases_stage (length rows) (rels ++ (v ∷ []))
+  run_after (at_ticks rels) v = at_lengths rels v
+  run_after (at_lengths rels t) v = lengths_stage v rels t []
+  run_after (at_length n rels t ls) v = lengths_stage n rels t (ls ++ (v ∷ []))
+  run_after (run_end rels t ls) v = run_end rels t ls
 
   abbrev pub run : Grammar RunStage
-  run = record { expected = runLine; fault = λ s z. 0; after = λ s z. runAfter s (size z) }
+  run = record { expected = run_line; fault = λ s z. 0; after = λ s z. run_after s (size z) }
 
 -- ---- the whole text
-abbrev pub runBehind : Stage → Grammar RunStage
-runBehind s = let a = table_at s in run a.rows a.order
+abbrev pub run_behind : Stage → Grammar RunStage
+run_behind s = let a = table_at s in run a.rows a.order
 
-abbrev pub runBegins : Stage → RunStage
-runBegins s = releasesStage (length (table_at s).rows) []
+abbrev pub run_begins : Stage → RunStage
+run_begins s = releases_stage (length (table_at s).rows) []
 
 abbrev pub WatchStage : Type 0
 WatchStage = Sequel Stage RunStage
 
-abbrev pub watchText : Grammar WatchStage
-watchText = sequence unheld runBehind runBegins
+abbrev pub watch_text : Grammar WatchStage
+watch_text = sequence unheld run_behind run_begins
 
-abbrev pub watch-start : WatchStage
-watch-start = first at-board
+abbrev pub watch_start : WatchStage
+watch_start = first at_board

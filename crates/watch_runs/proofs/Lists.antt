@@ -16,16 +16,16 @@ get_d_any (x ∷ l) zero a b h = refl
 get_d_any (x ∷ l) (suc i) a b h = get_d_any l i a b (omega arith)
 
 -- what holds of the number set, and of the others as they were
-pub set-each : (P : ℕ → ℕ → Type 0) (l : List ℕ) (i v : ℕ) → i < length l → P i v → (j : ℕ)
+pub set_each : (P : ℕ → ℕ → Type 0) (l : List ℕ) (i v : ℕ) → i < length l → P i v → (j : ℕ)
     → ((j ≡ i → ⊥) → P j (get_or l j 0)) → P j (get_or (set l i v) j 0)
-set-each P l i v h here j other = elim (ℕ_discrete j i) [
+set_each P l i v h here j other = elim (ℕ_discrete j i) [
   | yes e ↦ rw (e, get_or-set_same l i v 0 h) here
   | no ne ↦ rw (get_or-set_other l i j v 0 ne) (other ne)
 ]
 
-pub set-within : (l : List ℕ) (i v most n : ℕ) → i < length l → ((j : ℕ) → j < n → get_or l j 0 ≤ most) → v ≤ most
+pub set_within : (l : List ℕ) (i v most n : ℕ) → i < length l → ((j : ℕ) → j < n → get_or l j 0 ≤ most) → v ≤ most
     → (j : ℕ) → j < n → get_or (set l i v) j 0 ≤ most
-set-within l i v most n h all here j b = set-each (λ j x. x ≤ most) l i v h here j (λ ne. all j b)
+set_within l i v most n h all here j b = set_each (λ j x. x ≤ most) l i v h here j (λ ne. all j b)
 
 pub passed : (o : List ℕ) (from rank m : ℕ) → ((x : ℕ) → from ≤ x → x < m → get_or o x 0 ≡ rank → ⊥)
     → (get_or o m 0 ≡ rank → ⊥) → (x : ℕ) → from ≤ x → x < m + 1 → get_or o x 0 ≡ rank → ⊥

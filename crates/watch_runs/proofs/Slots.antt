@@ -10,16 +10,16 @@ use lib.ListN.{length, get_or, get_or-eq_default}
 use Rattle.basics.proofs.Tests.{le-or-lt}
 use Rattle.rows.specs.Rows.{row_at}
 use Rattle.rows.specs.Rows.{Row}
-use Rattle.watch_demands.specs.Jobs.{index_of, rankWith}
-use Rattle.watch_demands.proofs.Jobs.{later-job, earlier-job, rank_is}
+use Rattle.watch_demands.specs.Jobs.{index_of, rank_with}
+use Rattle.watch_demands.proofs.Jobs.{later_job, earlier_job, rank_is}
 use Rattle.watch_demands.proofs.Merges.{indexed}
 use Rattle.watch_runs.specs.inside.Owners.{Owned, Sought, NextSlot}
 use Rattle.watch_runs.specs.inside.States.{SlotIs}
 
 -- the length in a slot is that at the index: past the list both are the other number
-pub slot-length : (lengths : List ℕ) (index slot other : ℕ) → SlotIs (length lengths) index slot
+pub slot_length : (lengths : List ℕ) (index slot other : ℕ) → SlotIs (length lengths) index slot
     → get_or lengths slot other ≡ get_or lengths index other
-slot-length lengths index slot other s = elim (le-or-lt (length lengths) index) [
+slot_length lengths index slot other s = elim (le-or-lt (length lengths) index) [
   | inl h ↦ get_or-eq_default lengths other (omega (arith, s.far h)) ∙ sym (get_or-eq_default lengths other h)
   | inr h ↦ ap (λ (x : ℕ). get_or lengths x other) (s.near h)
 ]
@@ -34,10 +34,10 @@ module _
     -- a slot of the rank is the index of one of its jobs
     job_of : (m : ℕ) → m < length owners → get_or owners m 0 ≡ j → (k : ℕ) × (index k ≡ m)
     job_of m h e =
-        let o = (indexed order offset periods).none-left-out (omega (arith, l)) m in
+        let o = (indexed order offset periods).none_left_out (omega (arith, l)) m in
         let mine : o.0 ≡ j =
         sym (rank_is order offset periods o.0 o.1 o.2)
-        ∙ ap (rankWith order offset) o.3
+        ∙ ap (rank_with order offset) o.3
         ∙ sym (owned m h)
         ∙ e in
         (o.1, ap (λ (i : ℕ). index_of order offset i o.1) (sym mine) ∙ o.3)
@@ -47,39 +47,39 @@ module _
         (k from r : ℕ) (s : Sought owners from j r)
         (before : (a : ℕ) → a < k → index a < from) (not-before : from ≤ index k)
       where
-        none-sooner : r < length owners → r < index k → ⊥
-        none-sooner h sooner =
+        none_sooner : r < length owners → r < index k → ⊥
+        none_sooner h sooner =
             let o = job_of r h (s.owner h) in
-            let b = before o.0 (earlier-job order offset periods j o.0 k l (omega (arith, o.1))) in
+            let b = before o.0 (earlier_job order offset periods j o.0 k l (omega (arith, o.1))) in
             omega (arith, o.1, s.onward)
 
-        none-later : index k < length owners → index k < r → ⊥
-        none-later h later =
+        none_later : index k < length owners → index k < r → ⊥
+        none_later h later =
             s.between (index k) not-before later (owned (index k) h ∙ rank_is order offset periods j k l)
 
-        sought-is : SlotIs (length owners) (index k) r
-        sought-is = record {
+        sought_is : SlotIs (length owners) (index k) r
+        sought_is = record {
           within = s.within;
           near = λ h. elim (le-or-lt r (index k)) [
             | inl a ↦ elim (le-or-lt (index k) r) [
               | inl b ↦ le_antisymm a b
-              | inr b ↦ absurd (none-sooner (omega arith) b)
+              | inr b ↦ absurd (none_sooner (omega arith) b)
             ]
-            | inr a ↦ absurd (none-later h a)
+            | inr a ↦ absurd (none_later h a)
           ];
           far = λ h. elim (le-or-lt (length owners) r) [
             | inl a ↦ le_antisymm s.within a
-            | inr a ↦ absurd (none-sooner a (omega arith))
+            | inr a ↦ absurd (none_sooner a (omega arith))
           ];
         }
 
     pub first_slot : (r : ℕ) → Sought owners 0 j r → SlotIs (length owners) (index 0) r
-    first_slot r s = sought-is 0 0 r s (λ a b. absurd (not-suc-le-zero b)) (omega arith)
+    first_slot r s = sought_is 0 0 r s (λ a b. absurd (not-suc-le-zero b)) (omega arith)
 
-    pub following-slot : (k slot r : ℕ) → SlotIs (length owners) (index k) slot → NextSlot owners slot j r
+    pub following_slot : (k slot r : ℕ) → SlotIs (length owners) (index k) slot → NextSlot owners slot j r
         → SlotIs (length owners) (index (suc k)) r
-    following-slot k slot r p n =
-        let grows = later-job order offset periods j k (suc k) l (omega arith) in
+    following_slot k slot r p n =
+        let grows = later_job order offset periods j k (suc k) l (omega arith) in
         elim (le-or-lt (length owners) (index k)) [
           | inl h ↦ record {
             within = n.within;
@@ -88,11 +88,11 @@ module _
           }
           | inr h ↦ (
               let here = p.near h in
-              sought-is (suc k) (slot + 1) r (n.goes_on (omega arith)) (λ a b. omega (arith, up_to a b)) (omega arith))
+              sought_is (suc k) (slot + 1) r (n.goes_on (omega arith)) (λ a b. omega (arith, up_to a b)) (omega arith))
         ]
       where
         up_to : (a : ℕ) → a < suc k → index a ≤ index k
         up_to a b = elim (le-or-lt k a) [
           | inl h ↦ (let e : a ≡ k = omega arith in omega (arith, ap index e))
-          | inr h ↦ omega (arith, later-job order offset periods j a k l h)
+          | inr h ↦ omega (arith, later_job order offset periods j a k l h)
         ]

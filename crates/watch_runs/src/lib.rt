@@ -2,8 +2,8 @@
 // processor: every tick goes by rank.
 ghost use Rattle.std.specs.Prelude.{◌≤◌, length};
 ghost use Rattle.text.specs.inside.Puts.{Put};
-ghost use Rattle.watch_demands.specs.Runs.{jobText};
-ghost use Rattle.watch_runs.specs.inside.Runs.{runRoom, PutIf, Startable, Runnable, Runs, RunsOrder};
+ghost use Rattle.watch_demands.specs.Runs.{job_text};
+ghost use Rattle.watch_runs.specs.inside.Runs.{run_room, PutIf, Startable, Runnable, Runs, RunsOrder};
 
 pub use owners::fill_owners;
 use plans::Answer;
@@ -20,8 +20,8 @@ const JOB_ROOM: usize = 83;
 
 // A job's three lines, in a buffer that has room for any.
 fn job_lines(lines: &mut [u8], task: u64, release: u64, finish: u64) -> usize
-    requires { length (jobText task release finish) ≤ length lines.old }
-    ensures { Put (jobText task release finish) 0 lines.old lines.new result }
+    requires { length (job_text task release finish) ≤ length lines.old }
+    ensures { Put (job_text task release finish) 0 lines.old lines.new result }
 {
     let at = put_line(lines, 0, b"task=", task);
     let at = put_line(lines, at, b"release=", release);
@@ -30,8 +30,8 @@ fn job_lines(lines: &mut [u8], task: u64, release: u64, finish: u64) -> usize
 
 // A job's lines at an offset, if they fit; and where they end, whether or not they do.
 fn put_job(out: &mut [u8], at: usize, task: u64, release: u64, finish: u64) -> usize
-    requires { at ≤ runRoom }
-    ensures { PutIf (jobText task release finish) at out.old out.new result }
+    requires { at ≤ run_room }
+    ensures { PutIf (job_text task release finish) at out.old out.new result }
 {
     let mut lines = [0u8; JOB_ROOM];
     let long = job_lines(&mut lines, task, release, finish);

@@ -1,7 +1,7 @@
 // The table at the front of a text to watch: read as the reviewer's, but that no task holds the processor.
 ghost use Rattle.std.specs.Prelude.{◌≡◌, false};
 ghost use Rattle.readers.specs.inside.Numbers.{Room};
-ghost use Rattle.watches.specs.inside.Fronts.{isEnd, atHold, is_over, OnFront, TakesUnheld, ReadsFront};
+ghost use Rattle.watches.specs.inside.Fronts.{is_end, at_hold, is_over, OnFront, TakesUnheld, ReadsFront};
 
 use readers::{Part, Progress, Stand, take_line};
 use rows::HOLD;
@@ -12,7 +12,7 @@ const NO_HOLD: u64 = 0;
 
 // Whether the table is read.
 fn is_end(part: Part) -> bool
-    ensures { result ≡ isEnd part }
+    ensures { result ≡ is_end part }
 {
     match part {
         Part::Board => false,
@@ -26,7 +26,7 @@ fn is_end(part: Part) -> bool
 
 // Whether the next line is a hold.
 fn at_hold(stand: Stand) -> bool
-    ensures { result ≡ atHold stand.part stand.position }
+    ensures { result ≡ at_hold stand.part stand.position }
 {
     let part = stand.part;
     match part {
@@ -54,7 +54,7 @@ fn is_over(p: Progress) -> bool
 // The reading past the line that is expected: as the table's, but that a hold is to be 0.
 fn take_unheld(text: &[u8], before: Progress, numbers: &mut [u64]) -> Progress
     requires on_front { OnFront text.now (before, numbers.old) }
-    requires part_value { isEnd before.stand.part ≡ false }
+    requires part_value { is_end before.stand.part ≡ false }
     ensures { TakesUnheld before text.now numbers.old result numbers.new }
 {
     let stand = before.stand;

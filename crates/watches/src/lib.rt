@@ -3,9 +3,9 @@ ghost use Rattle.std.specs.Prelude.{◌≡◌, ◌*◌, ◌≤◌, length, repli
 ghost use Rattle.io.specs.Counts.{IsPrefixLen};
 ghost use Rattle.text.specs.Buffers.{Wrote};
 ghost use Rattle.text.specs.Lines.{refusal, place};
-ghost use Rattle.rows.specs.Rows.{maxTasks, maxTicks};
+ghost use Rattle.rows.specs.Rows.{max_tasks, max_ticks};
 ghost use Rattle.plans.specs.Outcomes.{refuses, result, Written};
-ghost use Rattle.watch_demands.specs.Calls.{watched, watchRoom, watcherPrints};
+ghost use Rattle.watch_demands.specs.Calls.{watched, watch_room, watcher_prints};
 ghost use Rattle.watch_demands.specs.Demands.{WatchSays};
 ghost use Rattle.watches.specs.inside.Stages.{TableIn, Ordering, AtReleases, Laid, AtTicks, AtLengths, RunsLaid};
 ghost use Rattle.watches.specs.inside.Stages.{Located, OffsetsAre};
@@ -44,7 +44,7 @@ pub const WATCH_ROOM: usize = 65_536;
 
 // A buffer with that room.
 pub fn buffer() -> [u8; WATCH_ROOM]
-    ensures* { λ r. ⌜ r ≡ replicate watchRoom 0 ⌝ }
+    ensures* { λ r. ⌜ r ≡ replicate watch_room 0 ⌝ }
 {
     [0; WATCH_ROOM]
 }
@@ -61,7 +61,7 @@ fn refused_by(answer: Line) -> Answer
 
 // The first release of each rank: that of its row.
 fn offsets_for(releases: [u64; MAX_TASKS], positions: &[usize], n: usize) -> [u64; MAX_TASKS]
-    requires { (n ≤ maxTasks) × Located n positions.now }
+    requires { (n ≤ max_tasks) × Located n positions.now }
     ensures* { λ r. ⌜ OffsetsAre n releases positions.now r ⌝ }
 {
     let mut offsets = [0u64; MAX_TASKS];
@@ -97,7 +97,7 @@ fn watch_run(
     owners: &[usize],
     lengths: &[u64],
 ) -> Answer
-    requires { Laid numbers.now n positions.now columns.now offsets × (ticks ≤ maxTicks) }
+    requires { Laid numbers.now n positions.now columns.now offsets × (ticks ≤ max_ticks) }
     ensures* { λ r. ⌜ RunsLaid numbers.now n positions.now columns.now offsets ticks
         owners.now lengths.now out.old out.new r ⌝ }
 {
@@ -257,7 +257,7 @@ pub fn watch_board(text: &[u8], out: &mut [u8]) -> Answer
 
 // What the watcher's program prints for the text it took: the lines of the jobs, or the three lines of its refusal.
 pub fn print_watch(text: &[u8], out: &mut [u8; WATCH_ROOM]) -> usize
-    ensures* fact { λ r. ⌜ Wrote (watcherPrints text.now) out.old out.new r ⌝ }
+    ensures* fact { λ r. ⌜ Wrote (watcher_prints text.now) out.old out.new r ⌝ }
     ensures* fact_2 { λ r. ⌜ IsPrefixLen r out.new ⌝ }
 {
     let watched = watch_board(text, out);

@@ -1,7 +1,7 @@
 // Lines with one key, one after another.
 ghost use Rattle.std.specs.Prelude.{◌≡◌, false};
-ghost use Rattle.basics.specs.Basics.{isIn};
-ghost use Rattle.text.specs.Text.{lineFeed};
+ghost use Rattle.basics.specs.Basics.{is_in};
+ghost use Rattle.text.specs.Text.{line_feed};
 ghost use Rattle.watches.specs.inside.Lines.{range_of, ReadsNumbers, Readable};
 
 use text::{Line, line_at};
@@ -18,7 +18,7 @@ pub fn read_numbers(
     owners: &[usize],
     numbers: &mut [u64],
 ) -> Line
-    requires key_value { isIn lineFeed key.now ≡ false }
+    requires key_value { is_in line_feed key.now ≡ false }
     requires readable { Readable first lows.now highs.now owners.now numbers.old }
     ensures { ReadsNumbers text.now key.now
         (range_of lows.now owners.now) (range_of highs.now owners.now)

@@ -12,5 +12,5 @@ sub-result c = omega (arith, c.if1.false)
 returns-2 : tie.Need-returns-2
 returns-2 c = omega arith
 
-pub blocking-time-spec : {M : Type 1} → statement M
-blocking-time-spec = tie.close (tie.spec returns sub-result returns-2)
+pub blocking_time_spec : {M : Type 1} → statement M
+blocking_time_spec = tie.close (tie.spec returns sub-result returns-2)

@@ -4,9 +4,9 @@ use Prim.Native.Nat.{ℕ, ◌-◌}
 use native.Mathlib.Numerals.{add-one}
 use native.Mathlib.Omega.{arith}
 use lib.ListN.{length, take}
-use Rattle.rows.specs.Rows.{timesInRange}
-use Rattle.rows.specs.inside.Numbers.{rowsIn}
-use Rattle.rows.proofs.Limits.{at-passes}
+use Rattle.rows.specs.Rows.{times_in_range}
+use Rattle.rows.specs.inside.Numbers.{rows_in}
+use Rattle.rows.proofs.Limits.{at_passes}
 use Rattle.analysis.specs.inside.Columns.{Filled}
 use Rattle.analysis.proofs.Filling.{rows_long, row_is, filled_none, filled_more}
 use Rattle.analysis.proofs.fill_columns.Statement.{statement}
@@ -14,7 +14,7 @@ use Rattle.analysis.proofs.fill_columns.Tie as tie
 
 abbrev invariant-loop : tie.invariant-loop
 invariant-loop rows positions n columns₀ k₀ columns k =
-    (length columns ≡ length columns₀) × Filled (rowsIn rows (take n positions)) n k columns
+    (length columns ≡ length columns₀) × Filled (rows_in rows (take n positions)) n k columns
 
 abbrev decreases-loop : tie.decreases-loop
 decreases-loop rows positions n columns₀ k₀ columns k = n - k
@@ -23,7 +23,7 @@ loop-holds : tie.Need-loop-init invariant-loop decreases-loop
 loop-holds c =
     let s = c.before.before.before in (
       refl,
-      filled_none (rowsIn s.args.rows.now (take s.args.n s.args.positions.now)) s.args.n
+      filled_none (rows_in s.args.rows.now (take s.args.n s.args.positions.now)) s.args.n
           s.args.columns.now s.requires.room,
     )
 
@@ -35,7 +35,7 @@ mul-put-times c =
 shared-slice-read-put-times : tie.Need-shared-slice-read-put-times invariant-loop decreases-loop
 shared-slice-read-put-times c =
     let s = c.before.before.before.before.before.before in
-    omega (arith, s.requires.held.positions-held, c.before.loop-test.true)
+    omega (arith, s.requires.held.positions_held, c.before.loop-test.true)
 
 put-times-requires : tie.Need-put-times-requires invariant-loop decreases-loop
 put-times-requires c κs =
@@ -43,12 +43,12 @@ put-times-requires c κs =
     let x = c.before.before.before.loop in
     let t = c.before.before.loop-test.true in
     let a = s.args in
-    let held = s.requires.held.positions-held in
+    let held = s.requires.held.positions_held in
     let here = row_is a.rows.now a.positions.now a.n held x.k t in
     let long = rows_long a.rows.now a.positions.now a.n held in
-    let rows = rowsIn a.rows.now (take a.n a.positions.now) in (
-      s.requires.held.rows-held x.k t,
-      ap timesInRange (sym here) ∙ at-passes timesInRange rows x.k s.requires.times-in-range (omega (arith, long, t)),
+    let rows = rows_in a.rows.now (take a.n a.positions.now) in (
+      s.requires.held.rows_held x.k t,
+      ap times_in_range (sym here) ∙ at_passes times_in_range rows x.k s.requires.times_are_in_range (omega (arith, long, t)),
       t,
       s.requires.few,
       x.invariant.1.room,
@@ -69,7 +69,7 @@ loop-again c =
     let k = c.before.before.before.before.before in
     let x = k.before.loop in
     let put = c.before.before.put-times in
-    let more = filled_more a.rows.now a.positions.now a.n s.requires.held.positions-held x.k x.columns
+    let more = filled_more a.rows.now a.positions.now a.n s.requires.held.positions_held x.k x.columns
     _
     x.invariant.1 k.loop-test.true put.ensures in
     (put.auto.1.1.0 ∙ x.invariant.0, rw (add-one x.k) more)
@@ -82,11 +82,11 @@ returns c =
     let x = c.before.loop in
     let s = c.before.before.before.before.before in
     let e : x.k ≡ s.args.n = omega (arith, x.invariant.1.among, c.loop-test.false) in
-    subst (λ (k : ℕ). Filled (rowsIn s.args.rows.now (take s.args.n s.args.positions.now)) s.args.n k
+    subst (λ (k : ℕ). Filled (rows_in s.args.rows.now (take s.args.n s.args.positions.now)) s.args.n k
     x.columns) e x.invariant.1
 
-pub fill-columns-spec : {M : Type 1} → statement M
-fill-columns-spec =
+pub fill_columns_spec : {M : Type 1} → statement M
+fill_columns_spec =
     tie.close
     (tie.spec
     invariant-loop

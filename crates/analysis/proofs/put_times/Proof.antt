@@ -14,7 +14,7 @@ cost-at-requires : tie.Need-cost-at-requires
 cost-at-requires c κs =
     let s = c.before.before.before in
     let h = times (row_in s.args.rows.now s.args.i) s.requires.1 in
-    (s.requires.0, omega (arith, h.cost-period, h.period-max))
+    (s.requires.0, omega (arith, h.cost_period, h.period_max))
 
 slice-write-columns-2 : tie.Need-slice-write-columns-2
 slice-write-columns-2 c =
@@ -27,20 +27,20 @@ slice-write-columns-3 c =
     let columns = s.args.columns.now in
     let k = s.args.k in
     let period = c.before.before.number_at.result in
-    let cost = c.before.cost-at.result in
+    let cost = c.before.cost_at.result in
     omega (arith, length-set (set columns k period) (s.args.n + k) cost, length-set columns k period)
 
 returns : tie.Need-returns
 returns c =
     let a = c.before.before.before.before.before.args in
-    let period-is = c.before.before.number_at.ensures in
-    let best-is = c.number-at2.ensures in
-    rw c.before.cost-at.ensures
+    let period_is = c.before.before.number_at.ensures in
+    let best_is = c.number-at2.ensures in
+    rw c.before.cost_at.ensures
     (ap₂ (λ (p b : ℕ). set (set (set a.columns.now a.k p) (a.n + a.k) (cost (row_in a.rows.now a.i)))
-    (a.n + a.n + a.k) b) period-is best-is)
+    (a.n + a.n + a.k) b) period_is best_is)
 
-pub put-times-spec : {M : Type 1} → statement M
-put-times-spec =
+pub put_times_spec : {M : Type 1} → statement M
+put_times_spec =
     tie.close
     (tie.spec (λ c κs. search rules) (λ c. search rules) (λ c. search rules) cost-at-requires (λ c. search rules)
     (λ c. search rules) slice-write-columns-2 (λ c κs. search rules) (λ c. search rules) (λ c. search rules)

@@ -38,8 +38,8 @@ returns c =
 returns-2 : tie.Need-returns-2
 returns-2 c = rw (lt-leb 3 (length c.before.args.answer.now) c.if1.false) refl
 
-pub put-answer-spec : {M : Type 1} → statement M
-put-answer-spec =
+pub put_answer_spec : {M : Type 1} → statement M
+put_answer_spec =
     tie.close
     (tie.spec
     cast-answer

@@ -9,5 +9,5 @@ returns c = simp (le-leb _ _ c.if1.true)
 returns-2 : tie.Need-returns-2
 returns-2 c = simp (lt-leb _ _ c.if1.false)
 
-pub larger-spec : {M : Type 1} → statement M
-larger-spec = tie.close (tie.spec returns returns-2)
+pub larger_spec : {M : Type 1} → statement M
+larger_spec = tie.close (tie.spec returns returns-2)

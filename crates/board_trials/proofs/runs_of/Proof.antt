@@ -43,8 +43,8 @@ loop-again c = search rules
 returns : tie.Need-returns invariant-loop decreases-loop
 returns c = search rules
 
-pub runs-of-spec : {M : Type 1} → statement M
-runs-of-spec =
+pub runs_of_spec : {M : Type 1} → statement M
+runs_of_spec =
     tie.close
     (tie.spec
     invariant-loop

@@ -5,7 +5,7 @@ use native.Mathlib.Numerals.{add-one}
 use native.Mathlib.Omega.{arith}
 use lib.ListN.{length, length-set}
 use borrow.Author.Rules.{rules}
-use Rattle.cranes.proofs.Ends.{Cutting, cut-first, cut-many, cut-moves, cut-next, cut-ends}
+use Rattle.cranes.proofs.Ends.{Cutting, cut_first, cut_many, cut_moves, cut_next, cut_ends}
 use Rattle.cranes.proofs.cut.Statement.{statement}
 use Rattle.cranes.proofs.cut.Tie as tie
 
@@ -24,7 +24,7 @@ slice-write-ends c = search rules
 loop-holds : tie.Need-loop-init invariant-loop decreases-loop
 loop-holds c =
     let s = c.before.before.before in
-    (cut-first _ s.args.ends.now _ s.requires c.piece-end.ensures, refl)
+    (cut_first _ s.args.ends.now _ s.requires c.piece-end.ensures, refl)
 
 add-result : tie.Need-overflow-add-result invariant-loop decreases-loop
 add-result c = search rules
@@ -38,9 +38,9 @@ returns : tie.Need-returns invariant-loop decreases-loop
 returns c =
     let x = c.before.before.loop in
     record {
-      many = λ m. cut-many x.invariant.0 c.before.loop-test.true (omega (arith, x.invariant.0.few, c.if1.true));
+      many = λ m. cut_many x.invariant.0 c.before.loop-test.true (omega (arith, x.invariant.0.few, c.if1.true));
       counted = λ f. absurd (omega arith);
-      ends-are = λ f. absurd (omega arith);
+      ends_are = λ f. absurd (omega arith);
     }
 
 piece-end-requires-2 : tie.Need-piece-end-requires-2 invariant-loop decreases-loop
@@ -58,14 +58,14 @@ add-count c = omega arith
 loop-less : tie.Need-loop-smaller invariant-loop decreases-loop
 loop-less c =
     let k = c.before.before in
-    omega (arith, c.piece-end2.ensures, cut-moves k.before.loop.invariant.0 k.loop-test.true)
+    omega (arith, c.piece-end2.ensures, cut_moves k.before.loop.invariant.0 k.loop-test.true)
 
 loop-again : tie.Need-loop-preserved invariant-loop decreases-loop
 loop-again c =
     let k = c.before.before in
     let x = k.before.loop in
     rw (add-one x.count) (
-      cut-next x.invariant.0 k.loop-test.true _ c.piece-end2.ensures (omega arith),
+      cut_next x.invariant.0 k.loop-test.true _ c.piece-end2.ensures (omega arith),
       length-set x.ends x.count _ ∙ x.invariant.1,
     )
 
@@ -75,7 +75,7 @@ same-length-2 c =
     c.before.loop.invariant.1 ∙ length-set k.before.before.before.args.ends.now 0 k.piece-end.result
 
 returns-2 : tie.Need-returns-2 invariant-loop decreases-loop
-returns-2 c = cut-ends c.before.loop.invariant.0 c.loop-test.false
+returns-2 c = cut_ends c.before.loop.invariant.0 c.loop-test.false
 
 pub cut_spec : {M : Type 1} → statement M
 cut_spec =

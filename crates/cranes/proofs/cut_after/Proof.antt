@@ -8,9 +8,9 @@ use lib.ListN.{length, get_or, drop, length-drop}
 use lib.Seq.{take_all}
 use borrow.Author.Rules.{rules}
 use borrow.Author.Tests.{eq-eqb, ne_eqb}
-use Rattle.text.specs.Text.{lineFeed}
+use Rattle.text.specs.Text.{line_feed}
 use Rattle.text.specs.Lines.{begins}
-use Rattle.crane_demands.specs.Pieces.{boardKey}
+use Rattle.crane_demands.specs.Pieces.{board_key}
 use Rattle.cranes.proofs.cut_after.Statement.{statement}
 use Rattle.cranes.proofs.cut_after.Tie as tie
 
@@ -45,13 +45,13 @@ returns-2 c =
     let i = s.args.i in
     let long = length-drop (i + 1) text in
     let rest = take_all (length text - (i + 1)) (drop (i + 1) text) (omega arith) ∙ ap (λ k. drop k text) (add-one i) in
-    let feed = eq-eqb (get_or text i 0) lineFeed c.before.before.before.if1.false in
+    let feed = eq-eqb (get_or text i 0) line_feed c.before.before.before.if1.false in
     c.starts_with.ensures
-    ∙ ap (begins boardKey) rest
-    ∙ sym (ap (λ t. t && begins boardKey (drop (suc i) text)) feed)
+    ∙ ap (begins board_key) rest
+    ∙ sym (ap (λ t. t && begins board_key (drop (suc i) text)) feed)
 
-pub cut-after-spec : {M : Type 1} → statement M
-cut-after-spec =
+pub cut_after_spec : {M : Type 1} → statement M
+cut_after_spec =
     tie.close
     (tie.spec
     shared-slice-read-if1

@@ -5,13 +5,13 @@ use native.Mathlib.Numerals.{add-one}
 use native.Mathlib.Omega.{arith}
 use lib.ListN.{length, drop, drop_of_length-le}
 use borrow.Author.Rules.{rules}
-use Rattle.cranes.specs.inside.Ends.{firstLong}
-use Rattle.cranes.proofs.Ends.{first-cut, first_on}
+use Rattle.cranes.specs.inside.Ends.{first_long}
+use Rattle.cranes.proofs.Ends.{first_cut, first_on}
 use Rattle.cranes.proofs.piece_end.Statement.{statement}
 use Rattle.cranes.proofs.piece_end.Tie as tie
 
 abbrev invariant-loop : tie.invariant-loop
-invariant-loop text from i₀ i = i + firstLong (drop i text) ≡ from + firstLong (drop from text)
+invariant-loop text from i₀ i = i + first_long (drop i text) ≡ from + first_long (drop from text)
 
 abbrev decreases-loop : tie.decreases-loop
 decreases-loop text from i₀ i = length text - i
@@ -29,7 +29,7 @@ returns : tie.Need-returns invariant-loop decreases-loop
 returns c =
     let x = c.before.before.before.loop in
     let text = c.before.before.before.before.before.args.text.now in
-    let e = first-cut text x.i (omega arith) (sym c.before.cut-after.ensures ∙ c.if1.true) in
+    let e = first_cut text x.i (omega arith) (sym c.before.cut-after.ensures ∙ c.if1.true) in
     omega (arith, x.invariant, e)
 
 add-i : tie.Need-overflow-add-i invariant-loop decreases-loop
@@ -49,10 +49,10 @@ returns-2 : tie.Need-returns-2 invariant-loop decreases-loop
 returns-2 c =
     let x = c.before.loop in
     let text = c.before.before.before.args.text.now in
-    omega (arith, x.invariant, ap firstLong (drop_of_length-le text {i = x.i} (omega arith)))
+    omega (arith, x.invariant, ap first_long (drop_of_length-le text {i = x.i} (omega arith)))
 
-pub piece-end-spec : {M : Type 1} → statement M
-piece-end-spec =
+pub piece_end_spec : {M : Type 1} → statement M
+piece_end_spec =
     tie.close
     (tie.spec
     invariant-loop

@@ -6,9 +6,9 @@ use native.Mathlib.Numerals.{add-one}
 use native.Mathlib.Omega.{arith}
 use lib.ListN.{length, get_or, take, drop}
 use borrow.Author.Rules.{rules}
-use Rattle.text.proofs.Puts.{wrote-front}
+use Rattle.text.proofs.Puts.{wrote_front}
 use Rattle.crane_demands.specs.Pieces.{pieces}
-use Rattle.cranes.proofs.Answers.{Printing, print-first, to_is, to_in, part-is, answer-fits, print-next, print-ends}
+use Rattle.cranes.proofs.Answers.{Printing, print_first, to_is, to_in, part_is, answer_fits, print_next, print_ends}
 use Rattle.cranes.proofs.put_answers.Statement.{statement}
 use Rattle.cranes.proofs.put_answers.Tie as tie
 
@@ -33,7 +33,7 @@ module _ (k : tie.In-loop invariant-loop decreases-loop) where
   piece_is : take (get_or (start k).args.ends.now k.before.loop.i 0 - k.before.loop.from)
       (drop k.before.loop.from (start k).args.text.now)
       ≡ get_or (pieces (start k).args.text.now) k.before.loop.i []
-  piece_is = part-is k.before.loop.inv (counted (start k)) (start k).pre.1.0 k.loop-test.taken
+  piece_is = part_is k.before.loop.inv (counted (start k)) (start k).pre.1.0 k.loop-test.taken
 
 buffer-requires : tie.Need-buffer-requires invariant-loop decreases-loop
 buffer-requires c κs = search rules
@@ -41,7 +41,7 @@ buffer-requires c κs = search rules
 loop-holds : tie.Need-loop-init invariant-loop decreases-loop
 loop-holds c =
     let s = c.before.before.before.before in
-    print-first _ _ _ _ s.requires.0.0 s.requires.0.1 s.requires.1.1
+    print_first _ _ _ _ s.requires.0.0 s.requires.0.1 s.requires.1.1
 
 mul-to : tie.Need-overflow-mul-to invariant-loop decreases-loop
 mul-to c = omega (arith, (start c).requires.0.0)
@@ -73,8 +73,8 @@ put-bytes-requires : tie.Need-put-bytes-requires invariant-loop decreases-loop
 put-bytes-requires c κs =
     let k = c.before.before.before.before.before.before in
     let printed = rw (piece_is k) at c.before.before.print-plan.ensures.0 in
-    rw (wrote-front printed)
-    (answer-fits k.before.loop.invariant (counted (start k)) (start k).requires.1.0 k.loop-test.true)
+    rw (wrote_front printed)
+    (answer_fits k.before.loop.invariant (counted (start k)) (start k).requires.1.0 k.loop-test.true)
 
 add-i : tie.Need-overflow-add-i invariant-loop decreases-loop
 add-i c =
@@ -92,17 +92,17 @@ loop-again c =
     let x = k.before.loop in
     let printed = rw (piece_is k) at c.before.before.before.before.before.print-plan.ensures.0 in
     rw (add-one x.i)
-    (print-next x.invariant (counted (start k)) (start k).requires.1.0 k.loop-test.true _ _
-    (rw (wrote-front printed) at c.before.before.put-bytes.ensures))
+    (print_next x.invariant (counted (start k)) (start k).requires.1.0 k.loop-test.true _ _
+    (rw (wrote_front printed) at c.before.before.put-bytes.ensures))
 
 same_length : tie.Need-same-length invariant-loop decreases-loop
 same_length c = c.before.loop.invariant.going.same
 
 returns : tie.Need-returns invariant-loop decreases-loop
-returns c = print-ends c.before.loop.invariant (counted c.before.before.before.before.before.before) c.loop-test.false
+returns c = print_ends c.before.loop.invariant (counted c.before.before.before.before.before.before) c.loop-test.false
 
-pub put-answers-spec : {M : Type 1} → statement M
-put-answers-spec =
+pub put_answers_spec : {M : Type 1} → statement M
+put_answers_spec =
     tie.close
     (tie.spec
     invariant-loop

@@ -4,11 +4,11 @@ use Prim.Native.Nat.{ℕ, ◌-◌, ◌*◌}
 use native.Mathlib.Omega.{arith}
 use borrow.Author.Rules.{rules}
 use lib.IntN.{sub_ℕ}
-use Rattle.curves.specs.Curves.{pointsFrom, thousandths}
-use Rattle.curves.proofs.Floors.{answered, floor-one}
-use Rattle.curves.proofs.Permits.{permitted-parts}
-use Rattle.curves.proofs.Places.{last-is}
-use Rattle.curves.proofs.Margins.{up-to-last, past-last}
+use Rattle.curves.specs.Curves.{points_from, thousandths}
+use Rattle.curves.proofs.Floors.{answered, floor_one}
+use Rattle.curves.proofs.Permits.{permitted_parts}
+use Rattle.curves.proofs.Places.{last_is}
+use Rattle.curves.proofs.Margins.{up_to_last, past_last}
 use Rattle.curves.proofs.curve_margin.Statement.{statement}
 use Rattle.curves.proofs.curve_margin.Tie as tie
 
@@ -36,11 +36,11 @@ floor-of-requires c κs = search rules
 returns : tie.Need-returns
 returns c =
     let s = c.before.before.before.before in
-    let curve = pointsFrom s.args.n s.args.points.now in
-    let l = last-is s.args.n s.args.points.now s.requires.0 in
-    let q = past-last curve s.args.latest s.args.earliest (omega (arith, l)) in
+    let curve = points_from s.args.n s.args.points.now in
+    let l = last_is s.args.n s.args.points.now s.requires.0 in
+    let q = past_last curve s.args.latest s.args.earliest (omega (arith, l)) in
     answered _ _ record { sfits = c.floor-of.type-inv } (c.floor-of.ensures
-    ∙ (floor-one _ ∙ (ap (λ (d : ℕ). sub_ℕ (1000 * d) (1000 * s.args.earliest)) (sym l) ∙ sym q)))
+    ∙ (floor_one _ ∙ (ap (λ (d : ℕ). sub_ℕ (1000 * d) (1000 * s.args.earliest)) (sym l) ∙ sym q)))
 
 permitted-requires : tie.Need-permitted-requires
 permitted-requires c κs = search rules
@@ -51,21 +51,21 @@ sub-thousandths c = search rules
 thousandths-requires : tie.Need-thousandths-requires
 thousandths-requires c κs =
     let s = c.before.before.before.before in
-    let curve = pointsFrom s.args.n s.args.points.now in
-    let p = permitted-parts curve s.args.earliest c.permitted.result s.requires.2 c.permitted.ensures in
-    (p.under_some, p.under-max, p.over-max, omega (arith, s.requires.3))
+    let curve = points_from s.args.n s.args.points.now in
+    let p = permitted_parts curve s.args.earliest c.permitted.result s.requires.2 c.permitted.ensures in
+    (p.under_some, p.under_max, p.over_max, omega (arith, s.requires.3))
 
 returns-2 : tie.Need-returns-2
 returns-2 c =
     let s = c.before.before.before.before.before in
-    let curve = pointsFrom s.args.n s.args.points.now in
-    let l = last-is s.args.n s.args.points.now s.requires.0 in
-    let q = up-to-last curve s.args.latest s.args.earliest (omega (arith, l)) in
+    let curve = points_from s.args.n s.args.points.now in
+    let l = last_is s.args.n s.args.points.now s.requires.0 in
+    let q = up_to_last curve s.args.latest s.args.earliest (omega (arith, l)) in
     answered _ _ record { sfits = c.thousandths.type-inv } (c.thousandths.ensures
     ∙ (ap (λ f. thousandths f (s.args.latest - s.args.earliest)) c.before.permitted.ensures ∙ sym q))
 
-pub curve-margin-spec : {M : Type 1} → statement M
-curve-margin-spec =
+pub curve_margin_spec : {M : Type 1} → statement M
+curve_margin_spec =
     tie.close
     (tie.spec
     sub-last

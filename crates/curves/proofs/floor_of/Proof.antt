@@ -3,7 +3,7 @@ use mathlib.Core.Path.{refl}
 use Prim.Native.Nat.{◌-◌}
 use native.Mathlib.Omega.{arith}
 use borrow.Author.Rules.{rules}
-use Rattle.curves.proofs.Floors.{quotient_fits, floor-up, down_fits, floor-down}
+use Rattle.curves.proofs.Floors.{quotient_fits, floor_up, down_fits, floor_down}
 use Rattle.curves.proofs.floor_of.Statement.{statement}
 use Rattle.curves.proofs.floor_of.Tie as tie
 
@@ -14,7 +14,7 @@ cast-result : tie.Need-overflow-cast-result
 cast-result c = let a = c.before.args in record { sfits = quotient_fits (a.a - a.b) a.d (omega arith) }
 
 returns : tie.Need-returns
-returns c = let a = c.before.args in floor-up a.a a.b a.d c.if1.true c.before.requires.1
+returns c = let a = c.before.args in floor_up a.a a.b a.d c.if1.true c.before.requires.1
 
 sub-result : tie.Need-overflow-sub-result
 sub-result c = search rules
@@ -36,10 +36,10 @@ sub-result-3 c =
 returns-2 : tie.Need-returns-2
 returns-2 c =
     let a = c.before.args in
-    floor-down a.a a.b a.d _ _ c.if1.false c.before.requires.2 (omega arith) refl
+    floor_down a.a a.b a.d _ _ c.if1.false c.before.requires.2 (omega arith) refl
 
-pub floor-of-spec : {M : Type 1} → statement M
-floor-of-spec =
+pub floor_of_spec : {M : Type 1} → statement M
+floor_of_spec =
     tie.close
     (tie.spec
     div-result

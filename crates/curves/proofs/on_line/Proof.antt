@@ -2,19 +2,19 @@
 use Prim.Native.Nat.{◌-◌, ◌*◌, ◌≤◌}
 use native.Mathlib.Nat.{mul-le-mul}
 use native.Mathlib.Omega.{arith}
-use Rattle.curves.specs.Curves.{maxDelay, maxAllow}
+use Rattle.curves.specs.Curves.{max_delay, max_allow}
 use borrow.Author.Rules.{rules}
 use Rattle.curves.proofs.on_line.Statement.{statement}
 use Rattle.curves.proofs.on_line.Tie as tie
 
-fall : (s : tie.Start) → s.args.high * (s.args.to - s.args.earliest) ≤ maxAllow * maxDelay
+fall : (s : tie.Start) → s.args.high * (s.args.to - s.args.earliest) ≤ max_allow * max_delay
 fall s =
-    mul-le-mul {n₁ = s.args.high} {m₁ = s.args.to - s.args.earliest} {m₂ = maxDelay} s.requires.4
+    mul-le-mul {n₁ = s.args.high} {m₁ = s.args.to - s.args.earliest} {m₂ = max_delay} s.requires.4
     (omega (arith, s.requires.2))
 
-rise : (s : tie.Start) → s.args.low * (s.args.earliest - s.args.from) ≤ maxAllow * maxDelay
+rise : (s : tie.Start) → s.args.low * (s.args.earliest - s.args.from) ≤ max_allow * max_delay
 rise s =
-    mul-le-mul {n₁ = s.args.low} {m₁ = s.args.earliest - s.args.from} {m₂ = maxDelay} s.requires.3 (omega arith)
+    mul-le-mul {n₁ = s.args.low} {m₁ = s.args.earliest - s.args.from} {m₂ = max_delay} s.requires.3 (omega arith)
 
 sub-over : tie.Need-overflow-sub-over
 sub-over c = search rules
@@ -37,6 +37,6 @@ sub-under c = search rules
 returns : tie.Need-returns
 returns c = search rules
 
-pub on-line-spec : {M : Type 1} → statement M
-on-line-spec =
+pub on_line_spec : {M : Type 1} → statement M
+on_line_spec =
     tie.close (tie.spec sub-over mul-over sub-over-2 mul-over-2 add-over sub-under returns)

@@ -2,7 +2,7 @@
 use Prim.Native.Nat.{◌-◌, ◌<◌}
 use native.Mathlib.Omega.{arith}
 use borrow.Author.Rules.{rules}
-use Rattle.curves.proofs.Places.{limited-at, permits-none, permits-first, permits-line}
+use Rattle.curves.proofs.Places.{limited_at, permits_none, permits_first, permits_line}
 use Rattle.curves.proofs.permitted.Statement.{statement}
 use Rattle.curves.proofs.permitted.Tie as tie
 
@@ -16,7 +16,7 @@ returns : tie.Need-returns
 returns c =
     let s = c.before.before.before.before in
     let p = c.before.before.place_of in
-    permits-first s.args.n s.args.points.now s.args.earliest p.result p.ensures s.requires.0
+    permits_first s.args.n s.args.points.now s.args.earliest p.result p.ensures s.requires.0
     c.before.if1.true
 
 sub-j : tie.Need-overflow-sub-j
@@ -47,7 +47,7 @@ returns-2 : tie.Need-returns-2
 returns-2 c =
     let s = c.before.before.before.before.before.before in
     let p = c.before.before.before.before.place_of in
-    permits-none s.args.n s.args.points.now s.args.earliest p.result p.ensures _
+    permits_none s.args.n s.args.points.now s.args.earliest p.result p.ensures _
     (omega (arith, p.ensures.held)) (omega arith)
 
 mul-to : tie.Need-overflow-mul-to
@@ -76,20 +76,20 @@ on-line-requires c κs =
     let s = c.before.before.before.before.before.before.before.before in
     let p = c.before.before.before.before.before.before.place_of in
     let l : p.result < s.args.n = omega (arith, p.ensures.held) in
-    let from = limited-at s.args.n s.args.points.now s.requires.2 (p.result - 1) (omega arith) in
-    let to = limited-at s.args.n s.args.points.now s.requires.2 p.result l in
+    let from = limited_at s.args.n s.args.points.now s.requires.2 (p.result - 1) (omega arith) in
+    let to = limited_at s.args.n s.args.points.now s.requires.2 p.result l in
     let m = p.ensures.passed (p.result - 1) (omega arith) in
-    (omega arith, p.ensures.reached l, to.delay-max, to.allow-max, from.allow-max)
+    (omega arith, p.ensures.reached l, to.delay_max, to.allow_max, from.allow_max)
 
 returns-3 : tie.Need-returns-3
 returns-3 c =
     let s = c.before.before.before.before.before.before.before.before.before in
     let p = c.before.before.before.before.before.before.before.place_of in
-    permits-line s.args.n s.args.points.now s.args.earliest p.result p.ensures (p.result - 1)
+    permits_line s.args.n s.args.points.now s.args.earliest p.result p.ensures (p.result - 1)
     c.on_line.result (omega (arith, p.ensures.held)) (omega arith) c.on_line.ensures
 
-pub permitted-spec : {M : Type 1} → statement M
-permitted-spec =
+pub permitted_spec : {M : Type 1} → statement M
+permitted_spec =
     tie.close
     (tie.spec
     place-of-requires

@@ -44,8 +44,8 @@ returns-2 c =
     let x = c.before.loop in
     record { held = x.invariant.0; passed = x.invariant.1; reached = λ h. absurd (omega arith) }
 
-pub place-of-spec : {M : Type 1} → statement M
-place-of-spec =
+pub place_of_spec : {M : Type 1} → statement M
+place_of_spec =
     tie.close
     (tie.spec
     invariant-loop

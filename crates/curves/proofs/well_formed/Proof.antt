@@ -6,16 +6,16 @@ use Prim.Native.Nat.{◌-◌, ◌≤◌}
 use native.Mathlib.Omega.{arith}
 use borrow.Author.Rules.{rules}
 use borrow.Author.Tests.{not-true, not-false}
-use Rattle.curves.specs.Curves.{wellFormed, pointsFrom}
+use Rattle.curves.specs.Curves.{well_formed, points_from}
 use Rattle.curves.proofs.Orderly.{passes, passed, too_many, all_left}
-use Rattle.curves.proofs.Orderly.{left, none_left, fails-left, next-left}
-use Rattle.curves.proofs.PointNumbers.{pointRead}
+use Rattle.curves.proofs.Orderly.{left, none_left, fails_left, next-left}
+use Rattle.curves.proofs.PointNumbers.{point_read}
 use Rattle.curves.proofs.well_formed.Statement.{statement}
 use Rattle.curves.proofs.well_formed.Tie as tie
 
 abbrev invariant-loop : tie.invariant-loop
 invariant-loop points n count low₀ high₀ i₀ low high i =
-    (i ≤ n) × (wellFormed (pointsFrom n points) ≡ left points n i low high)
+    (i ≤ n) × (well_formed (points_from n points) ≡ left points n i low high)
 
 abbrev decreases-loop : tie.decreases-loop
 decreases-loop points n count low₀ high₀ i₀ low high i = n - i
@@ -59,14 +59,14 @@ within-requires-2 c κs = search rules
 tested : (k : tie.After-within2 invariant-loop decreases-loop)
     → let x = k.before.before.before.before.before.loop in
     let a = k.before.before.before.before.before.before.before.before.args in
-    (k.before.within.result && k.within2.result) ≡ passes x.low x.high (pointRead x.i a.points.now)
+    (k.before.within.result && k.within2.result) ≡ passes x.low x.high (point_read x.i a.points.now)
 tested k = ap₂ (λ (d a : Bool). d && a) k.before.within.ensures k.within2.ensures
 
 returns-2 : tie.Need-returns-2 invariant-loop decreases-loop
 returns-2 c =
     let a = c.before.before.before.before.before.before.before.before.before.args in
     let x = c.before.before.before.before.before.before.loop in
-    sym (x.invariant.1 ∙ fails-left a.points.now a.n x.i x.low x.high (omega arith)
+    sym (x.invariant.1 ∙ fails_left a.points.now a.n x.i x.low x.high (omega arith)
     (sym (tested c.before) ∙ not-true _ c.if2.true))
 
 add_low : tie.Need-overflow-add-low invariant-loop decreases-loop
@@ -75,8 +75,8 @@ add_low c =
     let x = c.before.before.before.before.before.before.loop in
     omega (
       arith,
-      (passed x.low x.high (pointRead x.i a.points.now)
-          (sym (tested c.before) ∙ not-false _ c.if2.false)).delays.le-high,
+      (passed x.low x.high (point_read x.i a.points.now)
+          (sym (tested c.before) ∙ not-false _ c.if2.false)).delays.le_high,
     )
 
 add-i : tie.Need-overflow-add-i invariant-loop decreases-loop
@@ -100,8 +100,8 @@ returns-3 c =
     let x = c.before.loop in
     sym (x.invariant.1 ∙ none_left a.points.now a.n x.i x.low x.high c.loop-test.false)
 
-pub well-formed-spec : {M : Type 1} → statement M
-well-formed-spec =
+pub well_formed_spec : {M : Type 1} → statement M
+well_formed_spec =
     tie.close
     (tie.spec
     invariant-loop

@@ -27,6 +27,6 @@ returns-4 c =
     c.all-in-range.ensures
     ∙ sym (by_rows a.rows.now a.n a.i (omega arith) (omega arith) (omega arith))
 
-pub in-limits-spec : {M : Type 1} → statement M
-in-limits-spec =
+pub in_limits_spec : {M : Type 1} → statement M
+in_limits_spec =
     tie.close (tie.spec returns returns-2 (λ c. search rules) returns-3 (λ c κs. search rules) returns-4)

@@ -5,16 +5,16 @@ use native.Mathlib.Decide.{ℕ_discrete}
 use native.Mathlib.Omega.{arith}
 use lib.ListN.{length, get_or, length-set}
 use lib.Seq.{get_or-set_same, get_or-set_other}
-use Rattle.rows.specs.Rows.{maxTasks}
+use Rattle.rows.specs.Rows.{max_tasks}
 use Rattle.figures.proofs.positions.Statement.{statement}
 use Rattle.figures.proofs.positions.Tie as tie
 
 abbrev invariant-loop : tie.invariant-loop
 invariant-loop positions₀ i₀ positions i =
-    (length positions ≡ maxTasks) × (i ≤ maxTasks) × ((k : ℕ) → k < i → get_or positions k 0 ≡ k)
+    (length positions ≡ max_tasks) × (i ≤ max_tasks) × ((k : ℕ) → k < i → get_or positions k 0 ≡ k)
 
 abbrev decreases-loop : tie.decreases-loop
-decreases-loop positions₀ i₀ positions i = maxTasks - i
+decreases-loop positions₀ i₀ positions i = max_tasks - i
 
 loop-holds : tie.Need-loop-init invariant-loop decreases-loop
 loop-holds c = (refl, omega arith, λ k h. absurd (omega arith))
@@ -46,8 +46,8 @@ loop-again c =
 returns : tie.Need-returns invariant-loop decreases-loop
 returns c k h = c.before.loop.invariant.2 k (omega (arith, h))
 
-pub positions-spec : {M : Type 1} → statement M
-positions-spec =
+pub positions_spec : {M : Type 1} → statement M
+positions_spec =
     tie.close
     (tie.spec
     invariant-loop

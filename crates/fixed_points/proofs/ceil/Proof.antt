@@ -1,12 +1,12 @@
 use borrow.Author.Rules.{rules}
 use mathlib.Core.Path.{sym}
 use mir.Facts.{Fits-div}
-use Rattle.responses.proofs.Sums.{ceiling-one, ceiling-is}
+use Rattle.responses.proofs.Sums.{ceiling_one, ceiling_is}
 use Rattle.fixed_points.proofs.ceil.Statement.{statement}
 use Rattle.fixed_points.proofs.ceil.Tie as tie
 
 returns : tie.Need-returns
-returns c = let s = c.before in sym (ceiling-one s.args.x s.args.p s.requires.0 c.if1.true)
+returns c = let s = c.before in sym (ceiling_one s.args.x s.args.p s.requires.0 c.if1.true)
 
 sub-result : tie.Need-overflow-sub-result
 sub-result c = search rules
@@ -27,10 +27,10 @@ cast-result-3 : tie.Need-overflow-cast-result-3
 cast-result-3 c = Fits-div _ (search rules)
 
 returns-2 : tie.Need-returns-2
-returns-2 c = let s = c.before in sym (ceiling-is s.args.x s.args.p s.requires.2)
+returns-2 c = let s = c.before in sym (ceiling_is s.args.x s.args.p s.requires.2)
 
-pub ceil-spec : {M : Type 1} → statement M
-ceil-spec =
+pub ceil_spec : {M : Type 1} → statement M
+ceil_spec =
     tie.close
     (tie.spec
     returns

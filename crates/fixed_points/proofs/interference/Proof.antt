@@ -6,16 +6,16 @@ use native.Mathlib.Omega.{arith}
 use borrow.Author.Rules.{rules}
 use lib.ListN.{get_or}
 use Rattle.responses.specs.Interference.{Load, interference}
-use Rattle.fixed_points.specs.inside.Loads.{loadsFrom, loads}
-use Rattle.responses.proofs.Sums.{ceiling-some}
-use Rattle.fixed_points.proofs.Loads.{loads-done, Added, added}
+use Rattle.fixed_points.specs.inside.Loads.{loads_from, loads}
+use Rattle.responses.proofs.Sums.{ceiling_some}
+use Rattle.fixed_points.proofs.Loads.{loads_done, Added, added}
 use Rattle.fixed_points.proofs.interference.Statement.{statement}
 use Rattle.fixed_points.proofs.interference.Tie as tie
 
 abbrev invariant-loop : tie.invariant-loop
 invariant-loop window spared periods costs n sum₀ i₀ sum i =
     (i ≤ n)
-    × (sum + interference spared window (loadsFrom i (n - i) periods costs) ≡ interference spared window
+    × (sum + interference spared window (loads_from i (n - i) periods costs) ≡ interference spared window
     (loads n periods costs))
 
 abbrev decreases-loop : tie.decreases-loop
@@ -39,15 +39,15 @@ ceil-requires c κs =
     let k = s.requires.3 in
     let i = c.before.before.loop.i in
     let l = c.before.loop-test.true in
-    (s.requires.1, s.requires.0, k.period-some i l, k.period-max i l)
+    (s.requires.1, s.requires.0, k.period_some i l, k.period_max i l)
 
 sub-sum : tie.Need-overflow-sub-sum invariant-loop decreases-loop
 sub-sum c =
     let s = c.before.before.before.before.before.before in
     let i = c.before.before.before.loop.i in
     let p = get_or s.args.periods.now i 0 in
-    let some = s.requires.3.period-some i c.before.before.loop-test.true in
-    omega (arith, c.ceil.ensures, ceiling-some s.args.window p s.requires.1 some)
+    let some = s.requires.3.period_some i c.before.before.loop-test.true in
+    omega (arith, c.ceil.ensures, ceiling_some s.args.window p s.requires.1 some)
 
 mul-sum : tie.Need-overflow-mul-sum invariant-loop decreases-loop
 mul-sum c = search rules
@@ -89,11 +89,11 @@ returns c =
     let l = c.before.loop in
     let e : l.i ≡ s.args.n = omega arith in
     let z = ap (λ (ls : List Load). interference s.args.spared s.args.window ls)
-    (loads-done s.args.n s.args.periods.now s.args.costs.now) in
+    (loads_done s.args.n s.args.periods.now s.args.costs.now) in
     omega (arith, z, (rw e at l.invariant.1))
 
-pub interference-spec : {M : Type 1} → statement M
-interference-spec =
+pub interference_spec : {M : Type 1} → statement M
+interference_spec =
     tie.close
     (tie.spec
     invariant-loop

@@ -4,7 +4,7 @@ use Prim.Native.Nat.{ℕ, ◌+◌, ◌≤◌}
 use native.Mathlib.Omega.{arith}
 use Rattle.responses.specs.Interference.{interference}
 use Rattle.fixed_points.specs.inside.Loads.{loads}
-use Rattle.responses.proofs.FixedPoints.{demand-mono, largest-is}
+use Rattle.responses.proofs.FixedPoints.{demand_mono, largest_is}
 use Rattle.fixed_points.proofs.largest_fixed.Statement.{statement}
 use Rattle.fixed_points.proofs.largest_fixed.Tie as tie
 
@@ -36,7 +36,7 @@ returns c =
     let ls = loads s.args.n s.args.periods.now s.args.costs.now in
     let e : l.e ≡ s.args.base + interference 1 l.e ls = omega
     (arith, c.before.interference.ensures, c.if1.true) in
-    largest-is s.args.base s.args.limit ls l.e s.requires.0 s.requires.3 e l.invariant.0 l.invariant.2
+    largest_is s.args.base s.args.limit ls l.e s.requires.0 s.requires.3 e l.invariant.0 l.invariant.2
 
 loop-less : tie.Need-loop-smaller invariant-loop decreases-loop
 loop-less c =
@@ -47,12 +47,12 @@ loop-again : tie.Need-loop-preserved invariant-loop decreases-loop
 loop-again c =
     let s = c.before.before.before.before.before in
     let l = c.before.before.loop in
-    let up = demand-mono 1 s.args.base (loads s.args.n s.args.periods.now s.args.costs.now) in
+    let up = demand_mono 1 s.args.base (loads s.args.n s.args.periods.now s.args.costs.now) in
     rw c.before.interference.ensures
     (omega arith, up _ l.e l.invariant.1, λ v e k. omega (arith, up v l.e (l.invariant.2 v e k), e))
 
-pub largest-fixed-spec : {M : Type 1} → statement M
-largest-fixed-spec =
+pub largest_fixed_spec : {M : Type 1} → statement M
+largest_fixed_spec =
     tie.close
     (tie.spec
     invariant-loop

@@ -3,7 +3,7 @@ use mathlib.Core.Path.{◌≡◌}
 use native.Mathlib.Omega.{arith}
 use borrow.Author.Rules.{rules}
 use Rattle.fixed_points.specs.inside.Loads.{loads}
-use Rattle.fixed_points.proofs.Values.{periods-some, Searching, searching, ends_at, ends-late}
+use Rattle.fixed_points.proofs.Values.{periods_some, Searching, searching, ends_at, ends_late}
 use Rattle.fixed_points.proofs.least_fixed.Statement.{statement}
 use Rattle.fixed_points.proofs.least_fixed.Tie as tie
 
@@ -17,8 +17,8 @@ stands c =
     let s = c.before.before.before in
     let a = s.args in
     let ls = loads a.n a.periods.now a.costs.now in
-    let some = periods-some a.n a.periods.now a.costs.now s.requires.3 in
-    rw c.try-values.ensures.last-is
+    let some = periods_some a.n a.periods.now a.costs.now s.requires.3 in
+    rw c.try-values.ensures.last_is
     (searching a.base a.limit ls s.requires.0 some c.try-values.result.steps)
 
 returns : tie.Need-returns
@@ -34,7 +34,7 @@ returns-2 c =
     let t = c.before.before in
     let a = t.before.before.before.args in
     let ls = loads a.n a.periods.now a.costs.now in
-    ends-late a.base a.limit ls t.try-values.result.last (stands t) (omega (arith, c.if1.false))
+    ends_late a.base a.limit ls t.try-values.result.last (stands t) (omega (arith, c.if1.false))
 
-pub least-fixed-spec : {M : Type 1} → statement M
-least-fixed-spec = tie.close (tie.spec try-values-requires returns returns-2)
+pub least_fixed_spec : {M : Type 1} → statement M
+least_fixed_spec = tie.close (tie.spec try-values-requires returns returns-2)

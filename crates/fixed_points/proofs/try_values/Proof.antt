@@ -3,8 +3,8 @@ use Prim.Native.Nat.{suc, ◌-◌, ◌≤◌, ◌<◌}
 use native.Mathlib.Omega.{arith}
 use Rattle.responses.proofs.Sums.{Periods}
 use Rattle.fixed_points.specs.inside.Loads.{loads}
-use Rattle.fixed_points.proofs.Values.{periods-some, moves}
-use Rattle.fixed_points.proofs.Values.{Reached, reached-first, stands, reached-next}
+use Rattle.fixed_points.proofs.Values.{periods_some, moves}
+use Rattle.fixed_points.proofs.Values.{Reached, reached_first, stands, reached_next}
 use Rattle.fixed_points.proofs.try_values.Statement.{statement}
 use Rattle.fixed_points.proofs.try_values.Tie as tie
 
@@ -15,7 +15,7 @@ abbrev decreases-loop : tie.decreases-loop
 decreases-loop base limit periods costs n last₀ steps₀ last steps = suc limit - last
 
 periods : (s : tie.Start invariant-loop decreases-loop) → Periods (loads s.args.n s.args.periods.now s.args.costs.now)
-periods s = periods-some s.args.n s.args.periods.now s.args.costs.now s.requires.3
+periods s = periods_some s.args.n s.args.periods.now s.args.costs.now s.requires.3
 
 first-value-requires : tie.Need-first-value-requires invariant-loop decreases-loop
 first-value-requires c κs = let p = c.before.before.requires in (p.1, p.3)
@@ -25,7 +25,7 @@ loop-holds c =
     let s = c.before.before.before in
     let a = s.args in
     let ls = loads a.n a.periods.now a.costs.now in
-    reached-first a.base a.limit ls s.requires.0 (periods s) c.first-value.result c.first-value.ensures
+    reached_first a.base a.limit ls s.requires.0 (periods s) c.first-value.result c.first-value.ensures
 
 next-value-requires : tie.Need-next-value-requires invariant-loop decreases-loop
 next-value-requires c κs =
@@ -36,7 +36,7 @@ returns : tie.Need-returns invariant-loop decreases-loop
 returns c =
     let r = c.before.before.loop.invariant in
     record {
-      last-is = r.value-is;
+      last_is = r.value-is;
       ends = omega (arith, c.before.next-value.ensures, c.if1.true);
       goes_on = r.moved;
     }
@@ -70,11 +70,11 @@ loop-again c =
     let a = s.args in
     let l = c.before.before.loop in
     let ls = loads a.n a.periods.now a.costs.now in
-    reached-next a.base a.limit ls s.requires.0 (periods s) l.last l.steps l.invariant _
+    reached_next a.base a.limit ls s.requires.0 (periods s) l.last l.steps l.invariant _
     c.before.next-value.ensures (further c).1
 
-pub try-values-spec : {M : Type 1} → statement M
-try-values-spec =
+pub try_values_spec : {M : Type 1} → statement M
+try_values_spec =
     tie.close
     (tie.spec
     invariant-loop

@@ -16,7 +16,7 @@ tested fault L.End k = L.End
 tested fault (L.Refused n j) k = L.Refused n j
 
 -- the step that line k makes, by its answer
-abbrev pub onAnswer : {S : Type 0} → Grammar S → S → ℕ → Line → Step S
-onAnswer g s k (L.Number v next) = goes_on (g.after s (pos v)) next (suc k)
-onAnswer g s k L.End = stops (accepted s)
-onAnswer g s k (L.Refused n j) = stops (refused n j)
+abbrev pub on_answer : {S : Type 0} → Grammar S → S → ℕ → Line → Step S
+on_answer g s k (L.Number v next) = goes_on (g.after s (pos v)) next (suc k)
+on_answer g s k L.End = stops (accepted s)
+on_answer g s k (L.Refused n j) = stops (refused n j)

@@ -7,20 +7,20 @@ use borrow.Author.Rules.{rules}
 use mir.Syntax.{w64}
 use mir.Val.{to_z, of_z}
 use lib.IntN.{ℤ}
-use Rattle.text.specs.Text.{bytes, decimal, signed, keyLine}
-use Rattle.plans.specs.Plans.{rankText}
+use Rattle.text.specs.Text.{bytes, decimal, signed, key_line}
+use Rattle.plans.specs.Plans.{rank_text}
 use Rattle.text.proofs.Puts.{Going, begins, fits_next, next, ends}
 use Rattle.plan_lines.proofs.put_rank.Statement.{statement}
 use Rattle.plan_lines.proofs.put_rank.Tie as tie
 
 abbrev texts : tie.Start → List (List ℕ)
 texts s =
-    keyLine (bytes "rank=") (decimal s.args.rank)
-    ∷ keyLine (bytes "task=") (decimal s.args.e.task)
-    ∷ keyLine (bytes "best=") (decimal s.args.e.best)
-    ∷ keyLine (bytes "worst=") (decimal s.args.e.worst)
-    ∷ keyLine (bytes "jitter=") (decimal s.args.e.jitter)
-    ∷ keyLine (bytes "margin=") (signed s.args.e.margin)
+    key_line (bytes "rank=") (decimal s.args.rank)
+    ∷ key_line (bytes "task=") (decimal s.args.e.task)
+    ∷ key_line (bytes "best=") (decimal s.args.e.best)
+    ∷ key_line (bytes "worst=") (decimal s.args.e.worst)
+    ∷ key_line (bytes "jitter=") (decimal s.args.e.jitter)
+    ∷ key_line (bytes "margin=") (signed s.args.e.margin)
     ∷ []
 
 -- on the way: from a start, its first k texts stand, and the rest has room
@@ -28,47 +28,47 @@ abbrev At : ℕ → ℕ → List ℕ → Type 0
 At k m o = (s : tie.Start) × Going (texts s) (drop k (texts s)) s.args.at s.args.out.now m o
 
 room : (s : tie.Start) → Going (texts s) (texts s) s.args.at s.args.out.now s.args.at s.args.out.now
-unfolding rankText
+unfolding rank_text
 room s = begins (texts s) s.args.at s.args.out.now s.requires
 
 abbrev start : (s : tie.Start) → At 0 s.args.at s.args.out.now
 start s = (s, room s)
 
-abbrev after-1 : (c : tie.After-put-line) → At 1 c.put-line.result c.put-line.new.0
-after-1 c =
+abbrev after_1 : (c : tie.After-put-line) → At 1 c.put-line.result c.put-line.new.0
+after_1 c =
     let g = start c.before.before.before.before in
     (g.0, next g.1 c.put-line.ensures)
 
-abbrev after-2 : (c : tie.After-put-line2) → At 2 c.put-line2.result c.put-line2.new.0
-after-2 c =
-    let g = after-1 c.before.before.before.before.before.before in
+abbrev after_2 : (c : tie.After-put-line2) → At 2 c.put-line2.result c.put-line2.new.0
+after_2 c =
+    let g = after_1 c.before.before.before.before.before.before in
     (g.0, next g.1 c.put-line2.ensures)
 
-abbrev after-3 : (c : tie.After-put-line3) → At 3 c.put-line3.result c.put-line3.new.0
-after-3 c =
-    let g = after-2 c.before.before.before.before.before.before in
+abbrev after_3 : (c : tie.After-put-line3) → At 3 c.put-line3.result c.put-line3.new.0
+after_3 c =
+    let g = after_2 c.before.before.before.before.before.before in
     (g.0, next g.1 c.put-line3.ensures)
 
-abbrev after-4 : (c : tie.After-put-line4) → At 4 c.put-line4.result c.put-line4.new.0
-after-4 c =
-    let g = after-3 c.before.before.before.before.before.before in
+abbrev after_4 : (c : tie.After-put-line4) → At 4 c.put-line4.result c.put-line4.new.0
+after_4 c =
+    let g = after_3 c.before.before.before.before.before.before in
     (g.0, next g.1 c.put-line4.ensures)
 
-abbrev after-5 : (c : tie.After-put-line5) → At 5 c.put-line5.result c.put-line5.new.0
-after-5 c =
-    let g = after-4 c.before.before.before.before.before.before in
+abbrev after_5 : (c : tie.After-put-line5) → At 5 c.put-line5.result c.put-line5.new.0
+after_5 c =
+    let g = after_4 c.before.before.before.before.before.before in
     (g.0, next g.1 c.put-line5.ensures)
 
 -- the margin, and as the code holds it
 abbrev margin : tie.After-struct-told → ℤ
-margin c = (after-5 c.before.before.before.before.before).0.args.e.margin
+margin c = (after_5 c.before.before.before.before.before).0.args.e.margin
 
 seen : (c : tie.After-struct-told) → to_z w64 (of_z w64 (margin c)) ≡ margin c
 seen c = search rules
 
-abbrev after-6 : (c : tie.After-put-signed-line) → At 6 c.put-signed-line.result c.put-signed-line.new.0
-after-6 c =
-    let g = after-5 c.before.before.before.before.before.before in
+abbrev after_6 : (c : tie.After-put-signed-line) → At 6 c.put-signed-line.result c.put-signed-line.new.0
+after_6 c =
+    let g = after_5 c.before.before.before.before.before.before in
     (g.0, next g.1 (rw (seen c.before) at c.put-signed-line.ensures))
 
 slice-aggregate-put-line : tie.Need-slice-aggregate-put-line
@@ -84,7 +84,7 @@ cast-put-line : tie.Need-overflow-cast-put-line
 cast-put-line c = search rules
 
 put-line-requires-2 : tie.Need-put-line-requires-2
-put-line-requires-2 c κs = fits_next (after-1 c.before.before.before.before.before).1
+put-line-requires-2 c κs = fits_next (after_1 c.before.before.before.before.before).1
 
 slice-aggregate-put-line-3 : tie.Need-slice-aggregate-put-line-3
 slice-aggregate-put-line-3 c = search rules
@@ -93,7 +93,7 @@ cast-put-line-2 : tie.Need-overflow-cast-put-line-2
 cast-put-line-2 c = search rules
 
 put-line-requires-3 : tie.Need-put-line-requires-3
-put-line-requires-3 c κs = fits_next (after-2 c.before.before.before.before.before).1
+put-line-requires-3 c κs = fits_next (after_2 c.before.before.before.before.before).1
 
 slice-aggregate-put-line-4 : tie.Need-slice-aggregate-put-line-4
 slice-aggregate-put-line-4 c = search rules
@@ -102,7 +102,7 @@ cast-put-line-3 : tie.Need-overflow-cast-put-line-3
 cast-put-line-3 c = search rules
 
 put-line-requires-4 : tie.Need-put-line-requires-4
-put-line-requires-4 c κs = fits_next (after-3 c.before.before.before.before.before).1
+put-line-requires-4 c κs = fits_next (after_3 c.before.before.before.before.before).1
 
 slice-aggregate-put-line-5 : tie.Need-slice-aggregate-put-line-5
 slice-aggregate-put-line-5 c = search rules
@@ -111,23 +111,23 @@ cast-put-line-4 : tie.Need-overflow-cast-put-line-4
 cast-put-line-4 c = search rules
 
 put-line-requires-5 : tie.Need-put-line-requires-5
-put-line-requires-5 c κs = fits_next (after-4 c.before.before.before.before.before).1
+put-line-requires-5 c κs = fits_next (after_4 c.before.before.before.before.before).1
 
 slice-aggregate-put-signed-line : tie.Need-slice-aggregate-put-signed-line
 slice-aggregate-put-signed-line c = search rules
 
 put-signed-line-requires : tie.Need-put-signed-line-requires
-put-signed-line-requires c κs = rw (seen c) (fits_next (after-5 c.before.before.before.before.before).1)
+put-signed-line-requires c κs = rw (seen c) (fits_next (after_5 c.before.before.before.before.before).1)
 
 same_length : tie.Need-same-length
-same_length c = (after-6 c.before.before).1.same
+same_length c = (after_6 c.before.before).1.same
 
 returns : tie.Need-returns
-unfolding rankText
-returns c = ends (after-6 c.before.before).1
+unfolding rank_text
+returns c = ends (after_6 c.before.before).1
 
-pub put-rank-spec : {M : Type 1} → statement M
-put-rank-spec =
+pub put_rank_spec : {M : Type 1} → statement M
+put_rank_spec =
     tie.close
     (tie.spec
     slice-aggregate-put-line

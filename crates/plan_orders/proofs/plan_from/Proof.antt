@@ -8,11 +8,11 @@ use lib.Seq.{length-take-le}
 use Rattle.text.proofs.Puts.{from_start}
 use Rattle.plans.specs.Outcomes.{Outcome, refuses, fitted}
 use Rattle.plans.proofs.Outcomes.{fits, fits_not, refused}
-use Rattle.plan_orders.specs.inside.Ranks.{byLate}
+use Rattle.plan_orders.specs.inside.Ranks.{by_late}
 use Rattle.plan_orders.proofs.plan_from.Statement.{statement}
 use Rattle.plan_orders.proofs.plan_from.Tie as tie
 
-late_is : (k : ℕ) (w : Outcome) → (k ≡ 0 → ⊥) → byLate k w ≡ refuses 7 k
+late_is : (k : ℕ) (w : Outcome) → (k ≡ 0 → ⊥) → by_late k w ≡ refuses 7 k
 late_is zero w h = absurd (h (omega arith))
 late_is (suc k) w h = refl
 
@@ -39,7 +39,7 @@ returns-2 c =
     let long = front_long s c.before.before.if1.false in
     let room = length s.args.out.now in
     refused
-    (ap (λ (k : ℕ). byLate k (fitted room plan)) c.before.before.if1.false
+    (ap (λ (k : ℕ). by_late k (fitted room plan)) c.before.before.if1.false
     ∙ fits_not room plan (omega (arith, long, c.before.if2.true)))
     c.refused2.ensures
 
@@ -70,11 +70,11 @@ returns-3 c =
     let room = length s.args.out.now in
     let copied = from_start c.before.before.put-bytes.ensures in
     let short = c.before.before.before.before.before.if2.false in
-    rw (ap (λ (k : ℕ). byLate k (fitted room plan)) late ∙ fits room plan (omega (arith, long, short)))
+    rw (ap (λ (k : ℕ). by_late k (fitted room plan)) late ∙ fits room plan (omega (arith, long, short)))
     record { returns = ap (λ n. record { number = 0; place = 0; long = n }) (sym long); holds = copied.holds }
 
-pub plan-from-spec : {M : Type 1} → statement M
-plan-from-spec =
+pub plan_from_spec : {M : Type 1} → statement M
+plan_from_spec =
     tie.close
     (tie.spec
     refused-requires

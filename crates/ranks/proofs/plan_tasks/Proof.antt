@@ -4,15 +4,15 @@ use Prim.Native.Nat.{◌≤◌}
 use native.Mathlib.Omega.{arith}
 use borrow.Author.Rules.{rules}
 use lib.ListN.{length, length-map}
-use Rattle.rows.specs.Rows.{maxTasks}
-use Rattle.plans.specs.Outcomes.{Outcome, ifInTime, Written}
-use Rattle.ranks.proofs.Orders.{planned-rows, ordered}
+use Rattle.rows.specs.Rows.{max_tasks}
+use Rattle.plans.specs.Outcomes.{Outcome, if_in_time, Written}
+use Rattle.ranks.proofs.Orders.{planned_rows, ordered}
 use Rattle.ranks.proofs.plan_tasks.Statement.{statement}
 use Rattle.ranks.proofs.plan_tasks.Tie as tie
 
-tasks-held : (s : tie.Start) → s.args.n ≤ length s.args.order.tasks
-tasks-held s =
-    let long : length s.args.order.tasks ≡ maxTasks =
+tasks_held : (s : tie.Start) → s.args.n ≤ length s.args.order.tasks
+tasks_held s =
+    let long : length s.args.order.tasks ≡ max_tasks =
     sym (length-map s.args.order.tasks (λ v. v)) ∙ s.well-formed.1.1.1.1.0.1.1.0.1.0.1 in
     omega (arith, long, s.requires.few)
 
@@ -25,7 +25,7 @@ slice-aggregate-positions-for-2 c = search rules
 positions-for-requires : tie.Need-positions-for-requires
 positions-for-requires c κs =
     let s = c.before.before.before.before.before in
-    (tasks-held s, s.requires.held, s.requires.few)
+    (tasks_held s, s.requires.held, s.requires.few)
 
 slice-aggregate-plan-order : tie.Need-slice-aggregate-plan-order
 slice-aggregate-plan-order c = search rules
@@ -34,7 +34,7 @@ plan-order-requires : tie.Need-plan-order-requires
 plan-order-requires c κs =
     let s = c.before.before.before.before.before.before.before.before.before in
     let p = c.before.before.before.positions-for in
-    (s.requires.few, ordered s.requires _ _ (tasks-held s) (omega (arith, s.requires.few, p.auto)) p.ensures)
+    (s.requires.few, ordered s.requires _ _ (tasks_held s) (omega (arith, s.requires.few, p.auto)) p.ensures)
 
 same_length : tie.Need-same-length
 same_length c = search rules
@@ -44,12 +44,12 @@ returns c =
     let s = c.before.before.before.before.before.before.before.before.before.before.before.before in
     let p = c.before.before.before.before.before.before.positions-for in
     let o = c.before.before.plan-order in
-    let rows = planned-rows s.requires _ _ (tasks-held s) (omega (arith, s.requires.few, p.auto)) p.ensures in
-    let is = ap (ifInTime (length s.args.out.now) s.args.board) rows in
+    let rows = planned_rows s.requires _ _ (tasks_held s) (omega (arith, s.requires.few, p.auto)) p.ensures in
+    let is = ap (if_in_time (length s.args.out.now) s.args.board) rows in
     subst (λ (x : Outcome). Written x s.args.out.now o.new.0 o.result) is o.ensures
 
-pub plan-tasks-spec : {M : Type 1} → statement M
-plan-tasks-spec =
+pub plan_tasks_spec : {M : Type 1} → statement M
+plan_tasks_spec =
     tie.close
     (tie.spec
     slice-aggregate-positions-for

@@ -14,16 +14,16 @@ use Rattle.plans.proofs.Outcomes.{refused}
 use Rattle.demands.specs.Calls.{planned}
 use Rattle.demands.specs.Demands.{PlanSays}
 use Rattle.demands.proofs.Texts.{Accepts}
-use Rattle.demands.proofs.Planner.{plan-demands, decided}
-use Rattle.ranks.proofs.Readings.{accepts, refusal_is, head-there, lent, board-fits}
-use Rattle.ranks.proofs.Found.{unordered-plan, found-tasked, ordered-plan}
+use Rattle.demands.proofs.Planner.{plan_demands, decided}
+use Rattle.ranks.proofs.Readings.{accepts, refusal_is, head_there, lent, board_fits}
+use Rattle.ranks.proofs.Found.{unordered_plan, found_tasked, ordered_plan}
 use Rattle.ranks.proofs.plan_text.Statement.{statement}
 use Rattle.ranks.proofs.plan_text.Tie as tie
 
 -- with the demands, which hold of every text
 says : (text o o' : List ℕ) (r : Answer) → Written (planned text (length o)) o o' r → PlanSays text o o' r
 says text o o' r w =
-    record { answer = w; demands = plan-demands text (length o); no_other = decided text (length o) }
+    record { answer = w; demands = plan_demands text (length o); no_other = decided text (length o) }
 
 abbrev text_of : tie.After-read-table → List ℕ
 text_of c = c.before.before.before.before.before.args.text.now
@@ -49,20 +49,20 @@ returns c =
 slice-read-board : tie.Need-slice-read-board
 slice-read-board c =
     let e = c.before in
-    omega (arith, head-there e.before.before.before.read_table.ensures (ok e))
+    omega (arith, head_there e.before.before.before.read_table.ensures (ok e))
 
 cast-board : tie.Need-overflow-cast-board
 cast-board c =
     let e = c.before in
-    record { fits = omega (arith, board-fits e.before.before.before.read_table.ensures (ok e)) }
+    record { fits = omega (arith, board_fits e.before.before.before.read_table.ensures (ok e)) }
 
 sub-rows : tie.Need-overflow-sub-rows
-sub-rows c = let e = c.before in omega (arith, head-there e.before.before.before.read_table.ensures (ok e))
+sub-rows c = let e = c.before in omega (arith, head_there e.before.before.before.read_table.ensures (ok e))
 
 part-rows-start : tie.Need-slice-bounds-rows-start
 part-rows-start c =
     let e = c.before.before in
-    omega (arith, head-there e.before.before.before.read_table.ensures (ok e))
+    omega (arith, head_there e.before.before.before.read_table.ensures (ok e))
 
 part-rows-end : tie.Need-slice-bounds-rows-end
 part-rows-end c = search rules
@@ -84,7 +84,7 @@ returns-2 c =
     let e = o.before.before.before.before in
     let t = e.before.before.before in
     says (text_of t) _ _ _
-    (refused (unordered-plan t.read_table.ensures (ok e) o.choose.result o.choose.ensures _
+    (refused (unordered_plan t.read_table.ensures (ok e) o.choose.result o.choose.ensures _
     (not-true _ c.before.if2.true)) c.refused2.ensures)
 
 plan-tasks-requires : tie.Need-plan-tasks-requires
@@ -92,7 +92,7 @@ plan-tasks-requires c κs =
     let d = c.before.before in
     let o = d.before.before in
     let e = o.before.before.before.before in
-    found-tasked e.before.before.before.read_table.ensures (ok e) o.choose.result o.choose.ensures
+    found_tasked e.before.before.before.read_table.ensures (ok e) o.choose.result o.choose.ensures
     (not-false _ d.if2.false)
 
 same-length-3 : tie.Need-same-length-3
@@ -109,13 +109,13 @@ returns-3 c =
     let e = o.before.before.before.before in
     let t = e.before.before.before in
     let s = t.before.before.before.before.before in
-    let is = ordered-plan t.read_table.ensures (ok e) o.choose.result o.choose.ensures
+    let is = ordered_plan t.read_table.ensures (ok e) o.choose.result o.choose.ensures
     (not-false _ d.if2.false) (length s.args.out.now) in
     says (text_of t) _ _ _
     (subst (λ (x : Outcome). Written x s.args.out.now p.new.0 p.result) is p.ensures)
 
-pub plan-text-spec : {M : Type 1} → statement M
-plan-text-spec =
+pub plan_text_spec : {M : Type 1} → statement M
+plan_text_spec =
     tie.close
     (tie.spec
     read-table-requires

@@ -3,16 +3,16 @@
 use mathlib.Core.Path.{◌≡◌, refl}
 use borrow.Author.Rules.{rules}
 use lib.ListN.{length}
-use Rattle.text.proofs.Puts.{wrote-counts}
-use Rattle.plans.specs.Plans.{planRoom}
+use Rattle.text.proofs.Puts.{wrote_counts}
+use Rattle.plans.specs.Plans.{plan_room}
 use Rattle.plans.proofs.Outcomes.{prints}
 use Rattle.demands.specs.Calls.{reviewed}
-use Rattle.demands.specs.Demands.{reviewerRefusals}
+use Rattle.demands.specs.Demands.{reviewer_refusals}
 use Rattle.demands.proofs.Outcomes.{numbered}
 use Rattle.ranks.proofs.print_review.Statement.{statement}
 use Rattle.ranks.proofs.print_review.Tie as tie
 
-room : (c : tie.After-review-order) → length c.before.before.before.args.out.now ≡ planRoom
+room : (c : tie.After-review-order) → length c.before.before.before.args.out.now ≡ plan_room
 room c = search rules
 
 review-order-requires : tie.Need-review-order-requires
@@ -30,9 +30,9 @@ returns c =
     let listed = rw (room f) at says.demands.listed in
     let answer = rw (room f) at says.answer in
     let p = c.printed.ensures in (
-      prints (reviewed text planRoom) (numbered _ reviewerRefusals refl listed) answer p,
-      wrote-counts p,
+      prints (reviewed text plan_room) (numbered _ reviewer_refusals refl listed) answer p,
+      wrote_counts p,
     )
 
-pub print-review-spec : {M : Type 1} → statement M
-print-review-spec = tie.close (tie.spec review-order-requires printed-requires returns)
+pub print_review_spec : {M : Type 1} → statement M
+print_review_spec = tie.close (tie.spec review-order-requires printed-requires returns)

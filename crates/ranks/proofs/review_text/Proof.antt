@@ -13,16 +13,16 @@ use Rattle.plans.proofs.Outcomes.{refused}
 use Rattle.demands.specs.Calls.{reviewed}
 use Rattle.demands.specs.Demands.{ReviewSays}
 use Rattle.demands.proofs.Texts.{Accepts}
-use Rattle.demands.proofs.Reviewer.{review-demands, decided}
-use Rattle.ranks.proofs.Readings.{accepts, refusal_is, few, head-there, board-fits}
-use Rattle.ranks.proofs.Given.{ranks-held, ranks-small, given-tasked, given-plan}
+use Rattle.demands.proofs.Reviewer.{review_demands, decided}
+use Rattle.ranks.proofs.Readings.{accepts, refusal_is, few, head_there, board_fits}
+use Rattle.ranks.proofs.Given.{ranks_held, ranks_small, given_tasked, given_plan_lem}
 use Rattle.ranks.proofs.review_text.Statement.{statement}
 use Rattle.ranks.proofs.review_text.Tie as tie
 
 -- with the demands, which hold of every text
 says : (text o o' : List ℕ) (r : Answer) → Written (reviewed text (length o)) o o' r → ReviewSays text o o' r
 says text o o' r w =
-    record { answer = w; demands = review-demands text (length o); no_other = decided text (length o) }
+    record { answer = w; demands = review_demands text (length o); no_other = decided text (length o) }
 
 abbrev text_of : tie.After-read-table → List ℕ
 text_of c = c.before.before.before.before.before.args.text.now
@@ -48,12 +48,12 @@ returns c =
 slice-read-board : tie.Need-slice-read-board
 slice-read-board c =
     let e = c.before in
-    omega (arith, head-there e.before.before.before.read_table.ensures (ok e))
+    omega (arith, head_there e.before.before.before.read_table.ensures (ok e))
 
 cast-board : tie.Need-overflow-cast-board
 cast-board c =
     let e = c.before in
-    record { fits = omega (arith, board-fits e.before.before.before.read_table.ensures (ok e)) }
+    record { fits = omega (arith, board_fits e.before.before.before.read_table.ensures (ok e)) }
 
 mul-order-at : tie.Need-overflow-mul-order-at
 mul-order-at c =
@@ -69,17 +69,17 @@ order-at-requires : tie.Need-order-at-requires
 order-at-requires c κs =
     let e = c.before.before in
     let a = e.before.before.before.read_table.ensures in
-    ((few a (ok e), ranks-held a (ok e)), ranks-small a (ok e))
+    ((few a (ok e), ranks_held a (ok e)), ranks_small a (ok e))
 
 sub-rows : tie.Need-overflow-sub-rows
 sub-rows c =
     let e = c.before.before.before in
-    omega (arith, head-there e.before.before.before.read_table.ensures (ok e))
+    omega (arith, head_there e.before.before.before.read_table.ensures (ok e))
 
 part-rows-start : tie.Need-slice-bounds-rows-start
 part-rows-start c =
     let e = c.before.before.before.before in
-    omega (arith, head-there e.before.before.before.read_table.ensures (ok e))
+    omega (arith, head_there e.before.before.before.read_table.ensures (ok e))
 
 part-rows-end : tie.Need-slice-bounds-rows-end
 part-rows-end c = search rules
@@ -88,7 +88,7 @@ plan-tasks-requires : tie.Need-plan-tasks-requires
 plan-tasks-requires c κs =
     let o = c.before.before.before.order-at in
     let e = c.before.before.before.before.before.before in
-    given-tasked e.before.before.before.read_table.ensures (ok e) o.result o.ensures
+    given_tasked e.before.before.before.read_table.ensures (ok e) o.result o.ensures
 
 same-length-2 : tie.Need-same-length-2
 same-length-2 c = search rules
@@ -103,12 +103,12 @@ returns-2 c =
     let e = c.before.before.before.before.before.before.before.before.before in
     let t = e.before.before.before in
     let s = t.before.before.before.before.before in
-    let is = given-plan t.read_table.ensures (ok e) o.result o.ensures (length s.args.out.now) in
+    let is = given_plan_lem t.read_table.ensures (ok e) o.result o.ensures (length s.args.out.now) in
     says (text_of t) _ _ _
     (subst (λ (x : Outcome). Written x s.args.out.now p.new.0 p.result) is p.ensures)
 
-pub review-text-spec : {M : Type 1} → statement M
-review-text-spec =
+pub review_text_spec : {M : Type 1} → statement M
+review_text_spec =
     tie.close
     (tie.spec
     read-table-requires

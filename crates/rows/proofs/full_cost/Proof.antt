@@ -7,5 +7,5 @@ use Rattle.rows.proofs.full_cost.Tie as tie
 returns : tie.Need-returns
 returns c = refl
 
-pub full-cost-spec : {M : Type 1} → statement M
-full-cost-spec = tie.close (tie.spec (λ c. search rules) returns)
+pub full_cost_spec : {M : Type 1} → statement M
+full_cost_spec = tie.close (tie.spec (λ c. search rules) returns)

@@ -1,11 +1,11 @@
 -- A promise between functions: rows and tasks by value, lists at the front of arrays that have room for a table's rows.
 use Rattle.std.specs.Prelude.{List, ◌++◌, ℕ, ◌-◌, length, take, replicate}
 use Rattle.rows.specs.declared.Order.{Order}
-use Rattle.rows.specs.Rows.{maxTasks}
+use Rattle.rows.specs.Rows.{max_tasks}
 
 -- a list at the front of an array, and nothing past it
 abbrev pub padded : {A : Type 0} → A → List A → List A
-padded nothing xs = xs ++ replicate (maxTasks - length xs) nothing
+padded nothing xs = xs ++ replicate (max_tasks - length xs) nothing
 
 -- the order that ranks some tasks
 abbrev pub ranking : List ℕ → Order

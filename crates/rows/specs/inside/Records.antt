@@ -1,16 +1,16 @@
 -- A promise between functions: rows as records, and records put among numbers.
 use Rattle.std.specs.Prelude.{◌≡◌, List, map, ℕ, ◌+◌, ◌*◌, ◌≤◌, ◌<◌, length, get_or, replicate}
-use Rattle.curves.specs.Curves.{maxPoints, pointsFrom}
+use Rattle.curves.specs.Curves.{max_points, points_from}
 use Rattle.basics.specs.Basics.{pick}
 use Rattle.rows.specs.declared.Row as Declared
 use Rattle.rows.specs.declared.Checked.{Checked}
-use Rattle.rows.specs.Rows.{Row, maxTasks, rowWith, row_at, in_range}
-use Rattle.rows.specs.Numbers.{fieldCount, rows_of, row_in}
+use Rattle.rows.specs.Rows.{Row, max_tasks, row_with, row_at, in_range}
+use Rattle.rows.specs.Numbers.{field_count, rows_of, row_in}
 
 -- the row that a record is
 abbrev pub as_row : Declared.Row → Row
 as_row r =
-    rowWith (pointsFrom r.points r.curve) r.task r.period r.worst r.best r.alpha r.beta
+    row_with (points_from r.points r.curve) r.task r.period r.worst r.best r.alpha r.beta
     r.hold r.switch
 
 -- a record of some numbers and a curve
@@ -29,19 +29,19 @@ recorded t p w b a e h s n c = record {
 }
 
 -- what stands past some records
-abbrev pub noRecord : Declared.Row
-noRecord = recorded 0 0 0 0 0 0 0 0 0 (replicate (2 * maxPoints) 0)
+abbrev pub no_record : Declared.Row
+no_record = recorded 0 0 0 0 0 0 0 0 0 (replicate (2 * max_points) 0)
 
 -- what the constructor answers of a record: whether its row is in range, and the record if it is
 abbrev pub checked : Declared.Row → Checked
-checked r = record { in_range = in_range (as_row r); row = pick (in_range (as_row r)) r noRecord }
+checked r = record { in_range = in_range (as_row r); row = pick (in_range (as_row r)) r no_record }
 
-abbrev pub asRows : List Declared.Row → List Row
-asRows rs = map as_row rs
+abbrev pub as_rows : List Declared.Row → List Row
+as_rows rs = map as_row rs
 
 -- room for the numbers of a table's rows
-abbrev pub numbersRoom : ℕ
-numbersRoom = fieldCount * maxTasks
+abbrev pub numbers_room : ℕ
+numbers_room = field_count * max_tasks
 
 -- the first n numbers of a curve stand from an index on, the others are as they were, and there are as many
 pub record CurvePut (ns : List ℕ) (at : ℕ) (curve : List ℕ) (n : ℕ) (ns' : List ℕ) : Type 0 where
@@ -52,15 +52,15 @@ pub record CurvePut (ns : List ℕ) (at : ℕ) (curve : List ℕ) (n : ℕ) (ns'
 -- row i is r if there is room for it and its points are no more than the most; the others are as they were, and there
 -- are as many numbers
 pub record RowPut (ns : List ℕ) (i : ℕ) (r : Row) (ns' : List ℕ) : Type 0 where
-  pub there : numbersRoom ≤ length ns → i < maxTasks → length r.curve ≤ maxPoints → row_in ns' i ≡ r
+  pub there : numbers_room ≤ length ns → i < max_tasks → length r.curve ≤ max_points → row_in ns' i ≡ r
   pub others : (k : ℕ) → (k ≡ i → ⊥) → row_in ns' k ≡ row_in ns k
   pub long : length ns' ≡ length ns
 
 -- no row has more points than the most
 abbrev pub FewPoints : List Row → Type 0
-FewPoints rows = (i : ℕ) → i < length rows → length (row_at rows i).curve ≤ maxPoints
+FewPoints rows = (i : ℕ) → i < length rows → length (row_at rows i).curve ≤ max_points
 
 -- the numbers begin with those of the rows, if there is room for all and none has too many points, and there are as many
 pub record RowsPut (rows : List Row) (ns ns' : List ℕ) : Type 0 where
-  pub there : numbersRoom ≤ length ns → length rows ≤ maxTasks → FewPoints rows → rows_of (length rows) ns' ≡ rows
+  pub there : numbers_room ≤ length ns → length rows ≤ max_tasks → FewPoints rows → rows_of (length rows) ns' ≡ rows
   pub long : length ns' ≡ length ns

@@ -8,12 +8,12 @@ use lib.ListN.{length, get_or, drop}
 use borrow.Author.Rules.{rules}
 use borrow.Fn.Kinds.{In}
 use borrow.Fn.PlainCycle.{Measures, is, falls, and}
-use Rattle.rows.specs.Rows.{maxTasks, in_range}
+use Rattle.rows.specs.Rows.{max_tasks, in_range}
 use Rattle.rows.proofs.Limits.{limits}
-use Rattle.rows.specs.inside.Numbers.{fieldCount, row_in}
-use Rattle.search.specs.inside.Search.{Chained, chainTasks}
+use Rattle.rows.specs.inside.Numbers.{field_count, row_in}
+use Rattle.search.specs.inside.Search.{Chained, chain_tasks}
 use Rattle.search.proofs.Sets.{bit_le}
-use Rattle.search.proofs.Chains.{row_of, chain-lowest}
+use Rattle.search.proofs.Chains.{row_of, chain_lowest}
 use Rattle.search.proofs.rebuild.Reads as rebuild
 use Rattle.search.proofs.rebuild.Kinds as rebuild-kinds
 use Rattle.search.proofs.+rebuild.Lts-rebuild as rebuild-lts
@@ -23,29 +23,29 @@ use Rattle.search.proofs.+rebuild.{statement}
 use Rattle.search.proofs.+rebuild.Tie.{close}
 
 -- the number of rows in the set
-abbrev μ-rebuild : Measures 3 rebuild-kinds.ps ℕ
-μ-rebuild κs a = a.1.0
+abbrev μ_rebuild : Measures 3 rebuild-kinds.ps ℕ
+μ_rebuild κs a = a.1.0
 
 module _ (t : ℕ) where
-  abbrev rebuild-at : In 3 rebuild-kinds.ps
-  rebuild-at = and 3 rebuild-kinds.ps (is 3 rebuild-kinds.ps μ-rebuild t) rebuild.Pre
+  abbrev rebuild_at : In 3 rebuild-kinds.ps
+  rebuild_at = and 3 rebuild-kinds.ps (is 3 rebuild-kinds.ps μ_rebuild t) rebuild.Pre
 
-  abbrev rebuild-below : In 3 rebuild-kinds.ps
-  rebuild-below = and 3 rebuild-kinds.ps (falls 3 rebuild-kinds.ps ◌<◌ μ-rebuild t) rebuild.Pre
+  abbrev rebuild_below : In 3 rebuild-kinds.ps
+  rebuild_below = and 3 rebuild-kinds.ps (falls 3 rebuild-kinds.ps ◌<◌ μ_rebuild t) rebuild.Pre
 
   abbrev calls : rebuild-lts.Claims
   calls = (
     power-reads.Asked,
     power-reads.Learnt,
-    rebuild-below,
+    rebuild_below,
     rebuild.Post,
     number-at-reads.Asked,
     number-at-reads.Learnt,
   )
 
   -- the lowest row of the set, and the rest
-  module _ (c : rebuild-lts.After-shared-slice-known3 calls rebuild-at rebuild.Post) where
-    abbrev start : rebuild-lts.Start calls rebuild-at rebuild.Post
+  module _ (c : rebuild-lts.After-shared-slice-known3 calls rebuild_at rebuild.Post) where
+    abbrev start : rebuild-lts.Start calls rebuild_at rebuild.Post
     start = c.before.before.before.before.before
 
     abbrev i : ℕ
@@ -53,8 +53,8 @@ module _ (t : ℕ) where
 
     row :
         let a = start.args in
-        (i < maxTasks)
-        × (fieldCount * suc i ≤ length a.rows.now)
+        (i < max_tasks)
+        × (field_count * suc i ≤ length a.rows.now)
         × (in_range (row_in a.rows.now i) ≡ true)
         × (a.m / 2 ^ i % 2 ≡ 1)
         × Chained a.rows.now a.sets.now (a.n - 1) (a.m - 2 ^ i)
@@ -62,25 +62,25 @@ module _ (t : ℕ) where
         let a = start.args in
         row_of a.rows.now a.sets.now a.m a.n c.before.if1.true start.pre.1.2
 
-  shared-slice-read-i : rebuild-lts.Need-shared-slice-read-i calls rebuild-at rebuild.Post
-  shared-slice-read-i c = (start c).requires.1.1
+  shared_slice_read_i : rebuild-lts.Need-shared-slice-read-i calls rebuild_at rebuild.Post
+  shared_slice_read_i c = (start c).requires.1.1
 
-  cast-i : rebuild-lts.Need-overflow-cast-i calls rebuild-at rebuild.Post
-  cast-i c = record { fits = omega (arith, (row c).0) }
+  cast_i : rebuild-lts.Need-overflow-cast-i calls rebuild_at rebuild.Post
+  cast_i c = record { fits = omega (arith, (row c).0) }
 
-  sub-above : rebuild-lts.Need-overflow-sub-above calls rebuild-at rebuild.Post
-  sub-above c = search rules
+  sub_above : rebuild-lts.Need-overflow-sub-above calls rebuild_at rebuild.Post
+  sub_above c = search rules
 
-  power-requires : rebuild-lts.Need-power-requires calls rebuild-at rebuild.Post
-  power-requires c κs = omega (arith, (row c).0)
+  power_requires : rebuild-lts.Need-power-requires calls rebuild_at rebuild.Post
+  power_requires c κs = omega (arith, (row c).0)
 
-  sub-rebuild : rebuild-lts.Need-overflow-sub-rebuild calls rebuild-at rebuild.Post
-  sub-rebuild c =
+  sub_rebuild : rebuild-lts.Need-overflow-sub-rebuild calls rebuild_at rebuild.Post
+  sub_rebuild c =
       let read = c.before in
       omega (arith, c.power.ensures, bit_le (start read).args.m (i read) (row read).3)
 
-  rebuild-requires : rebuild-lts.Need-rebuild-requires calls rebuild-at rebuild.Post
-  rebuild-requires c κs =
+  rebuild_requires : rebuild-lts.Need-rebuild-requires calls rebuild_at rebuild.Post
+  rebuild_requires c κs =
       let read = c.before.before in
       let s = start read in
       let a = s.args in
@@ -94,25 +94,25 @@ module _ (t : ℕ) where
         ),
       )
 
-  number-at-requires : rebuild-lts.Need-number-at-requires calls rebuild-at rebuild.Post
-  number-at-requires c κs = ((row c.before.before.before.before.before).1, omega arith)
+  number_at_requires : rebuild-lts.Need-number-at-requires calls rebuild_at rebuild.Post
+  number_at_requires c κs = ((row c.before.before.before.before.before).1, omega arith)
 
-  cast-tasks : rebuild-lts.Need-overflow-cast-tasks calls rebuild-at rebuild.Post
-  cast-tasks c =
+  cast_tasks : rebuild-lts.Need-overflow-cast-tasks calls rebuild_at rebuild.Post
+  cast_tasks c =
       let read = c.before.before.before.before.before.before in
       let kept = limits (row_in (start read).args.rows.now (i read)) (row read).2 in
-      record { fits = omega (arith, kept.task.le-high, c.number_at.ensures) }
+      record { fits = omega (arith, kept.task.le_high, c.number_at.ensures) }
 
-  mul-tasks : rebuild-lts.Need-overflow-mul-tasks calls rebuild-at rebuild.Post
-  mul-tasks c = search rules
+  mul_tasks : rebuild-lts.Need-overflow-mul-tasks calls rebuild_at rebuild.Post
+  mul_tasks c = search rules
 
-  slice-write-tasks : rebuild-lts.Need-slice-write-tasks calls rebuild-at rebuild.Post
-  slice-write-tasks c = search rules
+  slice_write_tasks : rebuild-lts.Need-slice-write-tasks calls rebuild_at rebuild.Post
+  slice_write_tasks c = search rules
 
-  same_length : rebuild-lts.Need-same-length calls rebuild-at rebuild.Post
+  same_length : rebuild-lts.Need-same-length calls rebuild_at rebuild.Post
   same_length c = search rules
 
-  returns : rebuild-lts.Need-returns calls rebuild-at rebuild.Post
+  returns : rebuild-lts.Need-returns calls rebuild_at rebuild.Post
   returns c =
       let read = c.before.before.before.before.before.before in
       let s = start read in
@@ -121,29 +121,29 @@ module _ (t : ℕ) where
       let o = c.before.before.before.rebuild in
       let ts = o.new.1.1.1.1.0 in
       let k = a.n - 1 in
-      let rest = subst (λ (p : ℕ). ts ≡ chainTasks rows a.sets.now k (a.m - p) ++ drop k a.tasks.now)
+      let rest = subst (λ (p : ℕ). ts ≡ chain_tasks rows a.sets.now k (a.m - p) ++ drop k a.tasks.now)
       c.before.before.before.before.before.power.ensures o.ensures in
-      chain-lowest rows a.sets.now a.m a.n a.tasks.now ts c.number_at.result
+      chain_lowest rows a.sets.now a.m a.n a.tasks.now ts c.number_at.result
       read.before.if1.true s.pre.1.0 c.number_at.ensures rest
 
-  returns-2 : rebuild-lts.Need-returns-2 calls rebuild-at rebuild.Post
+  returns-2 : rebuild-lts.Need-returns-2 calls rebuild_at rebuild.Post
   returns-2 c =
       let e : c.before.before.before.before.args.n ≡ 0 = omega (arith, c.if1.false) in
       rw e
 
 pub +rebuild-spec : {M : Type 1} → statement M
 +rebuild-spec =
-    close μ-rebuild λ t. rebuild-lts.spec (calls t) (rebuild-at t) rebuild.Post
-    (shared-slice-read-i t)
-    (cast-i t)
-    (sub-above t)
-    (power-requires t)
-    (sub-rebuild t)
-    (rebuild-requires t)
-    (number-at-requires t)
-    (cast-tasks t)
-    (mul-tasks t)
-    (slice-write-tasks t)
+    close μ_rebuild λ t. rebuild-lts.spec (calls t) (rebuild_at t) rebuild.Post
+    (shared_slice_read_i t)
+    (cast_i t)
+    (sub_above t)
+    (power_requires t)
+    (sub_rebuild t)
+    (rebuild_requires t)
+    (number_at_requires t)
+    (cast_tasks t)
+    (mul_tasks t)
+    (slice_write_tasks t)
     (same_length t)
     (returns t)
     (returns-2 t)

@@ -5,7 +5,7 @@ use Prim.Native.Nat.{ℕ}
 use native.Mathlib.Omega.{arith}
 use lib.ListN.{length-replicate}
 use borrow.Author.Rules.{rules}
-use Rattle.rows.specs.Rows.{maxTasks}
+use Rattle.rows.specs.Rows.{max_tasks}
 use Rattle.rows.specs.inside.Numbers.{rows_of}
 use Rattle.search.specs.inside.Sets.{unknown}
 use Rattle.search.specs.inside.Search.{Lent, Chooses}
@@ -50,7 +50,7 @@ returns-3 : tie.Need-returns-3
 returns-3 c = search rules
 
 -- a table that has not fewer rows than the most has the most
-full : (c : tie.Else3) → c.before.before.before.before.args.n ≡ maxTasks
+full : (c : tie.Else3) → c.before.before.before.before.args.n ≡ max_tasks
 full c = omega (arith, c.before.before.before.before.requires.few)
 
 choose-long-requires-2 : tie.Need-choose-long-requires-2

@@ -53,8 +53,8 @@ order-with-requires-3 c κs =
 returns-3 : tie.Need-returns-3
 returns-3 c = search rules
 
-pub choose-long-spec : {M : Type 1} → statement M
-choose-long-spec =
+pub choose_long_spec : {M : Type 1} → statement M
+choose_long_spec =
     tie.close
     (tie.spec
     slice-aggregate-order-with

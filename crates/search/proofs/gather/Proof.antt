@@ -5,10 +5,10 @@ use native.Mathlib.Numerals.{add-one}
 use native.Mathlib.Omega.{arith}
 use lib.ListN.{length}
 use Rattle.rows.specs.inside.Numbers.{rows_of}
-use Rattle.rows.proofs.RowNumbers.{rows-length, rows-at}
-use Rattle.analysis.specs.inside.Columns.{withTimes}
-use Rattle.search.proofs.LentRows.{row-held, times-ranged}
-use Rattle.search.proofs.Gathering.{Gathering, gathering-none, gathering-next, gathered}
+use Rattle.rows.proofs.RowNumbers.{rows_length, rows_at_lem}
+use Rattle.analysis.specs.inside.Columns.{with_times}
+use Rattle.search.proofs.LentRows.{row_held, times_ranged}
+use Rattle.search.proofs.Gathering.{Gathering, gathering_none, gathering_next, gathered}
 use Rattle.search.proofs.gather.Statement.{statement}
 use Rattle.search.proofs.gather.Tie as tie
 
@@ -22,7 +22,7 @@ decreases-loop rows n m columns₀ count₀ rest₀ j₀ columns count rest j = 
 loop-holds : tie.Need-loop-init invariant-loop decreases-loop
 loop-holds c =
     let s = c.before.before in (
-      gathering-none (rows_of s.args.n s.args.rows.now) s.args.m s.args.n s.args.columns.now
+      gathering_none (rows_of s.args.n s.args.rows.now) s.args.m s.args.n s.args.columns.now
           s.requires.1,
       refl,
     )
@@ -32,8 +32,8 @@ put-times-requires c κs =
     let s = c.before.before.before.before.before in
     let x = c.before.before.loop in
     let more = c.before.loop-test.true in (
-      row-held s.requires.0 x.j more,
-      times-ranged s.requires.0 x.j more,
+      row_held s.requires.0 x.j more,
+      times_ranged s.requires.0 x.j more,
       omega (arith, x.invariant.0.few, more),
       omega (arith, s.requires.0.few),
       omega (arith, s.requires.1, x.invariant.1),
@@ -59,9 +59,9 @@ loop-again c =
     let k = c.before.before.before.before in
     let x = k.before.loop in
     let put = c.before.before.put-times in
-    let row = sym (rows-at a.n x.j a.rows.now k.loop-test.true) in
-    let next = gathering-next x.invariant.0 (rows-length a.n a.rows.now) k.loop-test.true _
-    (put.ensures ∙ ap (withTimes x.columns a.n x.count) row) in
+    let row = sym (rows_at_lem a.n x.j a.rows.now k.loop-test.true) in
+    let next = gathering_next x.invariant.0 (rows_length a.n a.rows.now) k.loop-test.true _
+    (put.ensures ∙ ap (with_times x.columns a.n x.count) row) in
     rw (add-one x.j) (next, put.auto.1.1.0 ∙ x.invariant.1)
 
 same_length : tie.Need-same-length invariant-loop decreases-loop
@@ -70,10 +70,10 @@ same_length c = c.before.loop.invariant.1
 returns : tie.Need-returns invariant-loop decreases-loop
 returns c =
     let a = c.before.before.before.before.args in
-    gathered c.before.loop.invariant.0 (rows-length a.n a.rows.now) c.loop-test.false
+    gathered c.before.loop.invariant.0 (rows_length a.n a.rows.now) c.loop-test.false
 
-pub gather-spec : {M : Type 1} → statement M
-gather-spec =
+pub gather_spec : {M : Type 1} → statement M
+gather_spec =
     tie.close
     (tie.spec
     invariant-loop

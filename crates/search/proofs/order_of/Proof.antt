@@ -17,7 +17,7 @@ use Rattle.rows.proofs.Walk.{shr_slice_Tells, shr_slice_Lawful, owned, nothing, 
 use Rattle.rows.proofs.Walk.{triple_of, entered, cited, says, Stays, stay_dropped, walk_of, Goes-dropped, Walks, ends_at}
 use Rattle.rows.proofs.Walk.{walked, walk_Meets, yes, Array, array_val, Array-Lawful, usize, uint_Makes, of_opd}
 use Rattle.rows.proofs.Walk.{full_share, vint, vptr, w64, ty_array, ty_int}
-use Rattle.rows.proofs.Calls.{Asks, calls-left, calls-told}
+use Rattle.rows.proofs.Calls.{Asks, calls_left, calls_told}
 use lib.ListN.{replicate}
 use borrow.Rule.Array.Init.{part_room}
 use borrow.Table.OneValue.{part_in}
@@ -35,12 +35,12 @@ use denote.Ref.{MutRef, ShrRef}
 use denote.Struct.Laws as LL
 use denote.Triple.Walked.{needs}
 use lib.ListN.{length-map}
-use Rattle.curves.proofs.Lines.{few-of}
+use Rattle.curves.proofs.Lines.{few_of}
 use Rattle.rows.specs.declared.Row.{Row}
 use Rattle.rows.specs.Rows.{row_at, in_range}
 use Rattle.rows.specs.inside.Numbers.{rows_of}
-use Rattle.rows.specs.inside.Records.{as_row, asRows, numbersRoom, FewPoints, RowsPut}
-use Rattle.rows.proofs.Limits.{limits, at-passes}
+use Rattle.rows.specs.inside.Records.{as_row, as_rows, numbers_room, FewPoints, RowsPut}
+use Rattle.rows.proofs.Limits.{limits, at_passes}
 use Rattle.search.specs.declared.Choice.{Choice}
 use Rattle.search.specs.inside.Search.{TableRows, Lent, Chooses}
 use Rattle.rows.specs.contracts.Row as T
@@ -64,28 +64,28 @@ stayed = (stay_dropped (shr_slice_of (0 ∷ []) tt (plain (λ _. T.the_row))) ye
 
 -- the local array: its type, its value at first, and room for the numbers of all rows
 abbrev Numbers : RattleType
-Numbers = Array u64 numbersRoom
+Numbers = Array u64 numbers_room
 
 abbrev zeros : List ℕ
-zeros = replicate numbersRoom 0
+zeros = replicate numbers_room 0
 
-abbrev zeroVal : Val
-zeroVal = array_val (replicate numbersRoom (vint w64 0))
+abbrev zero_val : Val
+zero_val = array_val (replicate numbers_room (vint w64 0))
 
 -- the rows that `put_rows` put among them, and that they are lent as
-few-points : (ys : List Row) → TableRows (asRows ys) → FewPoints (asRows ys)
-few-points ys table i l =
-    let r = row_at (asRows ys) i in
-    few-of r.curve (limits r (at-passes in_range (asRows ys) i table.in-range l)).curve
+few_points : (ys : List Row) → TableRows (as_rows ys) → FewPoints (as_rows ys)
+few_points ys table i l =
+    let r = row_at (as_rows ys) i in
+    few_of r.curve (limits r (at_passes in_range (as_rows ys) i table.is_in_range l)).curve
 
-rows_are : (ys : List Row) (ns : List ℕ) → TableRows (asRows ys) → RowsPut (asRows ys) zeros ns
-    → rows_of (length ys) ns ≡ asRows ys
+rows_are : (ys : List Row) (ns : List ℕ) → TableRows (as_rows ys) → RowsPut (as_rows ys) zeros ns
+    → rows_of (length ys) ns ≡ as_rows ys
 rows_are ys ns table put =
-    subst (λ n. rows_of n ns ≡ asRows ys) (length-map ys as_row)
-    (put.there (omega arith) table.few (few-points ys table))
+    subst (λ n. rows_of n ns ≡ as_rows ys) (length-map ys as_row)
+    (put.there (omega arith) table.few (few_points ys table))
 
-lent_rows : (ys : List Row) (ns : List ℕ) → TableRows (asRows ys) → RowsPut (asRows ys) zeros ns → Lent (length ys) ns
-lent_rows ys ns table put = record {
+lent_rows_lem : (ys : List Row) (ns : List ℕ) → TableRows (as_rows ys) → RowsPut (as_rows ys) zeros ns → Lent (length ys) ns
+lent_rows_lem ys ns table put = record {
   few = omega (arith, table.few, length-map ys as_row);
   held = omega (arith, table.few, put.long, length-map ys as_row);
   table = subst TableRows (sym (rows_are ys ns table put)) table;
@@ -130,33 +130,33 @@ module _ {M : Type 1} {𝓤 : Ura M} (𝓛 : Logic 𝓤) (mem : Memory → SProp
   Shr l α δ ns = (ShrRef (named 0) (α ∷ []) Numbers).own_val (held l δ ns) (vptr l 0 ∷ [])
 
   -- the calls: what each is passed, and what it asks
-  abbrev to-put-rows : ℕ → ℕ → GName → (PutRows 𝓛 mem run).Ghost
-  to-put-rows l α δ =
+  abbrev to_put_rows : ℕ → ℕ → GName → (PutRows 𝓛 mem run).Ghost
+  to_put_rows l α δ =
       (((κ, (α ∷ [], tt)), (q, (full_share, tt)), tt, (s, (held l δ zeros, tt)), (v ∷ [], (vptr l 0 ∷ [], tt))), tt)
 
-  goes-put-rows : (l α : ℕ) (δ : GName)
+  goes_put_rows : (l α : ℕ) (δ : GName)
       → ent 𝓤 (⋆ 𝓛 ((‵ (flft (α ∷ []) full_share) ⊛ (‵ (flft κ q) ⊛ ‵ ftrue)) ∷ ‵ Owns ∷ ‵ (Mut l α δ) ∷ []))
-      ((PutRows 𝓛 mem run).pre (to-put-rows l α δ))
-  goes-put-rows l α δ =
+      ((PutRows 𝓛 mem run).pre (to_put_rows l α δ))
+  goes_put_rows l α δ =
       qed 𝓛 ((‵ (flft (α ∷ []) full_share) ⊛ (‵ (flft κ q) ⊛ ‵ ftrue)) ∷ ‵ Owns ∷ ‵ (Mut l α δ) ∷ []) ∵
       split ! $ move ! (1 ∷ []) $ split ! $ move ! (2 ∷ 1 ∷ []) $ join ! $ move ! (1 ∷ 0 ∷ []) $ join ! $
       move ! (1 ∷ []) $ fsplit ! $ move ! (3 ∷ 1 ∷ []) $ fjoin ! $ move ! (1 ∷ 0 ∷ []) $ fjoin ! $
       move ! (1 ∷ 0 ∷ []) $ join ! $ frame ! $ done !
 
-  abbrev to-order-in : ℕ → ℕ → GName → List ℕ → (OrderIn 𝓛 mem run).Ghost
-  to-order-in l α δ ns =
+  abbrev to_order_in : ℕ → ℕ → GName → List ℕ → (OrderIn 𝓛 mem run).Ghost
+  to_order_in l α δ ns =
       (((α ∷ [], tt), (full_share, tt), tt, (held l δ ns, (n, tt)), (vptr l 0 ∷ [], (vint w64 n ∷ [], tt))), tt)
 
-  goes-order-in : (l α : ℕ) (δ : GName) (ns : List ℕ) → Lent n ns → n < 2 ^ 64
+  goes_order_in : (l α : ℕ) (δ : GName) (ns : List ℕ) → Lent n ns → n < 2 ^ 64
       → ent 𝓤 (⋆ 𝓛 (‵ (flft (α ∷ []) full_share) ∷ ‵ (Shr l α δ ns) ∷ []))
-      ((OrderIn 𝓛 mem run).pre (to-order-in l α δ ns))
-  goes-order-in l α δ ns lent fits =
+      ((OrderIn 𝓛 mem run).pre (to_order_in l α δ ns))
+  goes_order_in l α δ ns lent fits =
       qed 𝓛 (‵ (flft (α ∷ []) full_share) ∷ ‵ (Shr l α δ ns) ∷ []) ∵ says ! lent $
       nothing ! $ move ! (1 ∷ 0 ∷ []) $ join ! $ frame ! $
       nothing ! $ owned ! usize (Is usize) (uint_Makes 𝓛 w64) n _ (refl, fits) $ fjoin ! $
       move ! (1 ∷ 0 ∷ []) $ fjoin ! $ done !
 
-  exits : (x : Choice) (u : Val) → Chooses (asRows s.now) x
+  exits : (x : Choice) (u : Val) → Chooses (as_rows s.now) x
       → ent 𝓤 (⋆ 𝓛 (‵ ((L.the_row).own_val x (u ∷ [])) ∷ ‵ (flft κ q) ∷ [])) (Post u)
   exits x u e =
       qed 𝓛 (‵ ((L.the_row).own_val x (u ∷ [])) ∷ ‵ (flft κ q) ∷ []) ∵
@@ -165,9 +165,9 @@ module _ {M : Type 1} {𝓤 : Ura M} (𝓛 : Logic 𝓤) (mem : Memory → SProp
       nothing ! $ move ! (2 ∷ 0 ∷ []) $ join ! $ frame ! $ nothing ! $ nothing ! $ fjoin ! $ frame ! $ done !
 
   module _ (C : Calls 𝓤 H) (Λ : Loops 𝓤 H) (fm : FmC 𝓤 H 𝓛.laws C)
-      (known-put-rows : Triple 𝓤 (C #put-rows) (PutRows 𝓛 mem run))
-      (known-order-in : Triple 𝓤 (C #order-in) (OrderIn 𝓛 mem run)) where
-    walk : Is (ShrSlice (named 0) κ T.the_row) s (v ∷ []) → TableRows (asRows s.now)
+      (known_put_rows : Triple 𝓤 (C #put-rows) (PutRows 𝓛 mem run))
+      (known_order_in : Triple 𝓤 (C #order-in) (OrderIn 𝓛 mem run)) where
+    walk : Is (ShrSlice (named 0) κ T.the_row) s (v ∷ []) → TableRows (as_rows s.now)
         → ent 𝓤 (on_entry 𝓛 order-of.signature (κ, tt) (q, tt) (s, tt) at)
         (WpFn 𝓤 H C Λ code.function (v ∷ []) Post)
     walk p table =
@@ -179,24 +179,24 @@ module _ {M : Type 1} {𝓤 : Ura M} (𝓛 : Logic 𝓤) (mem : Memory → SProp
         assigns ! (of_opd ! (load ! (from ! (fld ! refl (stop !))) (look_in ! 10 (sub ! 1 refl (whole !)))))
         (from ! (stop !)) (init ! 8 refl (tt, record { fits = p.0.1.0 })) $
         owned ! u64 (Is u64) (uint_Makes 𝓛 w64) 0 (vint w64 0 ∷ []) (refl, lit< tt) $
-        use1 𝓛 (‵ (Numbers.own_val zeros (zeroVal ∷ [])))
-        (Array-repeat 𝓛 u64 (uint_copy 𝓛 w64) numbersRoom 0 (vint w64 0)) $
-        peeks ! Numbers (Is Numbers) (shows 𝓛 Numbers) zeros (zeroVal ∷ []) (λ are.
-        assigns ! (rep ! numbersRoom (lit ! tt)) (from ! (stop !)) (init ! 7 refl ((Array-Lawful 𝓛 u64
-        (uint_Lawful 𝓛 w64) numbersRoom).typed zeros (zeroVal ∷ []) are).0) $
+        use1 𝓛 (‵ (Numbers.own_val zeros (zero_val ∷ [])))
+        (Array-repeat 𝓛 u64 (uint_copy 𝓛 w64) numbers_room 0 (vint w64 0)) $
+        peeks ! Numbers (Is Numbers) (shows 𝓛 Numbers) zeros (zero_val ∷ []) (λ are.
+        assigns ! (rep ! numbers_room (lit ! tt)) (from ! (stop !)) (init ! 7 refl ((Array-Lawful 𝓛 u64
+        (uint_Lawful 𝓛 w64) numbers_room).typed zeros (zero_val ∷ []) are).0) $
         assigns ! (addr ! (from ! (stop !))) (from ! (stop !)) (init ! 3 refl (tt, tt)) $
         move ! (7 ∷ 0 ∷ []) $
-        use2 𝓛 (‵ ((in_memory Numbers).lies zeros l₃ 0)) (part_in 𝓛 Numbers refl full_share zeros l₃ 0 zeroVal) $
+        use2 𝓛 (‵ ((in_memory Numbers).lies zeros l₃ 0)) (part_in 𝓛 Numbers refl full_share zeros l₃ 0 zero_val) $
         -- [the numbers; _6; …; _5; …; _4; …; _3's end; _2; …; _1; …; _0; …; the token; what the slice owns]
         lft_new ! tt (λ α. move ! (1 ∷ []) $
         use1 𝓛 (later (some (λ (δ : GName). ‵ (Mut l₃ α δ) ⊛ ‵ (flent (α ∷ []) (Body (in_memory Numbers) l₃ 0 δ)))))
         (lends_ref 𝓛 Numbers (named 1) (α ∷ []) zeros l₃ 0) $ await ! tt $ pick ! (λ δ. split ! $
         -- [the numbers, lent; the lender's part; α's token; _6; …; _0; …; the token; what the slice owns]
         move ! (2 ∷ 16 ∷ []) $ join ! $ move ! (0 ∷ 16 ∷ 1 ∷ []) $
-        use3 𝓛 (raw ((PutRows 𝓛 mem run).pre (to-put-rows l₃ α δ))) (goes-put-rows l₃ α δ) $
-        calls-left ! fm put-rows.ended (put-rows.clauses 𝓛 mem run) known-put-rows (to-put-rows l₃ α δ)
+        use3 𝓛 (raw ((PutRows 𝓛 mem run).pre (to_put_rows l₃ α δ))) (goes_put_rows l₃ α δ) $
+        calls_left ! fm put-rows.ended (put-rows.clauses 𝓛 mem run) known_put_rows (to_put_rows l₃ α δ)
         (‵ (flft κ q) ⊛ (‵ (flft (α ∷ []) full_share) ⊛ ‵ ftrue)) refl
-        (λ _ ws. RowsPut (asRows s.now) zeros ws.1.0) (λ _ ws. refl)
+        (λ _ ws. RowsPut (as_rows s.now) zeros ws.1.0) (λ _ ws. refl)
         (and_then ! (load ! (from ! (stop !)) (look ! 11 refl))
         (and_then ! (load ! (from ! (stop !)) (look ! 4 refl)) (no_more !))) (λ w _ ws e is. drop ! $
         land ! (from ! (stop !)) (init ! 7 refl ((Nothing-Lawful 𝓛).typed tt (w ∷ []) is).0) $
@@ -213,16 +213,16 @@ module _ {M : Type 1} {𝓤 : Ura M} (𝓛 : Logic 𝓤) (mem : Memory → SProp
         (lends_shr 𝓛 Numbers (named 0) (β ∷ []) full_share ws.1.0 l₃ 0) $ await ! tt $ pick ! (λ ε. split ! $
         -- [the numbers, lent; the lender's part; β's token; true; the token; _6; …]
         move ! (2 ∷ 0 ∷ []) $
-        use2 𝓛 (raw ((OrderIn 𝓛 mem run).pre (to-order-in l₃ β ε ws.1.0)))
-        (goes-order-in l₃ β ε ws.1.0 (lent_rows s.now ws.1.0 table e) p.0.1.0) $
-        calls-told ! fm order-in.ended (order-in.clauses 𝓛 mem run) known-order-in (to-order-in l₃ β ε ws.1.0)
+        use2 𝓛 (raw ((OrderIn 𝓛 mem run).pre (to_order_in l₃ β ε ws.1.0)))
+        (goes_order_in l₃ β ε ws.1.0 (lent_rows_lem s.now ws.1.0 table e) p.0.1.0) $
+        calls_told ! fm order-in.ended (order-in.clauses 𝓛 mem run) known_order_in (to_order_in l₃ β ε ws.1.0)
         (‵ (flft (β ∷ []) full_share) ⊛ ‵ ftrue) refl (λ (x : Choice). Chooses (rows_of n ws.1.0) x)
         (λ r e. refl) (and_then ! (load ! (from ! (stop !)) (look ! 4 refl))
         (and_then ! (load ! (from ! (stop !)) (look ! 11 refl)) (no_more !))) (λ u x e' ix.
         land ! (from ! (stop !)) (init ! 16 refl ((LL.lawful L.the_type L'.the_laws 𝓛).typed x (u ∷ []) ix).0) $
         -- β ends, and the numbers' room is had again
         move ! (1 ∷ []) $ split ! $ lft_end ! tt $ move ! (0 ∷ 3 ∷ []) $ lent_back ! tt $
-        use1 𝓛 (‵ (froom (ty_array (ty_int w64) numbersRoom) l₃ 0)) (part_room 𝓛 Numbers ws.1.0 l₃ 0) $
+        use1 𝓛 (‵ (froom (ty_array (ty_int w64) numbers_room) l₃ 0)) (part_room 𝓛 Numbers ws.1.0 l₃ 0) $
         -- [room for _3; true; the result; true; the token; _6; …; _5; …; _4; …; _3's end; _2; …; _1; …; _0; …]
         returns ! (look ! 16 refl) $ forget ! 5 refl $ forget ! 7 refl $ forget ! 9 refl $ forget ! 12 refl $
         forget ! 14 refl $ forget ! 16 refl $
@@ -236,29 +236,29 @@ module _ {M : Type 1} {𝓤 : Ura M} (𝓛 : Logic 𝓤) (mem : Memory → SProp
     (run : Routine → Fun 𝓤) where
   open 𝓛 use {H}
 
-  order-of-walks : (C : Calls 𝓤 H) (Λ : Loops 𝓤 H) → FmC 𝓤 H 𝓛.laws C
+  order_of_walks : (C : Calls 𝓤 H) (Λ : Loops 𝓤 H) → FmC 𝓤 H 𝓛.laws C
       → Triple 𝓤 (C #put-rows) (PutRows 𝓛 mem run) → Triple 𝓤 (C #order-in) (OrderIn 𝓛 mem run)
       → Walks 𝓛 order-of.ended stayed (WpFn 𝓤 H C Λ code.function) (order-of.clauses 𝓛 mem run)
-  order-of-walks C Λ fm kp ko = walked 𝓛 order-of.ended stayed (order-of.clauses 𝓛 mem run)
+  order_of_walks C Λ fm kp ko = walked 𝓛 order-of.ended stayed (order-of.clauses 𝓛 mem run)
       (WpFn 𝓤 H C Λ code.function) (λ κs. (shr_slice_vals, tt))
       (λ κs. (shr_slice_Tells (named 0) κs.0 T.the_row, tt))
       (λ κs qs bounds a g are. needs 𝓤 _ _ (walk 𝓛 mem run κs.0 qs.0 a.0 C Λ fm kp ko are.0))
 
-order-of-meets : {M : Type 1} {𝓤 : Ura M} (𝓛 : Logic 𝓤) (mem : Memory → SProp 𝓤)
+order_of_meets : {M : Type 1} {𝓤 : Ura M} (𝓛 : Logic 𝓤) (mem : Memory → SProp 𝓤)
     (run : Routine → Fun 𝓤) (𝓣 : Tables 𝓤 𝓛.H)
     → Triple 𝓤 (𝓣.C #put-rows) (PutRows 𝓛 mem run) → Triple 𝓤 (𝓣.C #order-in) (OrderIn 𝓛 mem run)
     → Meets 𝓛 order-of.signature (WpFn 𝓤 𝓛.H 𝓣.C 𝓣.Λ code.function) (order-of.spec 𝓛 mem run)
-order-of-meets {𝓤 = 𝓤} 𝓛 mem run 𝓣 kp ko = walk_Meets 𝓛 order-of.ended stayed
+order_of_meets {𝓤 = 𝓤} 𝓛 mem run 𝓣 kp ko = walk_Meets 𝓛 order-of.ended stayed
     (Goes-dropped 𝓛 1 (shr_slice_of (0 ∷ []) tt (plain (λ _. T.the_row))) yes (λ κs x f. refl), tt)
     (order-of.clauses 𝓛 mem run) (WpFn 𝓤 𝓛.H 𝓣.C 𝓣.Λ code.function) (WpFn-mono 𝓤 𝓛.H 𝓛.laws 𝓣 code.function)
-    (order-of-walks 𝓛 mem run 𝓣.C 𝓣.Λ (fm_of 𝓤 𝓛.H 𝓛.laws 𝓣) kp ko)
+    (order_of_walks 𝓛 mem run 𝓣.C 𝓣.Λ (fm_of 𝓤 𝓛.H 𝓛.laws 𝓣) kp ko)
 
-pub order-of-spec : {M : Type 1} → stated.statement M
+pub order_of_spec : {M : Type 1} → stated.statement M
 unfolding code.routine tables_of
-order-of-spec 𝓤 𝓛 𝓜 𝓡 =
+order_of_spec 𝓤 𝓛 𝓜 𝓡 =
     entered 𝓤 𝓛.H (triple_of 𝓛 order-of.signature (order-of.spec 𝓛 𝓜.mem 𝓡.run))
     (tables 𝓤 𝓛.H 𝓜 𝓡 code.env).C (tables 𝓤 𝓛.H 𝓜 𝓡 code.env).Λ #order-of code.function (code.unfolded 𝓤 𝓛.H 𝓜 𝓡)
-    (order-of-meets 𝓛 𝓜.mem 𝓡.run (tables_of 𝓤 𝓛.H 𝓜 (tables 𝓤 𝓛.H 𝓜 𝓡 code.env))
+    (order_of_meets 𝓛 𝓜.mem 𝓡.run (tables_of 𝓤 𝓛.H 𝓜 (tables 𝓤 𝓛.H 𝓜 𝓡 code.env))
     (cited 𝓤 𝓛.H (PutRows 𝓛 𝓜.mem 𝓡.run) 𝓜 𝓡 code.env #put-rows
     put-rows-def.routine code.calls-rows::put-rows (put-rows-thm.met 𝓤 𝓛 𝓜 𝓡))
     (cited 𝓤 𝓛.H (OrderIn 𝓛 𝓜.mem 𝓡.run) 𝓜 𝓡 code.env #order-in

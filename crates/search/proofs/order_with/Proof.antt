@@ -12,28 +12,28 @@ use Rattle.rows.specs.Rows.{Row}
 use Rattle.rows.specs.declared.Order.{Order}
 use Rattle.rows.specs.inside.Arrays.{ranking}
 use Rattle.rows.specs.inside.Numbers.{rows_of}
-use Rattle.rows.proofs.RowNumbers.{rows-length}
+use Rattle.rows.proofs.RowNumbers.{rows_length}
 use Rattle.search.specs.declared.Choice.{Choice}
-use Rattle.orders.specs.Orders.{theOrder, order_of}
-use Rattle.responses.specs.Figures.{largestHold}
+use Rattle.orders.specs.Orders.{the_order, order_of}
+use Rattle.responses.specs.Figures.{largest_hold}
 use Rattle.search.specs.inside.Sets.{others, is_some, order_at, Fresh, Settled}
 use Rattle.orders.specs.Stability.{stable}
-use Rattle.search.specs.inside.Search.{tasksIn, Lent, Chained, chainTasks, Chooses}
-use Rattle.search.proofs.LentRows.{small, a-set}
-use Rattle.search.proofs.Outside.{outside-none}
+use Rattle.search.specs.inside.Search.{tasks_in, Lent, Chained, chain_tasks, Chooses}
+use Rattle.search.proofs.LentRows.{small, a_set}
+use Rattle.search.proofs.Outside.{outside_none}
 use Rattle.search.proofs.Record.{begun}
 use Rattle.search.proofs.Chains.{chain}
-use Rattle.search.proofs.Scan.{at-whole}
+use Rattle.search.proofs.Scan.{at_whole}
 use Rattle.orders.proofs.Stability.{chosen}
 use Rattle.search.proofs.order_with.Statement.{statement}
 use Rattle.search.proofs.order_with.Tie as tie
 
-no-tasks : (o : Option (List Row)) → false ≡ is_some o → [] ≡ tasksIn o
-no-tasks none e = refl
-no-tasks (some os) e = let z : ◌≡◌ {A = ℕ} 0 1 = cc in absurd (omega arith)
+no_tasks : (o : Option (List Row)) → false ≡ is_some o → [] ≡ tasks_in o
+no_tasks none e = refl
+no_tasks (some os) e = let z : ◌≡◌ {A = ℕ} 0 1 = cc in absurd (omega arith)
 
-abbrev asFound : Bool → Order → Choice
-asFound found order = record { found = found; order = order }
+abbrev as_found : Bool → Order → Choice
+as_found found order = record { found = found; order = order }
 
 -- the whole set and its record
 module _ (n : ℕ) (ns : List ℕ) (lent : Lent n ns) (all : ℕ) (e : all ≡ 2 ^ n - 1) where
@@ -43,55 +43,55 @@ module _ (n : ℕ) (ns : List ℕ) (lent : Lent n ns) (all : ℕ) (e : all ≡ 2
   -- what is said of the whole set is said of the table
   whole : order_at stable table all ≡ order_of stable table
   whole =
-      ap (order_at stable table) (e ∙ ap (λ (k : ℕ). 2 ^ k - 1) (sym (rows-length n ns)))
-      ∙ at-whole theOrder stable table
+      ap (order_at stable table) (e ∙ ap (λ (k : ℕ). 2 ^ k - 1) (sym (rows_length n ns)))
+      ∙ at_whole the_order stable table
 
   -- no row is outside it
-  none-outside : 0 ≡ largestHold (others all table)
-  none-outside =
-      sym (ap (λ (k : ℕ). largestHold (others k table)) (e ∙ ap (λ (k : ℕ). 2 ^ k - 1) (sym (rows-length n ns)))
-      ∙ outside-none table)
+  none_outside : 0 ≡ largest_hold (others all table)
+  none_outside =
+      sym (ap (λ (k : ℕ). largest_hold (others k table)) (e ∙ ap (λ (k : ℕ). 2 ^ k - 1) (sym (rows_length n ns)))
+      ∙ outside_none table)
 
   in_table : all < 2 ^ n
   in_table = omega (arith, pow_pos n)
 
   module _ (sets : List ℕ) (found : Bool) (s : Settled stable table all sets found) where
-    in-record : all < length sets
-    in-record = omega (arith, s.recorded.room, a-set lent all in_table)
+    in_record : all < length sets
+    in_record = omega (arith, s.recorded.room, a_set lent all in_table)
 
     -- the tasks along the chain of the whole set, which has an order
     chained :
-        found ≡ true → Chained ns sets n all × (chainTasks ns sets n all ≡ tasksIn (order_at stable table all))
-    chained h = chain n ns lent sets s.recorded all e s.there (sym s.found-is ∙ h)
+        found ≡ true → Chained ns sets n all × (chain_tasks ns sets n all ≡ tasks_in (order_at stable table all))
+    chained h = chain n ns lent sets s.recorded all e s.there (sym s.found_is ∙ h)
 
     chooses :
         (o : Order) →
         found ≡ true →
-        o ≡ ranking (chainTasks ns sets n all) →
+        o ≡ ranking (chain_tasks ns sets n all) →
         Chooses table (record { found = true; order = o })
     chooses o h l = record {
-      choice-is = ap₂ asFound (sym h ∙ s.found-is ∙ ap is_some whole)
-          (l ∙ ap ranking ((chained h).1 ∙ ap tasksIn whole));
+      choice_is = ap₂ as_found (sym h ∙ s.found_is ∙ ap is_some whole)
+          (l ∙ ap ranking ((chained h).1 ∙ ap tasks_in whole));
       chosen = chosen table lent.table.distinct;
     }
 
     chooses_none : (o : Order) → found ≡ false → o ≡ ranking [] → Chooses table (record { found = false; order = o })
     chooses_none o h l =
-        let missing = sym h ∙ s.found-is ∙ ap is_some whole in
+        let missing = sym h ∙ s.found_is ∙ ap is_some whole in
         record {
-          choice-is = ap₂ asFound missing (l ∙ ap ranking (no-tasks (order_of stable table) missing));
+          choice_is = ap₂ as_found missing (l ∙ ap ranking (no_tasks (order_of stable table) missing));
           chosen = chosen table lent.table.distinct;
         }
 
-power-requires : tie.Need-power-requires
-power-requires c κs = search rules
+power_requires : tie.Need-power-requires
+power_requires c κs = search rules
 
 sub-all : tie.Need-overflow-sub-all
 sub-all c = omega (arith, c.power.ensures, pow_pos c.before.before.before.before.args.n)
 
 -- the set of all bits
-all-is : (c : tie.After-power) → c.power.result - 1 ≡ 2 ^ c.before.before.before.before.args.n - 1
-all-is c = ap (λ (k : ℕ). k - 1) c.power.ensures
+all_is : (c : tie.After-power) → c.power.result - 1 ≡ 2 ^ c.before.before.before.before.args.n - 1
+all_is c = ap (λ (k : ℕ). k - 1) c.power.ensures
 
 settled-requires : tie.Need-settled-requires
 settled-requires c κs =
@@ -100,12 +100,12 @@ settled-requires c κs =
     let l = s.requires.0 in (
       record {
         lent = l;
-        set = in_table a.n a.rows.now l _ (all-is c.before.before);
+        set = in_table a.n a.rows.now l _ (all_is c.before.before);
         recorded = begun stable (rows_of a.n a.rows.now) (small l) a.sets.now
-            (subst (λ (k : ℕ). Fresh k a.sets.now) (sym (rows-length a.n a.rows.now)) s.requires.1);
+            (subst (λ (k : ℕ). Fresh k a.sets.now) (sym (rows_length a.n a.rows.now)) s.requires.1);
       },
       s.requires.2,
-      none-outside a.n a.rows.now l _ (all-is c.before.before),
+      none_outside a.n a.rows.now l _ (all_is c.before.before),
     )
 
 read-off-requires : tie.Need-read-off-requires
@@ -114,10 +114,10 @@ read-off-requires c κs =
     let s = d.before.before.before.before.before.before.before in
     let a = s.args in
     let l = s.requires.0 in
-    let e = all-is d.before.before.before in
+    let e = all_is d.before.before.before in
     let w = d.settled in (
       l.few,
-      in-record a.n a.rows.now l _ e _ w.result w.ensures,
+      in_record a.n a.rows.now l _ e _ w.result w.ensures,
       (chained a.n a.rows.now l _ e _ w.result w.ensures c.before.if1.true).0,
     )
 
@@ -132,7 +132,7 @@ returns c =
     let d = c.before.before.before.before.before.before.before in
     let s = d.before.before.before.before.before.before.before in
     let a = s.args in
-    chooses a.n a.rows.now s.requires.0 _ (all-is d.before.before.before) _ d.settled.result
+    chooses a.n a.rows.now s.requires.0 _ (all_is d.before.before.before) _ d.settled.result
     d.settled.ensures c.read_off.result c.before.before.if1.true c.read_off.ensures
 
 nothing-requires : tie.Need-nothing-requires
@@ -149,14 +149,14 @@ returns-2 c =
     let d = c.before.before.before.before.before.before in
     let s = d.before.before.before.before.before.before.before in
     let a = s.args in
-    chooses_none a.n a.rows.now s.requires.0 _ (all-is d.before.before.before) _ d.settled.result
+    chooses_none a.n a.rows.now s.requires.0 _ (all_is d.before.before.before) _ d.settled.result
     d.settled.ensures c.nothing.result c.before.if1.false c.nothing.ensures
 
-pub order-with-spec : {M : Type 1} → statement M
-order-with-spec =
+pub order_with_spec : {M : Type 1} → statement M
+order_with_spec =
     tie.close
     (tie.spec
-    power-requires
+    power_requires
     sub-all
     settled-requires
     read-off-requires

@@ -18,5 +18,5 @@ returns c =
     let e : 1 * 2 ^ i ≡ 2 ^ i = omega arith in
     shl_exact {a = 1} 1 i 64 (lit< tt) (omega arith) ∙ e
 
-pub power-spec : {M : Type 1} → statement M
-power-spec = tie.close (tie.spec shl-result returns)
+pub power_spec : {M : Type 1} → statement M
+power_spec = tie.close (tie.spec shl-result returns)

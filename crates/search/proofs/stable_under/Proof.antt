@@ -9,17 +9,17 @@ use mathlib.Core.List.{List}
 use Rattle.rows.specs.Rows.{in_range}
 use Rattle.rows.specs.Rows.{Row}
 use Rattle.rows.specs.inside.Numbers.{row_in, rows_of}
-use Rattle.rows.proofs.Limits.{all-times}
-use Rattle.rows.proofs.RowNumbers.{rows-at}
+use Rattle.rows.proofs.Limits.{all_times}
+use Rattle.rows.proofs.RowNumbers.{rows_at_lem}
 use Rattle.responses.specs.declared.Figures.{Figures}
-use Rattle.responses.specs.Figures.{isStable}
-use Rattle.responses.proofs.Blocking.{blocking-max}
-use Rattle.responses.proofs.Responses.{stable-is}
+use Rattle.responses.specs.Figures.{is_stable}
+use Rattle.responses.proofs.Blocking.{blocking_max}
+use Rattle.responses.proofs.Responses.{stable_is}
 use Rattle.search.specs.inside.Sets.{members, others}
 use Rattle.search.specs.inside.Search.{Gathered}
 use Rattle.search.proofs.Sets.{bit_le}
-use Rattle.search.proofs.LentRows.{row-held, ranged}
-use Rattle.search.proofs.Gathering.{some-pass}
+use Rattle.search.proofs.LentRows.{row_held, ranged}
+use Rattle.search.proofs.Gathering.{some_pass}
 use Rattle.search.proofs.stable_under.Statement.{statement}
 use Rattle.search.proofs.stable_under.Tie as tie
 
@@ -47,20 +47,20 @@ figures-under-requires c κs =
     let s = c.before.before.before.before.before.before.before.before in
     let above = members (rest s) (table s) in
     let below = others s.args.m (table s) in (
-      row-held s.requires.0 s.args.i s.requires.1,
+      row_held s.requires.0 s.args.i s.requires.1,
       record {
-        in-range = ranged s.requires.0 s.args.i s.requires.1;
+        is_in_range = ranged s.requires.0 s.args.i s.requires.1;
         few = omega (arith, s.requires.0.few);
         rows = above;
         filled = (found c.before.before.before).filled;
-        times-in-range = all-times above (some-pass in_range 1 (rest s) (table s) s.requires.0.table.in-range);
+        times_are_in_range = all_times above (some_pass in_range 1 (rest s) (table s) s.requires.0.table.is_in_range);
         below = below;
-        blocked-is = s.requires.4;
-        blocked-max = omega (
+        blocked_is = s.requires.4;
+        blocked_max = omega (
           arith,
           s.requires.4,
-          blocking-max below (some-pass in_range 0 s.args.m (table s)
-              s.requires.0.table.in-range),
+          blocking_max below (some_pass in_range 0 s.args.m (table s)
+              s.requires.0.table.is_in_range),
         );
       },
     )
@@ -75,13 +75,13 @@ returns c =
     let row = row_in s.args.rows.now s.args.i in
     let figures = c.figures-under.ensures above below g.filled s.requires.4 in
     ap (λ (f : Figures). f.stable) figures
-    ∙ stable-is row (take count above) below
-    ∙ ap (λ (rs : List Row). isStable row rs below) (take_all count above (omega (arith, g.counted)))
-    ∙ ap (λ (x : Row). isStable x above below)
-    (sym (rows-at s.args.n s.args.i s.args.rows.now s.requires.1))
+    ∙ stable_is row (take count above) below
+    ∙ ap (λ (rs : List Row). is_stable row rs below) (take_all count above (omega (arith, g.counted)))
+    ∙ ap (λ (x : Row). is_stable x above below)
+    (sym (rows_at_lem s.args.n s.args.i s.args.rows.now s.requires.1))
 
-pub stable-under-spec : {M : Type 1} → statement M
-stable-under-spec =
+pub stable_under_spec : {M : Type 1} → statement M
+stable_under_spec =
     tie.close
     (tie.spec (λ c κs. search rules) sub-gather (λ c κs. search rules) figures-under-requires (λ c. search rules)
     returns)

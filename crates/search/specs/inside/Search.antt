@@ -1,31 +1,31 @@
 -- A promise between functions: the search finds the order chosen by stability, of n rows lent as numbers.
 use Rattle.std.specs.Prelude.{◌≡◌, Bool, true, false, List, [], ◌∷◌, ◌++◌, ℕ, zero, suc, ◌-◌, ◌*◌, ◌/◌, ◌%◌, ◌^◌, ◌≤◌, ◌<◌, length, get_or}
 use Rattle.std.proofs.Math.Option.{Option, none, some}
-use Rattle.rows.specs.Rows.{maxTasks, in_range, all_rows, tasksOf, distinctRows}
+use Rattle.rows.specs.Rows.{max_tasks, in_range, all_rows, tasks_of, distinct_rows}
 use Rattle.rows.specs.inside.Arrays.{ranking}
-use Rattle.rows.specs.inside.Numbers.{fieldCount, rows_of, row_in}
+use Rattle.rows.specs.inside.Numbers.{field_count, rows_of, row_in}
 use Rattle.rows.specs.Rows.{Row}
 use Rattle.analysis.specs.inside.Columns.{Filled}
 use Rattle.orders.specs.Orders.{Chosen}
 use Rattle.search.specs.inside.Sets.{members, is_some, fits, goes, LowestIs, Says, Known, Recorded}
-use Rattle.orders.specs.Stability.{stable, chosenOrder}
+use Rattle.orders.specs.Stability.{stable, chosen_order}
 use Rattle.search.specs.declared.Choice.{Choice}
 
 -- the tasks of an order, where there is one
-abbrev pub tasksIn : Option (List Row) → List ℕ
-tasksIn none = []
-tasksIn (some os) = tasksOf os
+abbrev pub tasks_in : Option (List Row) → List ℕ
+tasks_in none = []
+tasks_in (some os) = tasks_of os
 
 -- rows that a table can have
 pub record TableRows (table : List Row) : Type 0 where
-  pub few : length table ≤ maxTasks
-  pub in-range : all_rows in_range table ≡ true
-  pub distinct : distinctRows table ≡ true
+  pub few : length table ≤ max_tasks
+  pub is_in_range : all_rows in_range table ≡ true
+  pub distinct : distinct_rows table ≡ true
 
 -- n rows lent as numbers are such a table
 pub record Lent (n : ℕ) (ns : List ℕ) : Type 0 where
-  pub few : n ≤ maxTasks
-  pub held : fieldCount * n ≤ length ns
+  pub few : n ≤ max_tasks
+  pub held : field_count * n ≤ length ns
   pub table : TableRows (rows_of n ns)
 
 -- the search is at set m, and what the record knows is so
@@ -48,9 +48,9 @@ pub record LowestFound (table : List Row) (m : ℕ) (sets : List ℕ) (v : ℕ) 
 
 -- whether row i may go lowest in set m; where it may, whether it does is whether the rest has an order
 pub record MayGo (table : List Row) (m i : ℕ) (r : Bool) : Type 0 where
-  pub in-set : r ≡ true → m / 2 ^ i % 2 ≡ 1
+  pub in_set : r ≡ true → m / 2 ^ i % 2 ≡ 1
   pub passes : r ≡ true → fits stable table m i ≡ true
-  pub goes-not : r ≡ false → goes stable table m i ≡ false
+  pub goes_not : r ≡ false → goes stable table m i ≡ false
 
 -- taking out of set m the row that its byte is, a row in range that the numbers hold, out of the rest the row that the
 -- rest's byte is, and so on, leaves no row after k steps
@@ -58,24 +58,24 @@ abbrev pub Chained : List ℕ → List ℕ → ℕ → ℕ → Type 0
 Chained ns sets zero m = m ≡ 0
 Chained ns sets (suc k) m =
     let i = get_or sets m 0 in
-    (i < maxTasks)
-    × (fieldCount * suc i ≤ length ns)
+    (i < max_tasks)
+    × (field_count * suc i ≤ length ns)
     × (in_range (row_in ns i) ≡ true)
     × (m / 2 ^ i % 2 ≡ 1)
     × Chained ns sets k (m - 2 ^ i)
 
 -- the tasks of the rows taken out, the first lowest
-abbrev pub chainTasks : List ℕ → List ℕ → ℕ → ℕ → List ℕ
-chainTasks ns sets zero m = []
-chainTasks ns sets (suc k) m =
+abbrev pub chain_tasks : List ℕ → List ℕ → ℕ → ℕ → List ℕ
+chain_tasks ns sets zero m = []
+chain_tasks ns sets (suc k) m =
     let i = get_or sets m 0 in
-    chainTasks ns sets k (m - 2 ^ i) ++ ((row_in ns i).task ∷ [])
+    chain_tasks ns sets k (m - 2 ^ i) ++ ((row_in ns i).task ∷ [])
 
 -- an order, or none, as the code has it
 abbrev pub choice_of : Option (List Row) → Choice
-choice_of o = record { found = is_some o; order = ranking (tasksIn o) }
+choice_of o = record { found = is_some o; order = ranking (tasks_in o) }
 
 -- the choice is the order chosen, which is as `Chosen` says
 pub record Chooses (table : List Row) (r : Choice) : Type 0 where
-  pub choice-is : r ≡ choice_of (chosenOrder table)
+  pub choice_is : r ≡ choice_of (chosen_order table)
   pub chosen : Chosen stable table

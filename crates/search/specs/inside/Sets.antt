@@ -2,28 +2,28 @@
 -- each.
 use Rattle.std.specs.Prelude.{◌≡◌, Bool, true, false, ◌&&◌, List, [], ◌∷◌, ◌++◌, ◌⊎◌, ℕ, ◌-◌, ◌/◌, ◌%◌, ◌^◌, ◌≤◌, ◌<◌, eqb, length, get_or}
 use Rattle.std.proofs.Math.Option.{Option, none, some}
-use Rattle.rows.specs.Rows.{maxBuffer, row_at}
+use Rattle.rows.specs.Rows.{max_buffer, row_at}
 use Rattle.rows.specs.Rows.{Row}
-use Rattle.orders.specs.Orders.{ByLowest, overSet, theOrder}
+use Rattle.orders.specs.Orders.{ByLowest, over_set, the_order}
 
 abbrev pub keep : Bool → Row → List Row → List Row
 keep true r rs = r ∷ rs
 keep false r rs = rs
 
 -- the rows whose bit in set m is b, in the table's sequence
-abbrev pub withBit : ℕ → ℕ → List Row → List Row
-withBit b m [] = []
-withBit b m (r ∷ rs) = keep (eqb (m % 2) b) r (withBit b (m / 2) rs)
+abbrev pub with_bit : ℕ → ℕ → List Row → List Row
+with_bit b m [] = []
+with_bit b m (r ∷ rs) = keep (eqb (m % 2) b) r (with_bit b (m / 2) rs)
 
 -- the rows of set m, and the table's other rows
 abbrev pub members : ℕ → List Row → List Row
-members m table = withBit 1 m table
+members m table = with_bit 1 m table
 
 abbrev pub others : ℕ → List Row → List Row
-others m table = withBit 0 m table
+others m table = with_bit 0 m table
 
-abbrev pub hasBit : ℕ → ℕ → Bool
-hasBit m i = eqb (m / 2 ^ i % 2) 1
+abbrev pub has_bit : ℕ → ℕ → Bool
+has_bit m i = eqb (m / 2 ^ i % 2) 1
 
 abbrev pub is_some : Option (List Row) → Bool
 is_some none = false
@@ -39,17 +39,17 @@ no_order = 255
 -- a record with room for the sets of n rows, and no longer than a buffer may be, that has none of them yet
 pub record Fresh (n : ℕ) (sets : List ℕ) : Type 0 where
   pub room : 2 ^ n ≤ length sets
-  pub short : length sets ≤ maxBuffer
-  pub none-known : (m : ℕ) → m < 2 ^ n → get_or sets m 0 ≡ unknown
+  pub short : length sets ≤ max_buffer
+  pub none_known : (m : ℕ) → m < 2 ^ n → get_or sets m 0 ≡ unknown
 
 module _ {A : Type 0} (known : ByLowest A) (test : Row → List Row → List Row → Bool) (table : List Row) where
   -- what is known of set m over the table's other rows
   abbrev pub at : ℕ → A
-  at m = overSet known test (members m table) (others m table)
+  at m = over_set known test (members m table) (others m table)
 
 module _ (test : Row → List Row → List Row → Bool) (table : List Row) where
   abbrev pub order_at : ℕ → Option (List Row)
-  order_at = at theOrder test table
+  order_at = at the_order test table
 
   -- row i passes as the lowest of set m
   abbrev pub fits : ℕ → ℕ → Bool
@@ -57,14 +57,14 @@ module _ (test : Row → List Row → List Row → Bool) (table : List Row) wher
 
   -- row i goes lowest in set m: it is in the set, passes, and the rest has an order
   abbrev pub goes : ℕ → ℕ → Bool
-  goes m i = hasBit m i && (fits m i && is_some (order_at (m - 2 ^ i)))
+  goes m i = has_bit m i && (fits m i && is_some (order_at (m - 2 ^ i)))
 
   -- row i is the lowest of the order of set m
   pub record LowestIs (m i : ℕ) : Type 0 where
     pub in_table : i < length table
-    pub in-set : m / 2 ^ i % 2 ≡ 1
+    pub in_set : m / 2 ^ i % 2 ≡ 1
     pub above : List Row
-    pub above-is : order_at (m - 2 ^ i) ≡ some above
+    pub above_is : order_at (m - 2 ^ i) ≡ some above
     pub order_is : order_at m ≡ some (above ++ (row_at table i ∷ []))
 
   -- what byte v says of set m
@@ -85,4 +85,4 @@ module _ (test : Row → List Row → List Row → Bool) (table : List Row) wher
   pub record Settled (m : ℕ) (sets : List ℕ) (found : Bool) : Type 0 where
     pub recorded : Recorded sets
     pub there : Known sets m
-    pub found-is : found ≡ is_some (order_at m)
+    pub found_is : found ≡ is_some (order_at m)

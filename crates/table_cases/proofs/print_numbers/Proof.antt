@@ -12,8 +12,8 @@ invariant-loop numbers start end i₀ i = end ≤ length numbers
 abbrev decreases-loop : tie.decreases-loop
 decreases-loop numbers start end i₀ i = end - i
 
-pub print-numbers-spec : {M : Type 1} → statement M
-print-numbers-spec =
+pub print_numbers_spec : {M : Type 1} → statement M
+print_numbers_spec =
     tie.close
     (tie.spec
     invariant-loop

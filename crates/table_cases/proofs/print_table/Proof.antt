@@ -3,18 +3,18 @@ use Prim.Native.Nat.{◌+◌, ◌-◌, ◌≤◌}
 use native.Mathlib.Omega.{arith}
 use lib.ListN.{length}
 use borrow.Author.Rules.{rules}
-use Rattle.readers.specs.inside.Numbers.{rowStart}
+use Rattle.readers.specs.inside.Numbers.{row_start}
 use Rattle.table_cases.proofs.print_table.Statement.{statement}
 use Rattle.table_cases.proofs.print_table.Tie as tie
 
 abbrev invariant-loop : tie.invariant-loop
-invariant-loop numbers rows ranks i₀ i = rowStart rows + ranks ≤ length numbers
+invariant-loop numbers rows ranks i₀ i = row_start rows + ranks ≤ length numbers
 
 abbrev decreases-loop : tie.decreases-loop
 decreases-loop numbers rows ranks i₀ i = rows - i
 
-pub print-table-spec : {M : Type 1} → statement M
-print-table-spec =
+pub print_table_spec : {M : Type 1} → statement M
+print_table_spec =
     tie.close
     (tie.spec
     invariant-loop

@@ -42,8 +42,8 @@ loop-again c = omega arith
 returns-3 : tie.Need-returns-3 invariant-loop decreases-loop
 returns-3 c = tt
 
-pub read-all-spec : {M : Type 1} → statement M
-read-all-spec =
+pub read_all_spec : {M : Type 1} → statement M
+read_all_spec =
     tie.close
     (tie.spec
     invariant-loop

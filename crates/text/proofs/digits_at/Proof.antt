@@ -1,7 +1,7 @@
 -- Invariant: the bytes passed are digits, and the value is their number where it has room.
 use Rattle.std.proofs.Common.{◌-◌, length, get_or, refl, add-one, arith, rules}
 use Rattle.text.specs.inside.Fronts.{Passed}
-use Rattle.text.proofs.Fronts.{no_digit, passed-next}
+use Rattle.text.proofs.Fronts.{no_digit, passed_next}
 use Rattle.text.proofs.digits_at.Statement.{statement}
 use Rattle.text.proofs.digits_at.Tie as tie
 
@@ -47,7 +47,7 @@ loop-again c =
     let x = c.before.before.before.before.before.loop in
     let d = c.before.before.wrapping-sub-u64 in
     rw (add-one x.i)
-    (passed-next x.invariant d.result c.with-digit.result (omega arith) (omega (arith, d.ensures)) (omega arith)
+    (passed_next x.invariant d.result c.with-digit.result (omega arith) (omega (arith, d.ensures)) (omega arith)
     c.with-digit.ensures)
 
 returns-2 : tie.Need-returns-2 invariant-loop decreases-loop
@@ -55,8 +55,8 @@ returns-2 c =
     let x = c.before.loop in
     record { passed = x.invariant; stopped = λ h. absurd (omega (arith, h, c.loop-test.false)) }
 
-pub digits-at-spec : {M : Type 1} → statement M
-digits-at-spec =
+pub digits_at_spec : {M : Type 1} → statement M
+digits_at_spec =
     tie.close
     (tie.spec
     invariant-loop

@@ -11,5 +11,5 @@ returns-2 : tie.Need-returns-2
 returns-2 c =
     let a = c.before.args in simp (le-ltb a.offset (length a.text.now) c.if1.false)
 
-pub end-at-spec : {M : Type 1} → statement M
-end-at-spec = tie.close (tie.spec returns returns-2)
+pub end_at_spec : {M : Type 1} → statement M
+end_at_spec = tie.close (tie.spec returns returns-2)

@@ -16,5 +16,5 @@ returns-2 c =
     let a = c.before.args in
     sym (rw (le-ltb a.at (length a.s.now) (omega (arith, c.if1.false))))
 
-pub feed-at-spec : {M : Type 1} → statement M
-feed-at-spec = tie.close (tie.spec shared-slice-read-result returns returns-2)
+pub feed_at_spec : {M : Type 1} → statement M
+feed_at_spec = tie.close (tie.spec shared-slice-read-result returns returns-2)

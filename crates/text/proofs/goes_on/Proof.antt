@@ -10,14 +10,14 @@ line-length-requires c κs = search rules
 returns : tie.Need-returns
 returns c =
     let s = c.before.before.before.args.s.now in
-    let end = c.before.line-length.ensures in
+    let end = c.before.line_length.ensures in
     sym (rw (lt-ltb (length (line_of s)) (length s) (omega (arith, end, c.if1.true))))
 
 returns-2 : tie.Need-returns-2
 returns-2 c =
     let s = c.before.before.before.args.s.now in
-    let end = c.before.line-length.ensures in
+    let end = c.before.line_length.ensures in
     sym (rw (le-ltb (length (line_of s)) (length s) (omega (arith, end, c.if1.false))))
 
-pub goes-on-spec : {M : Type 1} → statement M
-goes-on-spec = tie.close (tie.spec line-length-requires returns returns-2)
+pub goes_on_spec : {M : Type 1} → statement M
+goes_on_spec = tie.close (tie.spec line-length-requires returns returns-2)

@@ -2,16 +2,16 @@
 use Rattle.std.proofs.Common.{◌≡◌, ℕ, suc, ◌+◌, ◌-◌, ◌<◌, ◌≤◌, Bool, true, false, not, ltb, List, [], length, get_or, take, drop, sym, refl, ap, ◌∙◌, inl, inr, arith, length-drop, drop_of_length-le, take_all, rules, ltb-true, le-ltb, lt-ltb, eq-eqb, eqb-true}
 use borrow.Author.Tests.{not-true, not-false}
 use Rattle.basics.specs.Basics.{pick}
-use Rattle.basics.proofs.Tests.{true-not-false, and_left, and_right, and_both, le-or-lt}
-use Rattle.text.specs.Text.{lineFeed}
+use Rattle.basics.proofs.Tests.{true_not_false, and_left, and_right, and_both, le-or-lt}
+use Rattle.text.specs.Text.{line_feed}
 use Rattle.text.specs.declared.Digits.{Digits}
 use Rattle.text.specs.declared.Digits.TheVariants.{Value, Malformed}
 use Rattle.text.specs.declared.Line.{Line}
 use Rattle.text.specs.declared.Line.TheVariants as L
 use Rattle.text.specs.Lines.{line_of, begins, number_of, ranged, line_at}
 use Rattle.text.specs.inside.Fronts.{unread}
-use Rattle.text.proofs.Fronts.{ends_there, no-feed-there}
-use Rattle.text.proofs.Lines.{key_fits, other-missing, short-missing, unended-missing, ended-ranged}
+use Rattle.text.proofs.Fronts.{ends_there, no_feed_there}
+use Rattle.text.proofs.Lines.{key_fits, other_missing, short_missing, unended_missing, ended_ranged}
 use Rattle.text.proofs.line_at.Statement.{statement}
 use Rattle.text.proofs.line_at.Tie as tie
 
@@ -59,8 +59,8 @@ module _ (f : tie.After-feed-at) where
       let key = (start sought).args.key.now in
       take (length (rest sought) - length key) (drop (length key) (rest sought))
 
-  tail-is : tail ≡ drop (length (start sought).args.key.now) (rest sought)
-  tail-is =
+  tail_is : tail ≡ drop (length (start sought).args.key.now) (rest sought)
+  tail_is =
       let key = (start sought).args.key.now in
       take_all (length (rest sought) - length key) (drop (length key) (rest sought))
       (omega (arith, length-drop (length key) (rest sought)))
@@ -79,8 +79,8 @@ module _ (f : tie.After-feed-at) where
       → answer (start sought) ≡ ranged d (start sought).args.low (start sought).args.high (start sought).args.line next
   says ended d e =
       let a = (start sought).args in
-      ended-ranged a.key.now (start sought).pre a.low a.high a.text.now a.offset a.line
-      (rest sought) (rest-is sought) tail written tail-is
+      ended_ranged a.key.now (start sought).pre a.low a.high a.text.now a.offset a.line
+      (rest sought) (rest-is sought) tail written tail_is
       refl (begun sought f.before.before.before.if3.left) ended d e
 
   -- with a feed there the line is its digits
@@ -88,24 +88,24 @@ module _ (f : tie.After-feed-at) where
   there found =
       let feed = sym f.feed-at.ensures ∙ not-false _ found in
       let inside = ltb-true size (length tail) (and_left (ltb size (length tail)) _ feed) in
-      let ends = eqb-true (get_or tail size 0) lineFeed (and_right (ltb size (length tail)) _ feed) in
+      let ends = eqb-true (get_or tail size 0) line_feed (and_right (ltb size (length tail)) _ feed) in
       (inside, ends_there f.before.digits-at.ensures inside ends)
 
   -- with none it has no number, or no end
-  unread-so : not f.feed-at.result ≡ true → answer (start sought) ≡ unread tail (start sought).args.line
-  unread-so none =
+  unread_so : not f.feed-at.result ≡ true → answer (start sought) ≡ unread tail (start sought).args.line
+  unread_so none =
       let a = (start sought).args in
-      let no-feed = sym f.feed-at.ensures ∙ not-true _ none in
+      let no_feed = sym f.feed-at.ensures ∙ not-true _ none in
       elim (le-or-lt (length tail) (length written)) [
         | inl long ↦
             rw (le-ltb (length written) (length tail) long)
-            (unended-missing a.key.now (start sought).pre a.low a.high a.text.now a.offset a.line
-            (rest sought) (rest-is sought) tail written tail-is refl long)
+            (unended_missing a.key.now (start sought).pre a.low a.high a.text.now a.offset a.line
+            (rest sought) (rest-is sought) tail written tail_is refl long)
         | inr ended ↦
             rw (lt-ltb (length written) (length tail) ended)
             (says ended Malformed
-            (no-feed-there f.before.digits-at.ensures
-            (λ h e. true-not-false _ (and_both _ _ (lt-ltb size (length tail) h) (eq-eqb _ lineFeed e)) no-feed)
+            (no_feed_there f.before.digits-at.ensures
+            (λ h e. true_not_false _ (and_both _ _ (lt-ltb size (length tail) h) (eq-eqb _ line_feed e)) no_feed)
             ended))
       ]
 
@@ -135,7 +135,7 @@ module _ (n : tie.After-number-of) where
         whole.1,
         ap length (rest-is k),
         length-drop a.offset a.text.now,
-        ap length (tail-is line),
+        ap length (tail_is line),
         length-drop (length a.key.now) (rest k),
       )
 
@@ -159,7 +159,7 @@ returns : tie.Need-returns
 returns c =
     let k = c.before.before.before in
     let a = k.args in
-    sym (unended-missing a.key.now k.requires a.low a.high a.text.now a.offset a.line
+    sym (unended_missing a.key.now k.requires a.low a.high a.text.now a.offset a.line
     [] (sym (drop_of_length-le a.text.now {i = a.offset} (omega arith))) [] []
     (sym (drop_of_length-le [] {i = length a.key.now} (omega arith))) refl (omega arith))
 
@@ -168,7 +168,7 @@ returns-2 : tie.Need-returns-2
 returns-2 c =
     let s = c.before.before.before.before.before in
     let a = s.args in
-    sym (short-missing a.key.now s.requires a.low a.high a.text.now a.offset a.line
+    sym (short_missing a.key.now s.requires a.low a.high a.text.now a.offset a.line
     (left s) (left_is s) c.if2.true)
 
 starts-with-requires : tie.Need-starts-with-requires
@@ -178,7 +178,7 @@ returns-3 : tie.Need-returns-3
 returns-3 c =
     let k = c.before in
     let a = (start k).args in
-    sym (other-missing a.key.now (start k).requires a.low a.high a.text.now a.offset a.line
+    sym (other_missing a.key.now (start k).requires a.low a.high a.text.now a.offset a.line
     (rest k) (rest-is k) (sym k.starts_with.ensures ∙ not-true _ c.if3.true))
 
 sub-tail : tie.Need-overflow-sub-tail
@@ -197,7 +197,7 @@ goes-on-requires : tie.Need-goes-on-requires
 goes-on-requires c κs = search rules
 
 returns-4 : tie.Need-returns-4
-returns-4 c = c.goes_on.ensures ∙ sym (unread-so c.before.before c.before.if4.true)
+returns-4 c = c.goes_on.ensures ∙ sym (unread_so c.before.before c.before.if4.true)
 
 number-of-requires : tie.Need-number-of-requires
 number-of-requires c κs = (c.before.before.digits-at.ensures, (there c.before c.if4.false).1)
@@ -236,8 +236,8 @@ returns-7 c =
     let w = c.before.before in
     ap (L.Number (value w)) (omega (arith, (whole (number w)).1)) ∙ decided w _ (not-false _ c.before.if5.false)
 
-pub line-at-spec : {M : Type 1} → statement M
-line-at-spec =
+pub line_at_spec : {M : Type 1} → statement M
+line_at_spec =
     tie.close
     (tie.spec
     returns

@@ -21,8 +21,8 @@ returns c room =
     let last = exact _ _ _ c.wrapping-add-u645.ensures (omega (arith, room, v₂, v₄, v₅, v₁₀)) in
     omega (arith, v₂, v₄, v₅, v₁₀, last)
 
-pub with-digit-spec : {M : Type 1} → statement M
-with-digit-spec =
+pub with_digit_spec : {M : Type 1} → statement M
+with_digit_spec =
     tie.close
     (tie.spec
     (λ c κs. search rules)

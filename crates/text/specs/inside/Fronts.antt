@@ -1,8 +1,8 @@
 -- Promised between functions: the digits at the front of a text, and what a line answers that has no feed behind them.
 use Rattle.std.specs.Prelude.{◌≡◌, ℕ, ◌^◌, ◌<◌, ◌≤◌, false, List, length, take, nat_lt, slice_index}
 use Rattle.basics.specs.Basics.{pick, within}
-use Rattle.text.specs.Text.{digitZero, digitNine}
-use Rattle.text.specs.Lines.{maxDigits, line_of, digitsFrom, missing, malformed}
+use Rattle.text.specs.Text.{digit_zero, digit_nine}
+use Rattle.text.specs.Lines.{max_digits, line_of, digits_from, missing, malformed}
 use Rattle.text.specs.declared.Digits.TheVariants.{Value}
 use Rattle.text.specs.declared.Front.{Front}
 use Rattle.text.specs.declared.Line.{Line}
@@ -13,14 +13,14 @@ use Rattle.text.specs.declared.Line.TheVariants as L
 pub record Passed (s : List ℕ) (size value : ℕ) : Type 0 where
   pub written : ℕ
   pub there : size ≤ length s
-  pub digits : digitsFrom 0 (take size s) ≡ Value written
+  pub digits : digits_from 0 (take size s) ≡ Value written
   pub small : written < 10 ^ size
-  pub held : size ≤ maxDigits → value ≡ written
+  pub held : size ≤ max_digits → value ≡ written
 
 -- the digits go on as far as they can
 pub record Fronts (s : List ℕ) (r : Front) : Type 0 where
   pub passed : Passed s r.size r.value
-  pub stopped : r.size < length s → within digitZero digitNine (slice_index s r.size) ≡ false
+  pub stopped : r.size < length s → within digit_zero digit_nine (slice_index s r.size) ≡ false
 
 -- a line that is no number, or that has no end
 abbrev pub unread : List ℕ → ℕ → Line

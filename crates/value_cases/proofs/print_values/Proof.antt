@@ -5,8 +5,8 @@ use native.Mathlib.Numerals.{add-one}
 use native.Mathlib.Omega.{arith}
 use borrow.Author.Rules.{rules}
 use Rattle.fixed_points.specs.inside.Loads.{loads}
-use Rattle.fixed_points.specs.inside.Values.{nextValue, value_at}
-use Rattle.fixed_points.proofs.Values.{periods-some, searching}
+use Rattle.fixed_points.specs.inside.Values.{next_value, value_at}
+use Rattle.fixed_points.proofs.Values.{periods_some, searching}
 use Rattle.value_cases.proofs.print_values.Statement.{statement}
 use Rattle.value_cases.proofs.print_values.Tie as tie
 
@@ -29,7 +29,7 @@ next-value-requires c κs =
     let a = s.args in
     let l = c.before.loop in
     let ls = loads a.n a.periods.now a.costs.now in
-    let some = periods-some a.n a.periods.now a.costs.now s.requires.3 in
+    let some = periods_some a.n a.periods.now a.costs.now s.requires.3 in
     let stands = searching a.base a.limit ls s.requires.0 some l.counter in
     (omega (arith, l.invariant.1, stands.some), s.requires.1, s.requires.2, s.requires.3)
 
@@ -39,10 +39,10 @@ loop-again c =
     let a = c.before.before.before.before.before.before.before.before.before.before.args in
     let ls = loads a.n a.periods.now a.costs.now in
     let next = c.before.before.before.next-value.ensures in
-    (omega arith, rw (add-one l.counter) (next ∙ ap (nextValue a.base a.limit ls) l.invariant.1))
+    (omega arith, rw (add-one l.counter) (next ∙ ap (next_value a.base a.limit ls) l.invariant.1))
 
-pub print-values-spec : {M : Type 1} → statement M
-print-values-spec =
+pub print_values_spec : {M : Type 1} → statement M
+print_values_spec =
     tie.close
     (tie.spec
     invariant-loop

@@ -10,15 +10,15 @@ print-between-requires c κs =
     let third = c.before.before.before.before.before in
     let second = third.before.before in
     let first = second.before.before in (
-      sym first.before.in-range.ensures ∙ not-false first.before.in-range.result first.if1.false,
+      sym first.before.is_in_range.ensures ∙ not-false first.before.is_in_range.result first.if1.false,
       sym second.before.in-range2.ensures ∙ not-false second.before.in-range2.result second.if2.false,
       sym third.before.in-range3.ensures ∙ not-false third.before.in-range3.result third.if3.false,
       omega arith,
       omega arith,
     )
 
-pub show-spec : {M : Type 1} → statement M
-show-spec =
+pub show_spec : {M : Type 1} → statement M
+show_spec =
     tie.close
     (tie.spec
     (λ c κs. search rules)

@@ -1,10 +1,10 @@
 -- Promises between functions: the owners of the first indices, found release by release, and the slots of a rank among
 -- them. A slot is a position in the list of lengths, or its end.
 use Rattle.std.specs.Prelude.{◌≡◌, List, ℕ, ◌+◌, ◌≤◌, ◌<◌, length, get_or}
-use Rattle.rows.specs.Rows.{maxTicks, row_at}
+use Rattle.rows.specs.Rows.{max_ticks, row_at}
 use Rattle.rows.specs.Rows.{Row}
-use Rattle.watch_demands.specs.Jobs.{rankWith}
-use Rattle.watch_demands.specs.WatchLines.{maxRelease, maxLengths}
+use Rattle.watch_demands.specs.Jobs.{rank_with}
+use Rattle.watch_demands.specs.WatchLines.{max_release, max_lengths}
 use Rattle.watch_demands.specs.inside.Least.{LeastIs}
 
 -- the first of the earliest of n releases
@@ -14,22 +14,22 @@ EarliestIs n nexts r = LeastIs n (λ j. get_or nexts j 0) r
 -- what is asked of the columns, so that the last release that is looked at is still a small number
 pub record Mergeable (n : ℕ) (owners offsets periods : List ℕ) : Type 0 where
   pub some : 1 ≤ n
-  pub few : length owners ≤ maxLengths
-  pub offsets-long : n ≤ length offsets
-  pub periods-long : n ≤ length periods
-  pub offset-max : (j : ℕ) → j < n → get_or offsets j 0 ≤ maxRelease
-  pub period-max : (j : ℕ) → j < n → get_or periods j 0 ≤ maxTicks
+  pub few : length owners ≤ max_lengths
+  pub offsets_long : n ≤ length offsets
+  pub periods_long : n ≤ length periods
+  pub offset_max : (j : ℕ) → j < n → get_or offsets j 0 ≤ max_release
+  pub period_max : (j : ℕ) → j < n → get_or periods j 0 ≤ max_ticks
 
 -- the first releases and the periods of an order's n ranks
 pub record Released (order : List Row) (offset : ℕ → ℕ) (n : ℕ) (offsets periods : List ℕ) : Type 0 where
   pub ranks : length order ≡ n
-  pub offset-is : (j : ℕ) → j < n → get_or offsets j 0 ≡ offset j
-  pub period-is : (j : ℕ) → j < n → get_or periods j 0 ≡ (row_at order j).period
-  pub period-some : (j : ℕ) → j < n → 1 ≤ (row_at order j).period
+  pub offset_is : (j : ℕ) → j < n → get_or offsets j 0 ≡ offset j
+  pub period_is : (j : ℕ) → j < n → get_or periods j 0 ≡ (row_at order j).period
+  pub period_some : (j : ℕ) → j < n → 1 ≤ (row_at order j).period
 
 -- the owner of each index is the rank of the job that has it
 abbrev pub Owned : List Row → (ℕ → ℕ) → List ℕ → Type 0
-Owned order offset owners = (m : ℕ) → m < length owners → get_or owners m 0 ≡ rankWith order offset m
+Owned order offset owners = (m : ℕ) → m < length owners → get_or owners m 0 ≡ rank_with order offset m
 
 -- whatever order the columns are of
 pub record Owns (n : ℕ) (owners offsets periods : List ℕ) : Type 0 where

@@ -2,11 +2,11 @@
 -- job, whether or not that has come, the ticks that this job still needs, and its slot in the list of lengths.
 use Rattle.std.specs.Prelude.{◌≡◌, true, List, [], ◌∷◌, ℕ, zero, suc, ◌+◌, ◌≤◌, ◌<◌, length, get_or}
 use Rattle.basics.specs.Basics.{pick}
-use Rattle.rows.specs.Rows.{maxTicks, row_at, cost}
+use Rattle.rows.specs.Rows.{max_ticks, row_at, cost}
 use Rattle.rows.specs.Rows.{Row}
-use Rattle.boards.specs.Boards.{Job, Done, withReleases}
-use Rattle.boards.specs.Document01.{afterWork, finishes}
-use Rattle.watch_demands.specs.Jobs.{releaseOf, releasedBefore, index_of, length_of}
+use Rattle.boards.specs.Boards.{Job, Done, with_releases}
+use Rattle.boards.specs.Document01.{after_work, finishes}
+use Rattle.watch_demands.specs.Jobs.{release_of, released_before, index_of, length_of}
 use Rattle.watch_runs.specs.declared.steps.Ticked.{Ticked}
 use Rattle.watch_runs.specs.inside.Owners.{Owned, Sought}
 
@@ -15,9 +15,9 @@ abbrev pub waiting : (ℕ → ℕ) → (ℕ → ℕ) → ℕ → ℕ → List Jo
 waiting at need k zero = []
 waiting at need k (suc c) = record { release = at k; needs = need k } ∷ waiting at need (suc k) c
 
-abbrev pub queueOf : (ℕ → ℕ) → (ℕ → ℕ) → ℕ → ℕ → ℕ → List Job
-queueOf at need k zero left = []
-queueOf at need k (suc c) left = record { release = at k; needs = left } ∷ waiting at need (suc k) c
+abbrev pub queue_of : (ℕ → ℕ) → (ℕ → ℕ) → ℕ → ℕ → ℕ → List Job
+queue_of at need k zero left = []
+queue_of at need k (suc c) left = record { release = at k; needs = left } ∷ waiting at need (suc k) c
 
 -- the slot of an index in a list of n: the index itself, or n where it is past the list
 pub record SlotIs (n index slot : ℕ) : Type 0 where
@@ -30,10 +30,10 @@ module _ (order : List Row) (offset : ℕ → ℕ) (lengths : List ℕ) where
   pub record RankShown (t j : ℕ) (queue : List Job) (start left slot : ℕ) : Type 0 where
     pub oldest : ℕ
     pub pending : ℕ
-    pub so_far : oldest + pending ≡ releasedBefore order offset j t
-    pub queue-is : queue ≡ queueOf (releaseOf order offset j) (length_of order offset lengths j) oldest pending left
+    pub so_far : oldest + pending ≡ released_before order offset j t
+    pub queue_is : queue ≡ queue_of (release_of order offset j) (length_of order offset lengths j) oldest pending left
     pub unbegun : pending ≡ 0 → left ≡ length_of order offset lengths j oldest
-    pub start_is : start ≡ releaseOf order offset j oldest
+    pub start_is : start ≡ release_of order offset j oldest
     pub slot_is : SlotIs (length lengths) (index_of order offset j oldest) slot
 
   pub record Shown (t : ℕ) (queues : List (List Job)) (starts lefts slots : List ℕ) : Type 0 where
@@ -45,9 +45,9 @@ module _ (order : List Row) (offset : ℕ → ℕ) (lengths : List ℕ) where
 -- the columns of an order's n ranks, with the owners of the lengths
 pub record Suits (order : List Row) (offset : ℕ → ℕ) (n : ℕ) (periods costs owners lengths : List ℕ) : Type 0 where
   pub ranks : length order ≡ n
-  pub period-is : (j : ℕ) → j < n → get_or periods j 0 ≡ (row_at order j).period
-  pub period-some : (j : ℕ) → j < n → 1 ≤ (row_at order j).period
-  pub cost-is : (j : ℕ) → j < n → get_or costs j 0 ≡ cost (row_at order j)
+  pub period_is : (j : ℕ) → j < n → get_or periods j 0 ≡ (row_at order j).period
+  pub period_some : (j : ℕ) → j < n → 1 ≤ (row_at order j).period
+  pub cost_is : (j : ℕ) → j < n → get_or costs j 0 ≡ cost (row_at order j)
   pub owned : Owned order offset owners
   pub as_many : length owners ≡ length lengths
 
@@ -66,18 +66,18 @@ pub record TurnIs (t n : ℕ) (starts : List ℕ) (r : ℕ) : Type 0 where
 
 -- a step's columns are long enough, and its numbers small enough
 pub record Steady (t n : ℕ) (starts lefts slots periods costs owners : List ℕ) : Type 0 where
-  pub soon : t ≤ maxTicks
-  pub starts-long : n ≤ length starts
-  pub lefts-long : n ≤ length lefts
-  pub slots-long : n ≤ length slots
-  pub periods-long : n ≤ length periods
-  pub costs-long : n ≤ length costs
-  pub period-max : (j : ℕ) → j < n → get_or periods j 0 ≤ maxTicks
-  pub slot-max : (j : ℕ) → j < n → get_or slots j 0 ≤ length owners
+  pub soon : t ≤ max_ticks
+  pub starts_long : n ≤ length starts
+  pub lefts_long : n ≤ length lefts
+  pub slots_long : n ≤ length slots
+  pub periods_long : n ≤ length periods
+  pub costs_long : n ≤ length costs
+  pub period_max : (j : ℕ) → j < n → get_or periods j 0 ≤ max_ticks
+  pub slot_max : (j : ℕ) → j < n → get_or slots j 0 ≤ length owners
 
 -- the job that a step finishes in tick t, if any
-abbrev pub doneIn : ℕ → Ticked → List Done
-doneIn t r = pick r.finished (record { rank = r.rank; release = r.release; finish = suc t } ∷ []) []
+abbrev pub done_in : ℕ → Ticked → List Done
+done_in t r = pick r.finished (record { rank = r.rank; release = r.release; finish = suc t } ∷ []) []
 
 -- a step from one set of columns to another
 pub record Steps
@@ -88,8 +88,8 @@ pub record Steps
       (order : List Row) (offset : ℕ → ℕ) (queues : List (List Job))
       → Suits order offset n periods costs owners lengths
       → Shown order offset lengths t queues starts lefts slots
-      → let in-tick = withReleases 0 t order offset (length_of order offset lengths) queues in
-      Shown order offset lengths (suc t) (afterWork in-tick) starts' lefts' slots' × (finishes 0 t in-tick ≡ doneIn t r)
+      → let in_tick = with_releases 0 t order offset (length_of order offset lengths) queues in
+      Shown order offset lengths (suc t) (after_work in_tick) starts' lefts' slots' × (finishes 0 t in_tick ≡ done_in t r)
   -- its numbers stay in their ranges
-  pub rank-in : r.finished ≡ true → r.rank < n
-  pub slots-in : (j : ℕ) → j < n → get_or slots' j 0 ≤ length owners
+  pub rank_in : r.finished ≡ true → r.rank < n
+  pub slots_in : (j : ℕ) → j < n → get_or slots' j 0 ≤ length owners

@@ -3,7 +3,7 @@ use mathlib.Core.Path.{refl}
 use Prim.Native.Nat.{◌-◌}
 use native.Mathlib.Omega.{arith}
 use borrow.Author.Rules.{rules}
-use Rattle.watches.proofs.Laid.{Placing, placing-on}
+use Rattle.watches.proofs.Laid.{Placing, placing_on}
 use Rattle.watches.proofs.offsets_for.Statement.{statement}
 use Rattle.watches.proofs.offsets_for.Tie as tie
 
@@ -18,12 +18,12 @@ loop-holds c = record {
   reached = omega arith;
   few = c.requires.0;
   long = refl;
-  offset-is = λ j l. absurd (omega arith);
+  offset_is = λ j l. absurd (omega arith);
 }
 
 shared-slice-read-offsets : tie.Need-shared-slice-read-offsets invariant-loop decreases-loop
 shared-slice-read-offsets c =
-    omega (arith, c.before.before.before.requires.1.positions-held, c.before.loop-test.true)
+    omega (arith, c.before.before.before.requires.1.positions_held, c.before.loop-test.true)
 
 mul-offsets-2 : tie.Need-overflow-mul-offsets-2 invariant-loop decreases-loop
 mul-offsets-2 c =
@@ -36,18 +36,18 @@ array-write-offsets : tie.Need-array-write-offsets invariant-loop decreases-loop
 array-write-offsets c = omega (arith, c.before.before.loop.invariant.few, c.before.loop-test.true)
 
 loop-again : tie.Need-loop-preserved invariant-loop decreases-loop
-loop-again c = placing-on c.before.before.loop.invariant c.before.loop-test.true
+loop-again c = placing_on c.before.before.loop.invariant c.before.loop-test.true
 
 returns : tie.Need-returns invariant-loop decreases-loop
 returns c =
     let g = c.before.loop.invariant in
     record {
       long = omega (arith, g.long, g.few);
-      offset-is = λ i l. g.offset-is i (omega (arith, c.loop-test.false));
+      offset_is = λ i l. g.offset_is i (omega (arith, c.loop-test.false));
     }
 
-pub offsets-for-spec : {M : Type 1} → statement M
-offsets-for-spec =
+pub offsets_for_spec : {M : Type 1} → statement M
+offsets_for_spec =
     tie.close
     (tie.spec
     invariant-loop

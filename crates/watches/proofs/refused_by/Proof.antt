@@ -27,6 +27,6 @@ returns-2 c =
     c.refused2.ensures
     ∙ sym (ap (λ (l : Line). result (refuses (refusal l) (place l))) c.before.before.answer.given.1)
 
-pub refused-by-spec : {M : Type 1} → statement M
-refused-by-spec =
+pub refused_by_spec : {M : Type 1} → statement M
+refused_by_spec =
     tie.close (tie.spec (λ c. search rules) (λ c κs. search rules) returns (λ c κs. search rules) returns-2)

@@ -10,15 +10,15 @@ use Rattle.plans.specs.declared.Answer.{Answer}
 use Rattle.plans.specs.Outcomes.{Written}
 use Rattle.watch_demands.specs.Calls.{watched}
 use Rattle.watch_demands.specs.Demands.{WatchSays}
-use Rattle.watch_demands.proofs.Demands.{watch-demands, decided-by}
-use Rattle.watches.proofs.Stages.{refused-text}
+use Rattle.watch_demands.proofs.Demands.{watch_demands, decided_by}
+use Rattle.watches.proofs.Stages.{refused_text}
 use Rattle.watches.proofs.watch_board.Statement.{statement}
 use Rattle.watches.proofs.watch_board.Tie as tie
 
 -- with the demands, which hold of every text
 says : (text o o' : List ℕ) (r : Answer) → Written (watched text (length o)) o o' r → WatchSays text o o' r
 says text o o' r w =
-    record { answer = w; demands = watch-demands text (length o); no_other = decided-by text (length o) }
+    record { answer = w; demands = watch_demands text (length o); no_other = decided_by text (length o) }
 
 slice-aggregate-read-front : tie.Need-slice-aggregate-read-front
 slice-aggregate-read-front c = search rules
@@ -33,8 +33,8 @@ returns : tie.Need-returns
 returns c =
     let s = c.before.before.before.before.before.before.before in
     says s.args.text.now s.args.out.now _ _
-    (refused-text s.args.text.now s.args.out.now
-    (c.before.before.before.read-front.ensures.refused-is c.before.if1.true)
+    (refused_text s.args.text.now s.args.out.now
+    (c.before.before.before.read-front.ensures.refused_is c.before.if1.true)
     c.refused.ensures)
 
 slice-aggregate-watch-table : tie.Need-slice-aggregate-watch-table
@@ -42,7 +42,7 @@ slice-aggregate-watch-table c = search rules
 
 watch-table-requires : tie.Need-watch-table-requires
 watch-table-requires c κs =
-    c.before.before.before.before.before.read-front.ensures.table-read c.before.before.before.if1.false
+    c.before.before.before.before.before.read-front.ensures.table_read c.before.before.before.if1.false
 
 same_length : tie.Need-same-length
 same_length c = search rules
@@ -52,8 +52,8 @@ returns-2 c =
     let s = c.before.before.before.before.before.before.before.before.before.before.before.before in
     says s.args.text.now s.args.out.now _ _ c.before.before.watch-table.ensures
 
-pub watch-board-spec : {M : Type 1} → statement M
-watch-board-spec =
+pub watch_board_spec : {M : Type 1} → statement M
+watch_board_spec =
     tie.close
     (tie.spec
     slice-aggregate-read-front

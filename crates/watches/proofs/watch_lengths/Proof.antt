@@ -7,7 +7,7 @@ use borrow.Author.Rules.{rules}
 use lib.ListN.{length}
 use Rattle.plans.specs.Outcomes.{Outcome, Written}
 use Rattle.watches.specs.inside.Lines.{ReadsNumbers}
-use Rattle.watches.proofs.Stages.{refused-text, mergeable, owned, readable, lengths-refused, end_refused, whole}
+use Rattle.watches.proofs.Stages.{refused_text, mergeable, owned, readable, lengths_refused, end_refused, whole}
 use Rattle.watches.proofs.watch_lengths.Statement.{statement}
 use Rattle.watches.proofs.watch_lengths.Tie as tie
 
@@ -72,11 +72,11 @@ returns c =
     let s = farther.before in
     let f = far.before.before.fill-owners in
     let r = c.before.before.before.before.read-numbers in
-    refused-text s.args.text.now s.args.out.now
-    (lengths-refused _ _ _ _ _ _ _ _ _ _ _ s.requires f.new.0 f.ensures (f.auto.0 ∙ s.requires.as_many)
+    refused_text s.args.text.now s.args.out.now
+    (lengths_refused _ _ _ _ _ _ _ _ _ _ _ s.requires f.new.0 f.ensures (f.auto.0 ∙ s.requires.as_many)
     r.new.1.1.1.1.1.1.1.0 r.auto.1.1.1.1.1.1.1.0 r.result c.before.match.keys2
     r.ensures)
-    c.refused-by.ensures
+    c.refused_by.ensures
 
 cast-many : tie.Need-overflow-cast-many
 cast-many c = search rules
@@ -108,7 +108,7 @@ returns-2 c =
     let r = far.read-numbers in
     let d = c.before.before.before.before.before.before.answer.given in
     let e = c.before.before.end.given in
-    refused-text s.args.text.now s.args.out.now
+    refused_text s.args.text.now s.args.out.now
     (end_refused _ _ _ _ _ _ _ _ _ _ _ s.requires f.new.0 f.ensures (f.auto.0 ∙ s.requires.as_many)
     r.new.1.1.1.1.1.1.1.0 r.auto.1.1.1.1.1.1.1.0 d.0.1.0
     (subst (ReadsNumbers _ _ _ _ _ _ r.new.1.1.1.1.1.1.1.0) d.1 r.ensures) e.0.0 e.0.1.0
@@ -147,8 +147,8 @@ returns-3 c =
     (w.ensures s.requires.laid (owned _ _ _ _ _ _ _ _ _ _ _ s.requires f.new.0 f.ensures many)
     (many ∙ sym r.auto.1.1.1.1.1.1.1.0))
 
-pub watch-lengths-spec : {M : Type 1} → statement M
-watch-lengths-spec =
+pub watch_lengths_spec : {M : Type 1} → statement M
+watch_lengths_spec =
     tie.close
     (tie.spec
     fill-owners-requires

@@ -5,8 +5,8 @@ use native.Mathlib.Omega.{arith}
 use borrow.Author.Rules.{rules}
 use lib.ListN.{length, take}
 use lib.Seq.{length-take-le}
-use Rattle.watch_demands.specs.WatchLines.{maxLengths}
-use Rattle.watches.proofs.Stages.{refused-text, ticks-refused, count-refused, count_small, at-lengths-then}
+use Rattle.watch_demands.specs.WatchLines.{max_lengths}
+use Rattle.watches.proofs.Stages.{refused_text, ticks_refused, count_refused, count_small, at_lengths_then}
 use Rattle.watches.proofs.watch_order.Statement.{statement}
 use Rattle.watches.proofs.watch_order.Tie as tie
 
@@ -26,9 +26,9 @@ returns : tie.Need-returns
 returns c =
     let s = c.before.before.before.before.before.before.before.before.before in
     let a = c.before.before.line_at_lem in
-    refused-text s.args.text.now s.args.out.now
-    (ticks-refused _ _ _ _ _ _ _ _ s.requires a.result c.before.match.keys2 a.ensures)
-    c.refused-by.ensures
+    refused_text s.args.text.now s.args.out.now
+    (ticks_refused _ _ _ _ _ _ _ _ s.requires a.result c.before.match.keys2 a.ensures)
+    c.refused_by.ensures
 
 add-line-at : tie.Need-overflow-add-line-at
 add-line-at c = search rules
@@ -51,8 +51,8 @@ returns-2 c =
     let s = far.before.before.before.before in
     let d = c.before.before.before.before.before.answer.given in
     let a = c.before.before.line-at2 in
-    refused-text s.args.text.now s.args.out.now
-    (count-refused _ _ _ _ _ _ _ _ s.requires d.0.0 d.0.1.0
+    refused_text s.args.text.now s.args.out.now
+    (count_refused _ _ _ _ _ _ _ _ s.requires d.0.0 d.0.1.0
     (sym c.before.before.before.before.before.before.before.line_at_lem.ensures ∙ d.1) a.result
     c.before.match2.keys2 a.ensures)
     c.refused-by2.ensures
@@ -61,7 +61,7 @@ add-watch-lengths : tie.Need-overflow-add-watch-lengths
 add-watch-lengths c = search rules
 
 -- no more than there is room for
-few : (c : tie.After-watch-lengths-arg) → c.before.before.answer2.given.0.0 ≤ maxLengths
+few : (c : tie.After-watch-lengths-arg) → c.before.before.answer2.given.0.0 ≤ max_lengths
 few c =
     let far = c.before.before.before.before.before.before.before.before.before.before in
     let s = far.before.before.before.before.before.before in
@@ -90,7 +90,7 @@ watch-lengths-requires c κs =
     let s = far.before.before.before.before.before.before.before.before in
     let d = c.before.before.before.before.before.before.before.before.before.answer.given in
     let e = c.before.before.before.before.answer2.given in
-    at-lengths-then _ _ _ _ _ _ _ _ s.requires d.0.0 d.0.1.0 (sym far.before.line_at_lem.ensures ∙ d.1)
+    at_lengths_then _ _ _ _ _ _ _ _ s.requires d.0.0 d.0.1.0 (sym far.before.line_at_lem.ensures ∙ d.1)
     e.0.0 e.0.1.0 (sym c.before.before.before.before.before.before.line-at2.ensures ∙ e.1) _ _
     (length-take-le _ _ (few c.before.before))
     (length-take-le _ _ (few c.before.before))
@@ -101,8 +101,8 @@ same_length c = search rules
 returns-3 : tie.Need-returns-3
 returns-3 c = search rules
 
-pub watch-order-spec : {M : Type 1} → statement M
-watch-order-spec =
+pub watch_order_spec : {M : Type 1} → statement M
+watch_order_spec =
     tie.close
     (tie.spec
     slice-aggregate-line-at

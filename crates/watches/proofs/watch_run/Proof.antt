@@ -5,20 +5,20 @@ use borrow.Author.Rules.{rules}
 use lib.ListN.{length}
 use Rattle.plans.specs.Outcomes.{Outcome, Written}
 use Rattle.plans.proofs.Outcomes.{refused}
-use Rattle.ranks.proofs.Readings.{head-there}
-use Rattle.watches.proofs.Laid.{ranks-held, startable, describes, late-outcome, timely-outcome}
+use Rattle.ranks.proofs.Readings.{head_there}
+use Rattle.watches.proofs.Laid.{ranks_held, startable, describes, late_outcome, timely_outcome}
 use Rattle.watches.proofs.watch_run.Statement.{statement}
 use Rattle.watches.proofs.watch_run.Tie as tie
 
 sub-rows : tie.Need-overflow-sub-rows
 sub-rows c =
     let t = c.before.before.before.before.before.before.requires.0.table in
-    omega (arith, head-there t.read_as t.ok)
+    omega (arith, head_there t.read_as t.ok)
 
 part-rows-start : tie.Need-slice-bounds-rows-start
 part-rows-start c =
     let t = c.before.before.before.before.before.before.requires.0.table in
-    omega (arith, head-there t.read_as t.ok)
+    omega (arith, head_there t.read_as t.ok)
 
 part-rows-end : tie.Need-slice-bounds-rows-end
 part-rows-end c = search rules
@@ -34,12 +34,12 @@ returns c l owned many =
     let s = c.before.before.before.before.before.before.before.before.before.before in
     let late = c.before.before.late-rank in
     refused
-    (late-outcome l late.result (length s.args.out.now) s.args.lengths.now s.args.ticks late.ensures
+    (late_outcome l late.result (length s.args.out.now) s.args.lengths.now s.args.ticks late.ensures
     c.before.if1.true)
     c.refused.ensures
 
-mul-tasks : tie.Need-overflow-mul-tasks
-mul-tasks c = search rules
+mul_tasks : tie.Need-overflow-mul-tasks
+mul_tasks c = search rules
 
 add-tasks : tie.Need-overflow-add-tasks
 add-tasks c = search rules
@@ -49,11 +49,11 @@ mul-tasks-2 c = search rules
 
 sub-tasks : tie.Need-overflow-sub-tasks
 sub-tasks c =
-    omega (arith, ranks-held c.before.before.before.before.before.before.before.before.before.requires.0.table)
+    omega (arith, ranks_held c.before.before.before.before.before.before.before.before.before.requires.0.table)
 
 part-tasks-start : tie.Need-slice-bounds-tasks-start
 part-tasks-start c =
-    omega (arith, ranks-held c.before.before.before.before.before.before.before.before.before.requires.0.table)
+    omega (arith, ranks_held c.before.before.before.before.before.before.before.before.before.requires.0.table)
 
 part-tasks-end : tie.Need-slice-bounds-tasks-end
 part-tasks-end c = search rules
@@ -84,13 +84,13 @@ returns-2 c l owned many =
     let s = far.before.before.before.before.before in
     let late = c.before.before.before.before.before.before.before.late-rank in
     let r = c.before.before.run-order in
-    let is = timely-outcome l late.result (length s.args.out.now) s.args.lengths.now s.args.ticks
+    let is = timely_outcome l late.result (length s.args.out.now) s.args.lengths.now s.args.ticks
     late.ensures c.before.before.before.before.before.before.if1.false in
     subst (λ (w : Outcome). Written w s.args.out.now r.new.0 r.result) (sym is)
     (r.ensures _ _ (describes l s.args.owners.now s.args.lengths.now owned many))
 
-pub watch-run-spec : {M : Type 1} → statement M
-watch-run-spec =
+pub watch_run_spec : {M : Type 1} → statement M
+watch_run_spec =
     tie.close
     (tie.spec
     sub-rows
@@ -99,7 +99,7 @@ watch-run-spec =
     late-rank-requires
     refused-requires
     returns
-    mul-tasks
+    mul_tasks
     add-tasks
     mul-tasks-2
     sub-tasks

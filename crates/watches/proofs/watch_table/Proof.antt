@@ -6,8 +6,8 @@ use borrow.Author.Rules.{rules}
 use lib.ListN.{length, get_or, take, drop, replicate}
 use lib.Seq.{length-take-le}
 use Rattle.watches.specs.inside.Lines.{ReadsNumbers}
-use Rattle.watches.proofs.Laid.{few-rows, located}
-use Rattle.watches.proofs.Stages.{zeros, array-front, refused-text, releases-refused, at-ticks-then}
+use Rattle.watches.proofs.Laid.{few_rows, located}
+use Rattle.watches.proofs.Stages.{zeros, array_front, refused_text, releases_refused, at_ticks_then}
 use Rattle.watches.proofs.watch_table.Statement.{statement}
 use Rattle.watches.proofs.watch_table.Tie as tie
 
@@ -21,23 +21,23 @@ slice-aggregate-read-numbers-3 : tie.Need-slice-aggregate-read-numbers-3
 slice-aggregate-read-numbers-3 c = search rules
 
 array-share-prefix-ranges : tie.Need-array-share-prefix-ranges
-array-share-prefix-ranges c = few-rows c.before.before.before.before.before.before.requires.table
+array-share-prefix-ranges c = few_rows c.before.before.before.before.before.before.requires.table
 
 slice-aggregate-read-numbers-4 : tie.Need-slice-aggregate-read-numbers-4
 slice-aggregate-read-numbers-4 c =
-    sym (length-take-le _ _ (few-rows c.before.before.before.before.before.before.before.requires.table))
+    sym (length-take-le _ _ (few_rows c.before.before.before.before.before.before.before.requires.table))
 
 array-borrow-prefix-releases : tie.Need-array-borrow-prefix-releases
-array-borrow-prefix-releases c = few-rows c.before.before.before.before.before.before.before.requires.table
+array-borrow-prefix-releases c = few_rows c.before.before.before.before.before.before.before.requires.table
 
 slice-aggregate-read-numbers-5 : tie.Need-slice-aggregate-read-numbers-5
 slice-aggregate-read-numbers-5 c =
-    sym (length-take-le _ _ (few-rows c.before.before.before.before.before.before.before.before.requires.table))
+    sym (length-take-le _ _ (few_rows c.before.before.before.before.before.before.before.before.requires.table))
 
 read-numbers-requires : tie.Need-read-numbers-requires
 read-numbers-requires c κs =
     let s = c.before.before.before.before.before.before.before.before in
-    let few = few-rows s.requires.table in
+    let few = few_rows s.requires.table in
     let long : length {A = ℕ} (take s.args.n (replicate 16 0)) ≡ s.args.n = length-take-le _ _ few in (
       refl,
       record {
@@ -58,12 +58,12 @@ returns c =
     let far = c.before.before.before.before.before.before.before.before.before.before in
     let s = far.before.before in
     let r = c.before.before.before.read-numbers in
-    refused-text s.args.text.now s.args.out.now
-    (releases-refused _ _ _ _ _ s.requires (take s.args.n (replicate 16 0)) (zeros s.args.n 16)
+    refused_text s.args.text.now s.args.out.now
+    (releases_refused _ _ _ _ _ s.requires (take s.args.n (replicate 16 0)) (zeros s.args.n 16)
     r.new.1.1.1.1.1.1.1.0
-    (r.auto.1.1.1.1.1.1.1.0 ∙ length-take-le _ _ (few-rows s.requires.table)) r.result
+    (r.auto.1.1.1.1.1.1.1.0 ∙ length-take-le _ _ (few_rows s.requires.table)) r.result
     c.before.match.keys2 r.ensures)
-    c.refused-by.ensures
+    c.refused_by.ensures
 
 slice-aggregate-lay-out : tie.Need-slice-aggregate-lay-out
 slice-aggregate-lay-out c = search rules
@@ -75,7 +75,7 @@ lay-out-requires : tie.Need-lay-out-requires
 lay-out-requires c κs =
     let far = c.before.before.before.before.before.before.before.before.before.before in
     let s = far.before.before.before.before.before in
-    let few = few-rows s.requires.table in
+    let few = few_rows s.requires.table in
     (s.requires.table, few, omega (arith, few))
 
 slice-aggregate-offsets-for : tie.Need-slice-aggregate-offsets-for
@@ -86,7 +86,7 @@ offsets-for-requires c κs =
     let far = c.before.before.before.before.before.before.before.before.before.before in
     let s = far.before.before.before.before.before.before.before.before.before in
     let o = c.before.before.before.lay-out in
-    (few-rows s.requires.table, located s.requires.table _ _ (o.ensures s.requires.table))
+    (few_rows s.requires.table, located s.requires.table _ _ (o.ensures s.requires.table))
 
 cast-watch-order : tie.Need-overflow-cast-watch-order
 cast-watch-order c = search rules
@@ -108,12 +108,12 @@ watch-order-requires c κs =
     let r = far.before.before.before.before.read-numbers in
     let d = far.before.answer.given in
     let o = c.before.before.before.before.before.before.before.lay-out in
-    at-ticks-then _ _ _ _ _ s.requires (take s.args.n (replicate 16 0)) (zeros s.args.n 16)
+    at_ticks_then _ _ _ _ _ s.requires (take s.args.n (replicate 16 0)) (zeros s.args.n 16)
     r.new.1.1.1.1.1.1.1.0
-    (r.auto.1.1.1.1.1.1.1.0 ∙ length-take-le _ _ (few-rows s.requires.table)) d.0.1.0
+    (r.auto.1.1.1.1.1.1.1.0 ∙ length-take-le _ _ (few_rows s.requires.table)) d.0.1.0
     (subst (ReadsNumbers _ _ _ _ _ _ r.new.1.1.1.1.1.1.1.0) d.1 r.ensures) _ _ _ _
     (o.ensures s.requires.table)
-    (array-front _ _ _ (r.auto.1.1.1.1.1.1.1.0 ∙ length-take-le _ _ (few-rows s.requires.table)))
+    (array_front _ _ _ (r.auto.1.1.1.1.1.1.1.0 ∙ length-take-le _ _ (few_rows s.requires.table)))
     c.before.before.before.offsets-for.ensures
 
 same_length : tie.Need-same-length
@@ -122,8 +122,8 @@ same_length c = search rules
 returns-2 : tie.Need-returns-2
 returns-2 c = search rules
 
-pub watch-table-spec : {M : Type 1} → statement M
-watch-table-spec =
+pub watch_table_spec : {M : Type 1} → statement M
+watch_table_spec =
     tie.close
     (tie.spec
     slice-aggregate-read-numbers

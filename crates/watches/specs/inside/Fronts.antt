@@ -5,34 +5,34 @@ use Rattle.grammars.specs.Grammars.{refused, step, read}
 use Rattle.grammars.specs.Reasons.{Reaches}
 use Rattle.grammars.specs.Sequences.{onward}
 use Rattle.grammars.specs.inside.Readers.{Reader, Takes}
-use Rattle.rows.specs.Rows.{holdAt}
+use Rattle.rows.specs.Rows.{hold_at}
 use Rattle.readers.specs.declared.progress.Part.{Part}
 use Rattle.readers.specs.declared.progress.Part.TheVariants as P
 use Rattle.readers.specs.declared.progress.Progress.{Progress}
-use Rattle.readers.specs.inside.Stands.{stageOf, On}
-use Rattle.watch_demands.specs.WatchLines.{unheld, runBegins, WatchStage, watchText, watch-start}
+use Rattle.readers.specs.inside.Stands.{stage_of, On}
+use Rattle.watch_demands.specs.WatchLines.{unheld, run_begins, WatchStage, watch_text, watch_start}
 use Rattle.watches.specs.inside.Stages.{AtReleases}
 
 -- the table is read; its next line is a hold
-abbrev pub isEnd : Part → Bool
-isEnd P.Board = false
-isEnd P.Tasks = false
-isEnd P.Switch = false
-isEnd P.Row = false
-isEnd P.Rank = false
-isEnd P.End = true
+abbrev pub is_end : Part → Bool
+is_end P.Board = false
+is_end P.Tasks = false
+is_end P.Switch = false
+is_end P.Row = false
+is_end P.Rank = false
+is_end P.End = true
 
-abbrev pub atHold : Part → ℕ → Bool
-atHold P.Board i = false
-atHold P.Tasks i = false
-atHold P.Switch i = false
-atHold P.Row i = eqb i holdAt
-atHold P.Rank i = false
-atHold P.End i = false
+abbrev pub at_hold : Part → ℕ → Bool
+at_hold P.Board i = false
+at_hold P.Tasks i = false
+at_hold P.Switch i = false
+at_hold P.Row i = eqb i hold_at
+at_hold P.Rank i = false
+at_hold P.End i = false
 
 -- the reading of the front is over
 abbrev pub is_over : Progress → Bool
-is_over p = p.ended || isEnd p.stand.part
+is_over p = p.ended || is_end p.stand.part
 
 -- ---- the code as a reader; it never comes to the text's end
 abbrev pub front : Reader (Progress × List ℕ) WatchStage
@@ -41,21 +41,21 @@ front = record {
   refused = λ x. x.0.refused;
   line = λ x. x.0.line;
   offset = λ x. x.0.offset;
-  shows = λ x. onward unheld runBegins (stageOf x.0.stand x.1);
+  shows = λ x. onward unheld run_begins (stage_of x.0.stand x.1);
   Whole = λ x. ⊥;
 }
 
 -- before its line, which the lines of the text lead to
 abbrev pub OnFront : List ℕ → Progress × List ℕ → Type 0
 OnFront text x =
-    On true text x × Reaches watchText watch-start text x.0.line (front.shows x) (drop x.0.offset text)
+    On true text x × Reaches watch_text watch_start text x.0.line (front.shows x) (drop x.0.offset text)
 
 -- past the line that it takes
 abbrev pub TakesUnheld : Progress → List ℕ → List ℕ → Progress → List ℕ → Type 0
 TakesUnheld p text ns q ms =
-    Takes front (OnFront text) (step watchText text (front.shows (p, ns)) p.offset p.line) (q, ms)
+    Takes front (OnFront text) (step watch_text text (front.shows (p, ns)) p.offset p.line) (q, ms)
 
 -- the text is refused in its table; or the table is read, and its run follows
 pub record ReadsFront (text : List ℕ) (p : Progress) (ns : List ℕ) : Type 0 where
-  pub refused-is : p.ended ≡ true → read watchText watch-start text ≡ refused p.refused p.line
-  pub table-read : p.ended ≡ false → AtReleases text p.offset p.line ns p.stand.count
+  pub refused_is : p.ended ≡ true → read watch_text watch_start text ≡ refused p.refused p.line
+  pub table_read : p.ended ≡ false → AtReleases text p.offset p.line ns p.stand.count

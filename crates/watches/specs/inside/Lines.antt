@@ -10,14 +10,14 @@ range_of column owners m = get_or column (get_or owners m 0) 0
 
 module _ (text key : List ℕ) (low high : ℕ → ℕ) where
   -- line k at an offset, if it holds number m
-  abbrev pub numberLine : ℕ → ℕ → ℕ → Line
-  numberLine m at k = line_at key (low m) (high m) text at k
+  abbrev pub number_line : ℕ → ℕ → ℕ → Line
+  number_line m at k = line_at key (low m) (high m) text at k
 
   -- the lines from line k at an offset on hold these numbers, up to the next offset
   pub data Told (at k : ℕ) : List ℕ → ℕ → Type 0 where
     none : Told at k [] at
     more : {vs : List ℕ} {past : ℕ} (v next : ℕ) → Told at k vs past
-        → numberLine (length vs) past (k + length vs) ≡ L.Number v next
+        → number_line (length vs) past (k + length vs) ≡ L.Number v next
         → Told at k (vs ++ (v ∷ [])) next
 
   -- fewer than n numbers, and then no number
@@ -26,7 +26,7 @@ module _ (text key : List ℕ) (low high : ℕ → ℕ) where
     pub past : ℕ
     pub told : Told at k numbers past
     pub fewer : length numbers < n
-    pub stopped : numberLine (length numbers) past (k + length numbers) ≡ answer
+    pub stopped : number_line (length numbers) past (k + length numbers) ≡ answer
 
   -- all numbers, with the offset after them; or the first refusal
   abbrev pub ReadsNumbers : ℕ → ℕ → List ℕ → Line → Type 0

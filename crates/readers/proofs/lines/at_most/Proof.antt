@@ -15,5 +15,5 @@ returns-2 c = rw (c.before.before.answer.given.1, lt-ltb _ _ c.if1.true)
 returns-3 : tie.Need-returns-3
 returns-3 c = rw (c.before.before.answer.given.1, le-ltb _ _ c.if1.false)
 
-pub at-most-spec : {M : Type 1} → statement M
-at-most-spec = tie.close (tie.spec (λ c. search rules) returns returns-2 returns-3)
+pub at_most_spec : {M : Type 1} → statement M
+at_most_spec = tie.close (tie.spec (λ c. search rules) returns returns-2 returns-3)

@@ -14,22 +14,22 @@ use Rattle.readers.proofs.lines.expected_line.Tie as tie
 counted : (c : tie.Start) (p : Part) → c.args.stand.part ≡ p → Counted p c.args.stand
 counted c p is = subst (λ q. Counted q c.args.stand) is c.requires.counted
 
-read-so-far : (c : tie.Start) (p : Part) → c.args.stand.part ≡ p
+read_so_far : (c : tie.Start) (p : Part) → c.args.stand.part ≡ p
     → read_by p c.args.stand ≤ length c.args.numbers.now
-read-so-far c p is = subst (λ q. read_by q c.args.stand ≤ length c.args.numbers.now) is c.requires.long
+read_so_far c p is = subst (λ q. read_by q c.args.stand ≤ length c.args.numbers.now) is c.requires.long
 
 row-line-requires : tie.Need-row-line-requires
 row-line-requires c κs =
     let s = c.before.before.before.before in
     let is = c.enum-told4.given.1 in
     let h = counted s P.Row is in
-    ((h.0, omega (arith, h.1)), read-so-far s P.Row is)
+    ((h.0, omega (arith, h.1)), read_so_far s P.Row is)
 
 new-rank-requires : tie.Need-new-rank-requires
 new-rank-requires c κs =
     let s = c.before.before.before.before.before.before in
     let is = c.before.before.enum-told5.given.1 in
-    ((counted s P.Rank is).1, read-so-far s P.Rank is)
+    ((counted s P.Rank is).1, read_so_far s P.Rank is)
 
 returns : tie.Need-returns
 returns c = rw c.before.before.enum_told.given.1 (c.line_at_lem.ensures ∙ no_test _ _)
@@ -50,8 +50,8 @@ returns-5 c =
 returns-6 : tie.Need-returns-6
 returns-6 c = rw c.before.enum-told6.given.1 (c.end-at.ensures ∙ no_test _ _)
 
-pub expected-line-spec : {M : Type 1} → statement M
-expected-line-spec =
+pub expected_line_spec : {M : Type 1} → statement M
+expected_line_spec =
     tie.close
     (tie.spec
     (λ c. search rules)

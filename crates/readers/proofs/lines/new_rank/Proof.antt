@@ -1,15 +1,15 @@
 -- `readers::lines::new_rank` meets its contract: a number stays if a row has it and no rank before it is the same.
 use borrow.Author.Rules.{rules}
 use Rattle.grammars.proofs.Answers.{untested}
-use Rattle.tables.specs.TableLines.{newRank}
-use Rattle.readers.specs.inside.Numbers.{rowsIn, behind}
+use Rattle.tables.specs.TableLines.{new_rank}
+use Rattle.readers.specs.inside.Numbers.{rows_in, behind}
 use Rattle.readers.proofs.lines.new_rank.Statement.{statement}
 use Rattle.readers.proofs.lines.new_rank.Tie as tie
 
 returns : tie.Need-returns
 returns c =
     let a = c.before.before.args in
-    untested (newRank (rowsIn a.count a.numbers.now) (behind a.count a.named a.numbers.now))
+    untested (new_rank (rows_in a.count a.numbers.now) (behind a.count a.named a.numbers.now))
     a.answer a.line c.match.keys2
 
 returns-2 : tie.Need-returns-2
@@ -37,8 +37,8 @@ returns-3 c =
 returns-4 : tie.Need-returns-4
 returns-4 c = rw (c.before.before.before.answer.given.1, ← c.before.has-task.ensures, c.if1.false)
 
-pub new-rank-spec : {M : Type 1} → statement M
-new-rank-spec =
+pub new_rank_spec : {M : Type 1} → statement M
+new_rank_spec =
     tie.close
     (tie.spec
     (λ c. search rules)

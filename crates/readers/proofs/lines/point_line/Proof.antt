@@ -10,44 +10,44 @@ use Rattle.text.specs.Lines.{line_at}
 use Rattle.text.specs.Text.{bytes}
 use Rattle.grammars.specs.inside.Answers.{tested}
 use Rattle.grammars.proofs.Answers.{no_test}
-use Rattle.curves.specs.Curves.{minDelay, maxDelay, minAllow, maxAllow}
-use Rattle.rows.specs.Rows.{firstPointAt}
-use Rattle.rows.proofs.RowNumbers.{between-at}
-use Rattle.tables.specs.TableLines.{RowLine, laterDelay, lowerAllow, nextDelay, nextAllow, rowLineAt}
-use Rattle.readers.specs.inside.Numbers.{rowStart, switchIn, rowsIn, behind}
-use Rattle.readers.specs.inside.Stands.{rowLineTested}
-use Rattle.tables.proofs.RowLines.{delay-at, allow-at}
+use Rattle.curves.specs.Curves.{min_delay, max_delay, min_allow, max_allow}
+use Rattle.rows.specs.Rows.{first_point_at}
+use Rattle.rows.proofs.RowNumbers.{between_at}
+use Rattle.tables.specs.TableLines.{RowLine, later_delay, lower_allow, next_delay, next_allow, row_line_at}
+use Rattle.readers.specs.inside.Numbers.{row_start, switch_in, rows_in, behind}
+use Rattle.readers.specs.inside.Stands.{row_line_tested}
+use Rattle.tables.proofs.RowLines.{delay_at, allow_at}
 use Rattle.readers.proofs.lines.point_line.Statement.{statement}
 use Rattle.readers.proofs.lines.point_line.Tie as tie
 
 module _ (n i : ℕ) (ns text : List ℕ) (at k : ℕ) where
   -- by the shape of the line at the position
-  by_shape : (line : RowLine) → rowLineAt i ≡ line
-      → rowLineTested n i ns text at k
-      ≡ tested (line.fault (switchIn ns) (rowsIn n ns) (behind n i ns))
+  by_shape : (line : RowLine) → row_line_at i ≡ line
+      → row_line_tested n i ns text at k
+      ≡ tested (line.fault (switch_in ns) (rows_in n ns) (behind n i ns))
       (line_at line.key line.low line.high text at k) k
   by_shape line is =
-      ap (λ (l : RowLine). tested (l.fault (switchIn ns) (rowsIn n ns) (behind n i ns))
+      ap (λ (l : RowLine). tested (l.fault (switch_in ns) (rows_in n ns) (behind n i ns))
       (line_at l.key l.low l.high text at k) k) is
 
   module _ (j x : ℕ) (few : j < 7) where
-    delay-tested : i ≡ firstPointAt + 2 + 2 * j → x ≡ get_or ns (rowStart n + i - 2) 0
-        → tested (laterDelay x) (line_at (bytes "delay=") minDelay maxDelay text at k) k ≡ rowLineTested n i ns text at k
-    delay-tested is read =
-        let there : rowStart n + i - 2 ≡ rowStart n + (firstPointAt + 2 * j) = omega (arith, is) in
-        let here = between-at (rowStart n) ns i (firstPointAt + 2 * j) (omega (arith, is)) in
-        ap (λ y. tested (laterDelay y) (line_at (bytes "delay=") minDelay maxDelay text at k) k)
+    delay_tested : i ≡ first_point_at + 2 + 2 * j → x ≡ get_or ns (row_start n + i - 2) 0
+        → tested (later_delay x) (line_at (bytes "delay=") min_delay max_delay text at k) k ≡ row_line_tested n i ns text at k
+    delay_tested is read =
+        let there : row_start n + i - 2 ≡ row_start n + (first_point_at + 2 * j) = omega (arith, is) in
+        let here = between_at (row_start n) ns i (first_point_at + 2 * j) (omega (arith, is)) in
+        ap (λ y. tested (later_delay y) (line_at (bytes "delay=") min_delay max_delay text at k) k)
         (read ∙ ap (λ m. get_or ns m 0) there ∙ sym here)
-        ∙ sym (by_shape (nextDelay (firstPointAt + 2 * j)) (delay-at i j is few))
+        ∙ sym (by_shape (next_delay (first_point_at + 2 * j)) (delay_at i j is few))
 
-    allow-tested : i ≡ firstPointAt + 3 + 2 * j → x ≡ get_or ns (rowStart n + i - 2) 0
-        → tested (lowerAllow x) (line_at (bytes "allow=") minAllow maxAllow text at k) k ≡ rowLineTested n i ns text at k
-    allow-tested is read =
-        let there : rowStart n + i - 2 ≡ rowStart n + suc (firstPointAt + 2 * j) = omega (arith, is) in
-        let here = between-at (rowStart n) ns i (suc (firstPointAt + 2 * j)) (omega (arith, is)) in
-        ap (λ y. tested (lowerAllow y) (line_at (bytes "allow=") minAllow maxAllow text at k) k)
+    allow_tested : i ≡ first_point_at + 3 + 2 * j → x ≡ get_or ns (row_start n + i - 2) 0
+        → tested (lower_allow x) (line_at (bytes "allow=") min_allow max_allow text at k) k ≡ row_line_tested n i ns text at k
+    allow_tested is read =
+        let there : row_start n + i - 2 ≡ row_start n + suc (first_point_at + 2 * j) = omega (arith, is) in
+        let here = between_at (row_start n) ns i (suc (first_point_at + 2 * j)) (omega (arith, is)) in
+        ap (λ y. tested (lower_allow y) (line_at (bytes "allow=") min_allow max_allow text at k) k)
         (read ∙ ap (λ m. get_or ns m 0) there ∙ sym here)
-        ∙ sym (by_shape (nextAllow (firstPointAt + 2 * j)) (allow-at i j is few))
+        ∙ sym (by_shape (next_allow (first_point_at + 2 * j)) (allow_at i j is few))
 
 returns : tie.Need-returns
 returns c = rw c.if1.true (c.before.line_at_lem.ensures ∙ no_test _ _)
@@ -60,29 +60,29 @@ returns-3 c =
     let m = c.before.before.before in
     let s = m.before.before.before.before.before in
     let a = s.args in
-    let j = (a.position - (firstPointAt + 2)) / 2 in
+    let j = (a.position - (first_point_at + 2)) / 2 in
     let even = m.before.before.match.keys1 in
     let not_first = c.before.before.if1.false in
-    let is : a.position ≡ firstPointAt + 2 + 2 * j = omega (arith, even, not_first, s.requires.0.0) in
+    let is : a.position ≡ first_point_at + 2 + 2 * j = omega (arith, even, not_first, s.requires.0.0) in
     let few : j < 7 = omega (arith, is, s.requires.0.1) in
     (rw m.line_at_lem.ensures at c.later-delay.ensures)
-    ∙ delay-tested a.count a.position a.numbers.now a.text.now a.at a.line j _ few is refl
+    ∙ delay_tested a.count a.position a.numbers.now a.text.now a.at a.line j _ few is refl
 
 returns-4 : tie.Need-returns-4
 returns-4 c =
     let m = c.before.before.before in
     let s = m.before.before.before.before.before in
     let a = s.args in
-    let j = (a.position - (firstPointAt + 3)) / 2 in
+    let j = (a.position - (first_point_at + 3)) / 2 in
     let odd = m.before.before.match.rest.1 in
     let not_first = c.before.before.if2.false in
-    let is : a.position ≡ firstPointAt + 3 + 2 * j = omega (arith, odd, not_first, s.requires.0.0) in
+    let is : a.position ≡ first_point_at + 3 + 2 * j = omega (arith, odd, not_first, s.requires.0.0) in
     let few : j < 7 = omega (arith, is, s.requires.0.1) in
     (rw m.line-at2.ensures at c.lower-allow.ensures)
-    ∙ allow-tested a.count a.position a.numbers.now a.text.now a.at a.line j _ few is refl
+    ∙ allow_tested a.count a.position a.numbers.now a.text.now a.at a.line j _ few is refl
 
-pub point-line-spec : {M : Type 1} → statement M
-point-line-spec =
+pub point_line_spec : {M : Type 1} → statement M
+point_line_spec =
     tie.close
     (tie.spec
     (λ c. search rules)

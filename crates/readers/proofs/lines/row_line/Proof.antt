@@ -5,11 +5,11 @@ use native.Mathlib.Omega.{arith}
 use borrow.Author.Rules.{rules}
 use Rattle.grammars.specs.inside.Answers.{tested}
 use Rattle.grammars.proofs.Answers.{no_test}
-use Rattle.rows.specs.Rows.{taskAt, periodAt, worstAt, bestAt, alphaAt, betaAt, holdAt, pointsAt, fullCost}
-use Rattle.rows.proofs.RowNumbers.{between-at}
+use Rattle.rows.specs.Rows.{task_at, period_at, worst_at, best_at, alpha_at, beta_at, hold_at, points_at, full_cost}
+use Rattle.rows.proofs.RowNumbers.{between_at}
 use Rattle.tables.specs.TableLines.{at_most}
-use Rattle.readers.specs.inside.Numbers.{rowStart, switchIn}
-use Rattle.readers.specs.inside.Stands.{fieldLine}
+use Rattle.readers.specs.inside.Numbers.{row_start, switch_in}
+use Rattle.readers.specs.inside.Stands.{field_line}
 use Rattle.readers.proofs.lines.row_line.Statement.{statement}
 use Rattle.readers.proofs.lines.row_line.Tie as tie
 
@@ -22,14 +22,14 @@ point-line-requires c κs =
     let s = c.before.before.before in
     let p = s.args.position in
     let n = c.match.rest in
-    let one = past p taskAt (omega arith) n.0.0.0.0.0.0.0.1 in
-    let two = past p periodAt one n.0.0.0.0.0.0.1 in
-    let three = past p worstAt two n.0.0.0.0.0.1 in
-    let four = past p bestAt three n.0.0.0.0.1 in
-    let five = past p alphaAt four n.0.0.0.1 in
-    let six = past p betaAt five n.0.0.1 in
-    let seven = past p holdAt six n.0.1 in
-    ((past p pointsAt seven n.1, s.requires.0.0, s.requires.0.1), s.requires.1)
+    let one = past p task_at (omega arith) n.0.0.0.0.0.0.0.1 in
+    let two = past p period_at one n.0.0.0.0.0.0.1 in
+    let three = past p worst_at two n.0.0.0.0.0.1 in
+    let four = past p best_at three n.0.0.0.0.1 in
+    let five = past p alpha_at four n.0.0.0.1 in
+    let six = past p beta_at five n.0.0.1 in
+    let seven = past p hold_at six n.0.1 in
+    ((past p points_at seven n.1, s.requires.0.0, s.requires.0.1), s.requires.1)
 
 returns : tie.Need-returns
 returns c = rw c.before.before.before.match.keys1 (rw c.before.line_at_lem.ensures at c.new-task.ensures)
@@ -42,18 +42,18 @@ returns-3 c =
     let m = c.before.before.before.before.before in
     let a = m.before.before.before.args in
     let ns = a.numbers.now in
-    let limit = between-at (rowStart a.count) ns worstAt periodAt (omega arith) in
-    let line = fieldLine worstAt a.text.now a.at a.line in
+    let limit = between_at (row_start a.count) ns worst_at period_at (omega arith) in
+    let line = field_line worst_at a.text.now a.at a.line in
     rw m.match.keys3
     ((rw c.before.before.before.line-at3.ensures at c.fits-period.ensures)
-    ∙ ap (λ x. tested (λ v. at_most x (fullCost v (switchIn ns))) line a.line) (sym limit))
+    ∙ ap (λ x. tested (λ v. at_most x (full_cost v (switch_in ns))) line a.line) (sym limit))
 
 returns-4 : tie.Need-returns-4
 returns-4 c =
     let m = c.before.before.before.before in
     let a = m.before.before.before.args in
-    rw (m.match.keys4, between-at (rowStart a.count) a.numbers.now bestAt worstAt (omega arith))
-    (rw c.before.before.line-at4.ensures at c.at-most.ensures)
+    rw (m.match.keys4, between_at (row_start a.count) a.numbers.now best_at worst_at (omega arith))
+    (rw c.before.before.line-at4.ensures at c.at_most_lem.ensures)
 
 returns-5 : tie.Need-returns-5
 returns-5 c = rw c.before.before.match.keys5 (c.line-at5.ensures ∙ no_test _ _)
@@ -65,14 +65,14 @@ returns-7 : tie.Need-returns-7
 returns-7 c =
     let m = c.before.before.before.before in
     let a = m.before.before.before.args in
-    rw (m.match.keys7, between-at (rowStart a.count) a.numbers.now holdAt worstAt (omega arith))
+    rw (m.match.keys7, between_at (row_start a.count) a.numbers.now hold_at worst_at (omega arith))
     (rw c.before.before.line-at7.ensures at c.at-most2.ensures)
 
 returns-8 : tie.Need-returns-8
 returns-8 c = rw c.before.before.match.keys8 (c.line-at8.ensures ∙ no_test _ _)
 
-pub row-line-spec : {M : Type 1} → statement M
-row-line-spec =
+pub row_line_spec : {M : Type 1} → statement M
+row_line_spec =
     tie.close
     (tie.spec
     (λ c. search rules)

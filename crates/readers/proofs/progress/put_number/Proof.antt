@@ -3,13 +3,13 @@ use Prim.Native.Nat.{◌<◌}
 use native.Mathlib.Omega.{arith}
 use lib.ListN.{length, length-set}
 use borrow.Author.Rules.{rules}
-use Rattle.readers.specs.inside.Numbers.{headSwitchAt}
+use Rattle.readers.specs.inside.Numbers.{head_switch_at}
 use Rattle.readers.proofs.progress.put_number.Statement.{statement}
 use Rattle.readers.proofs.progress.put_number.Tie as tie
 
 -- where the row is whole
 room : (c : tie.Then1) → let a = c.before.args in
-    (headSwitchAt < a.at) × (a.at < a.switch) × (a.switch < length a.numbers.now)
+    (head_switch_at < a.at) × (a.at < a.switch) × (a.switch < length a.numbers.now)
 room c = c.before.requires.behind c.if1.true
 
 slice-read-numbers : tie.Need-slice-read-numbers
@@ -33,8 +33,8 @@ returns c = rw c.before.if1.true
 returns-2 : tie.Need-returns-2
 returns-2 c = rw c.if1.false
 
-pub put-number-spec : {M : Type 1} → statement M
-put-number-spec =
+pub put_number_spec : {M : Type 1} → statement M
+put_number_spec =
     tie.close
     (tie.spec
     (λ c. search rules)

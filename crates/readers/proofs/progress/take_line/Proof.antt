@@ -2,8 +2,8 @@
 use mathlib.Core.Path.{ap, ◌∙◌}
 use native.Mathlib.Omega.{arith}
 use borrow.Author.Rules.{rules}
-use Rattle.readers.specs.inside.Stands.{standAfter}
-use Rattle.readers.proofs.Steps.{takes-end, number-room, takes-number, line_small, rows_few}
+use Rattle.readers.specs.inside.Stands.{stand_after}
+use Rattle.readers.proofs.Steps.{takes_end, number_room, takes_number, line_small, rows_few}
 use Rattle.readers.proofs.progress.take_line.Statement.{statement}
 use Rattle.readers.proofs.progress.take_line.Tie as tie
 
@@ -12,7 +12,7 @@ returns c =
     let m = c.before in
     let s = m.before.before.before.before.before.before in
     let a = s.args in
-    takes-end a.before a.text.now a.offset a.line a.numbers.now s.requires _
+    takes_end a.before a.text.now a.offset a.line a.numbers.now s.requires _
     m.before.expected-line.ensures m.match.keys2 c.Ended-by.result c.Ended-by.ensures
 
 ends-row-requires : tie.Need-ends-row-requires
@@ -37,7 +37,7 @@ put-number-requires c κs =
     let a = s.args in
     let d = m.answer.given in
     let line = m.before.before.expected-line.ensures in
-    let here = number-room a.before a.text.now a.offset a.line a.numbers.now s.requires _ line d.0.0
+    let here = number_room a.before a.text.now a.offset a.line a.numbers.now s.requires _ line d.0.0
     d.0.1.0 d.1 in
     rw (c.before.before.before.ends-row.ensures, c.before.before.read.ensures, c.before.switch-index.ensures)
     here
@@ -60,14 +60,14 @@ returns-2 c =
     let switch = put.before.before.switch-index.ensures in
     let at = put.before.before.before.read.ensures in
     let last = put.before.before.before.before.ends-row.ensures in
-    takes-number a.before a.text.now a.offset a.line a.numbers.now s.requires _ line d.0.0 d.0.1.0
+    takes_number a.before a.text.now a.offset a.line a.numbers.now s.requires _ line d.0.0 d.0.1.0
     d.1 c.after.result
-    (c.after.ensures ∙ ap (λ b. standAfter a.before.stand.part b a.before.stand d.0.0) last)
+    (c.after.ensures ∙ ap (λ b. stand_after a.before.stand.part b a.before.stand d.0.0) last)
     put.put-number.new.0
     (rw (last, at, switch) at put.put-number.ensures)
 
-pub take-line-spec : {M : Type 1} → statement M
-take-line-spec =
+pub take_line_spec : {M : Type 1} → statement M
+take_line_spec =
     tie.close
     (tie.spec
     (λ c κs. search rules)

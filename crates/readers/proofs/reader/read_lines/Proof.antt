@@ -23,7 +23,7 @@ use Rattle.rows.proofs.Walk.{suffices, sym, tables, tables_of, triple_of, true, 
 use Rattle.rows.proofs.Walk.{use0, use1, use2, use3, usize, vint, w64, walk_Meets, walk_of, walked, whole, yes, ℕ}
 use Rattle.rows.proofs.Walk.{ !, [], ◌$◌, ◌<◌, ◌∙◌, ◌∵◌, ◌∷◌, ◌-◌, ◌≡◌, ◌⊛◌, ‵, ⋆}
 use Prim.Native.Nat.{suc}
-use Rattle.rows.proofs.Calls.{Asks, calls-left, calls-told}
+use Rattle.rows.proofs.Calls.{Asks, calls_left, calls_told}
 use denote.Builtin.{bool, u8, u32, u64}
 use denote.Plain.{bool_Makes, bool_Tells, bool_vals}
 use denote.Slice.{MutSlice, Room as Sized, mut_slice_Tells, shr_slice_copy}
@@ -49,9 +49,9 @@ use Rattle.readers.specs.contracts.progress.Progress.start as start
 use Rattle.readers.proofs.progress.Progress.start.Symbol as start-def
 use Rattle.readers.proofs.progress.Progress.start.Symbol.{name as #start}
 use Rattle.readers.proofs.progress.Progress.start.Met as start-thm
-use Rattle.readers.specs.contracts.progress.take_line as take-line
+use Rattle.readers.specs.contracts.progress.take_line as take_line
 use Rattle.readers.proofs.progress.take_line.Symbol as take-line-def
-use Rattle.readers.proofs.progress.take_line.Symbol.{name as #take-line}
+use Rattle.readers.proofs.progress.take_line.Symbol.{name as #take_line}
 use Rattle.readers.proofs.progress.take_line.Met as take-line-thm
 use Rattle.readers.proofs.reader.Reader.TheLaws as T'
 use Rattle.readers.specs.contracts.reader.read_lines as read-lines
@@ -83,22 +83,22 @@ abbrev pval : Progress → Val
 pval p = LL.val P.the_type P'.the_laws p
 
 -- the relation at the value written out, and the numbers' sizes
-at-val : (p : Progress) (u : Val) → Is P.the_row p (u ∷ []) → Is P.the_row p (pval p ∷ [])
-at-val p u is = subst (Is P.the_row p) (LL.tells P.the_type P'.the_laws p (u ∷ []) is) is
+at_val : (p : Progress) (u : Val) → Is P.the_row p (u ∷ []) → Is P.the_row p (pval p ∷ [])
+at_val p u is = subst (Is P.the_row p) (LL.tells P.the_type P'.the_laws p (u ∷ []) is) is
 
-offset-fits : (p : Progress) (u : Val) → Is P.the_row p (u ∷ []) → WT (vint w64 p.offset)
-offset-fits p u is = record { fits = (LL.owed P.the_type P'.the_laws p (u ∷ []) is).1.1.1.1.0.1 }
+offset_fits : (p : Progress) (u : Val) → Is P.the_row p (u ∷ []) → WT (vint w64 p.offset)
+offset_fits p u is = record { fits = (LL.owed P.the_type P'.the_laws p (u ∷ []) is).1.1.1.1.0.1 }
 
-line-fits : (p : Progress) (u : Val) → Is P.the_row p (u ∷ []) → WT (vint w32 p.line)
-line-fits p u is = record { fits = (LL.owed P.the_type P'.the_laws p (u ∷ []) is).1.1.1.0.1 }
+line_fits : (p : Progress) (u : Val) → Is P.the_row p (u ∷ []) → WT (vint w32 p.line)
+line_fits p u is = record { fits = (LL.owed P.the_type P'.the_laws p (u ∷ []) is).1.1.1.0.1 }
 
-not-ended : (b : Bool) → Holds (not b) → b ≡ false
-not-ended true h = absurd h
-not-ended false h = refl
+not_ended : (b : Bool) → Holds (not b) → b ≡ false
+not_ended true h = absurd h
+not_ended false h = refl
 
-is-ended : (b : Bool) → Holds (not (not b)) → b ≡ true
-is-ended true h = refl
-is-ended false h = absurd h
+is_ended : (b : Bool) → Holds (not (not b)) → b ≡ true
+is_ended true h = refl
+is_ended false h = absurd h
 
 -- ---- the loop's state
 record St (ranked : Bool) (text : List ℕ) (count : ℕ) : Type 0 where
@@ -127,7 +127,7 @@ module _ {ranked : Bool} {text : List ℕ} {count : ℕ} where
   module _ (x : St ranked text count) (go : Holds (not x.p.ended)) (p' : Progress) (ms : List ℕ)
       (t : TakesLine x.p text x.p.offset x.p.line x.ns p' ms) where
     moved : Next ranked text x.left p' ms
-    moved = turn ranked text x.stands (not-ended x.p.ended go) p' ms t
+    moved = turn ranked text x.stands (not_ended x.p.ended go) p' ms t
 
     -- one line more
     abbrev next : Is P.the_row p' (pval p' ∷ []) → length ms ≡ count → St ranked text count
@@ -141,12 +141,12 @@ module _ {M : Type 1} {𝓤 : Ura M} (𝓛 : Logic 𝓤) (mem : Memory → SProp
   Start = Asks 𝓛 start.ended (start.clauses 𝓛 mem run)
 
   abbrev TakeLine : Contract 𝓤
-  TakeLine = Asks 𝓛 take-line.ended (take-line.clauses 𝓛 mem run)
+  TakeLine = Asks 𝓛 take_line.ended (take_line.clauses 𝓛 mem run)
 
   -- and what is known of the calls
   record Known (C : Calls 𝓤 H) : Type 2 where
     start : Triple 𝓤 (C #start) Start
-    take-line : Triple 𝓤 (C #take-line) TakeLine
+    take_line : Triple 𝓤 (C #take_line) TakeLine
 
 module _ {M : Type 1} {𝓤 : Ura M} (𝓛 : Logic 𝓤) (mem : Memory → SProp 𝓤)
     (run : Routine → Fun 𝓤) (κ κ' : Lft) (q r : Share) (s : MutBor (List ℕ)) (ranked : Bool) (d e : ℕ) (δ : GName)
@@ -193,14 +193,14 @@ module _ {M : Type 1} {𝓤 : Ura M} (𝓛 : Logic 𝓤) (mem : Memory → SProp
   abbrev to_start : (Start 𝓛 mem run).Ghost
   to_start = ((tt, tt, tt, (ranked, tt), (vbool ranked ∷ [], tt)), tt)
 
-  goes-start : ent 𝓤 (emp 𝓤) ((Start 𝓛 mem run).pre to_start)
-  goes-start =
+  goes_start : ent 𝓤 (emp 𝓤) ((Start 𝓛 mem run).pre to_start)
+  goes_start =
       qed 𝓛 [] ∵ nothing ! $ owned ! bool (Is bool) (bool_Makes 𝓛) ranked _ refl $ fjoin ! $ nothing ! $
       join ! $ frame ! $ done !
 
   module _ (x : State) where
-    abbrev to-line : ℕ → GName → (TakeLine 𝓛 mem run).Ghost
-    to-line α ε = (
+    abbrev to_line : ℕ → GName → (TakeLine 𝓛 mem run).Ghost
+    to_line α ε = (
       (
         (κ, (α ∷ [], tt)),
         (q, (full_share, tt)),
@@ -217,17 +217,17 @@ module _ {M : Type 1} {𝓤 : Ura M} (𝓛 : Logic 𝓤) (mem : Memory → SProp
     abbrev tokens : ℕ → Item 𝓤
     tokens α = ‵ (flft κ q) ⊛ (‵ (flft (α ∷ []) full_share) ⊛ ‵ ftrue)
 
-    goes-line : (α : ℕ) (ε : GName)
+    goes_line : (α : ℕ) (ε : GName)
         → Stands s.now x.p.offset x.p.stand x.p.line x.ns
         → ent 𝓤 (⋆ 𝓛 (tokens α ∷ ‵ OwnText ∷ ‵ (Own (α ∷ []) ε x.ns) ∷ []))
-        ((TakeLine 𝓛 mem run).pre (to-line α ε))
-    goes-line α ε h =
+        ((TakeLine 𝓛 mem run).pre (to_line α ε))
+    goes_line α ε h =
         qed 𝓛 (tokens α ∷ ‵ OwnText ∷ ‵ (Own (α ∷ []) ε x.ns) ∷ []) ∵ says ! h $ frame ! $
         nothing ! $ move ! (2 ∷ 0 ∷ []) $ fjoin ! $
         owned ! P.the_row (Is P.the_row) (LL.makes P.the_type P'.the_plain 𝓛) x.p _ x.is $ fjoin ! $
-        owned ! u32 (Is u32) (uint_Makes 𝓛 w32) x.p.line _ (refl, (line-fits x.p _ x.is).fits) $
+        owned ! u32 (Is u32) (uint_Makes 𝓛 w32) x.p.line _ (refl, (line_fits x.p _ x.is).fits) $
         fjoin ! $
-        owned ! usize (Is usize) (uint_Makes 𝓛 w64) x.p.offset _ (refl, (offset-fits x.p _ x.is).fits) $
+        owned ! usize (Is usize) (uint_Makes 𝓛 w64) x.p.offset _ (refl, (offset_fits x.p _ x.is).fits) $
         fjoin ! $ move ! (1 ∷ 0 ∷ []) $ fjoin ! $ done !
 
     exits : Ends (all ranked s.now) x.p x.ns
@@ -287,9 +287,9 @@ module _ {M : Type 1} {𝓤 : Ura M} (𝓛 : Logic 𝓤) (mem : Memory → SProp
         assigns ! (of_opd ! (load ! (from ! (fld ! refl (stop !))) (look_in ! 18 (sub ! 0 refl (whole !)))))
         (from ! (stop !)) (init ! 12 refl (tt, ((shr_slice_Lawful 𝓛 (named 0) κ u8).typed s (v ∷ []) is).0.1)) $
         assigns ! (of_opd ! (load ! (from ! (fld ! refl (stop !))) (look_in ! 18 (sub ! 1 refl (whole !)))))
-        (from ! (stop !)) (init ! 10 refl (tt, offset-fits x.p _ x.is)) $
+        (from ! (stop !)) (init ! 10 refl (tt, offset_fits x.p _ x.is)) $
         assigns ! (of_opd ! (load ! (from ! (fld ! refl (stop !))) (look_in ! 18 (sub ! 2 refl (whole !)))))
-        (from ! (stop !)) (init ! 8 refl (tt, line-fits x.p _ x.is)) $
+        (from ! (stop !)) (init ! 8 refl (tt, line_fits x.p _ x.is)) $
         assigns ! (addr ! (from ! (fld ! refl (hop ! (look_in ! 20 (sub ! 0 refl (whole !))) (stop !)))))
         (from ! (stop !)) (init ! 6 refl (tt, tt)) $
         assigns ! (agg ! (and_then ! (load ! (from ! (stop !)) (look ! 6 refl))
@@ -305,11 +305,11 @@ module _ {M : Type 1} {𝓤 : Ura M} (𝓛 : Logic 𝓤) (mem : Memory → SProp
         -- [the numbers, lent; what is had of them; α's token; what the text owns, twice; its token; _11; …]
         pick ! (λ ε. split ! $ nothing ! $ move ! (3 ∷ 0 ∷ []) $ join ! $ move ! (5 ∷ 0 ∷ []) $ join ! $
         move ! (0 ∷ 3 ∷ 1 ∷ []) $
-        use3 𝓛 (raw ((TakeLine 𝓛 mem run).pre (to-line x α ε)))
-        (goes-line x α ε (going x.stands (not-ended _ go)).stands.1) $
+        use3 𝓛 (raw ((TakeLine 𝓛 mem run).pre (to_line x α ε)))
+        (goes_line x α ε (going x.stands (not_ended _ go)).stands.1) $
         -- [what `take_line` asks; what is had of the numbers; what the text owns; _11; …]
-        calls-left ! (fm_of 𝓤 H 𝓛.laws 𝓣) take-line.ended (take-line.clauses 𝓛 mem run) known.take-line
-        (to-line x α ε) (tokens x α) refl
+        calls_left ! (fm_of 𝓤 H 𝓛.laws 𝓣) take_line.ended (take_line.clauses 𝓛 mem run) known.take_line
+        (to_line x α ε) (tokens x α) refl
         (λ p ws. TakesLine x.p s.now x.p.offset x.p.line x.ns p ws.1.1.1.1.0) (λ p ws. refl)
         (and_then ! (load ! (from ! (stop !)) (look ! 11 refl)) (and_then ! (load ! (from ! (stop !)) (look ! 9 refl))
         (and_then ! (load ! (from ! (stop !)) (look ! 7 refl)) (and_then ! (load ! (from ! (stop !)) (look ! 15 refl))
@@ -329,11 +329,11 @@ module _ {M : Type 1} {𝓤 : Ura M} (𝓛 : Logic 𝓤) (mem : Memory → SProp
         -- [the numbers; their token; true; the text's token; what the text owns; _11; …]
         move ! (2 ∷ []) $ drop ! $ move ! (3 ∷ 2 ∷ []) $
         assigns ! (of_opd ! (load ! (from ! (fld ! refl (stop !))) (look_in ! 16 (sub ! 4 refl (whole !)))))
-        (from ! (fld ! refl (stop !))) (store_in ! 18 (sub ! 1 refl (whole !)) (tt, offset-fits p u ip)) $
+        (from ! (fld ! refl (stop !))) (store_in ! 18 (sub ! 1 refl (whole !)) (tt, offset_fits p u ip)) $
         assigns_last ! (of_opd ! (load ! (from ! (fld ! refl (stop !))) (look_in ! 16 (sub ! 3 refl (whole !)))))
-        (from ! (fld ! refl (stop !))) (store_in ! 18 (sub ! 2 refl (whole !)) (tt, line-fits p u ip)) $
+        (from ! (fld ! refl (stop !))) (store_in ! 18 (sub ! 2 refl (whole !)) (tt, line_fits p u ip)) $
         forget ! 4 refl $ forget ! 6 refl $ forget ! 8 refl $ forget ! 10 refl $ forget ! 12 refl $ forget ! 14 refl $
-        again ! Nearer At x (next x go p ws.1.1.1.1.0 t (at-val p u ip) (long ∙ x.counted))
+        again ! Nearer At x (next x go p ws.1.1.1.1.0 t (at_val p u ip) (long ∙ x.counted))
         (moved x go p ws.1.1.1.1.0 t).less)))))
         (λ none. jumps ! $ exec ! C Λ En t-4 (at_ret En Post) $
         assigns ! (of_opd ! (load ! (from ! (stop !)) (look ! 16 refl))) (from ! (stop !))
@@ -344,7 +344,7 @@ module _ {M : Type 1} {𝓤 : Ura M} (𝓛 : Logic 𝓤) (mem : Memory → SProp
         move ! (18 ∷ 19 ∷ []) $ free1 ! $ move ! (16 ∷ 17 ∷ []) $ free1 ! $ move ! (14 ∷ 15 ∷ []) $ free1 ! $
         move ! (12 ∷ 13 ∷ []) $ free1 ! $ move ! (10 ∷ 11 ∷ []) $ free1 ! $ move ! (8 ∷ 9 ∷ []) $ free1 ! $
         move ! (6 ∷ 7 ∷ []) $ free1 ! $ move ! (4 ∷ 5 ∷ []) $ free1 ! $ free0 ! $ drop ! $
-        by ! (exits x (finished x.stands (is-ended _ none))))
+        by ! (exits x (finished x.stands (is_ended _ none))))
 
     -- the loop, and the rest of the body
     looped : (x : State) → Sq 𝓛 (At x) (runs C Λ En t-3 (at_ret En Post))
@@ -366,9 +366,9 @@ module _ {M : Type 1} {𝓤 : Ura M} (𝓛 : Logic 𝓤) (mem : Memory → SProp
         assigns ! (agg ! (and_then ! (load ! (from ! (stop !)) (look ! 20 refl))
         (and_then ! (lit ! tt) (and_then ! (lit ! tt) (no_more !))))) (from ! (stop !))
         (init ! 14 refl (tt, (ok.1, (record { fits = lit< tt }, (record { fits = lit< tt }, tt))))) $
-        use0 𝓛 (raw ((Start 𝓛 mem run).pre to_start)) goes-start $
+        use0 𝓛 (raw ((Start 𝓛 mem run).pre to_start)) goes_start $
         -- [what `start` asks; _11; …; _0; …; the tokens; what the parameters own]
-        calls-told ! (fm_of 𝓤 H 𝓛.laws 𝓣) start.ended (start.clauses 𝓛 mem run) known.start to_start
+        calls_told ! (fm_of 𝓤 H 𝓛.laws 𝓣) start.ended (start.clauses 𝓛 mem run) known.start to_start
         (‵ ftrue) refl (λ (p : Progress). p ≡ begun ranked) (λ p _. refl)
         (and_then ! (load ! (from ! (stop !)) (look ! 19 refl)) (no_more !))
         (λ u p b ip. drop ! $ drop ! $
@@ -381,15 +381,15 @@ module _ {M : Type 1} {𝓤 : Ura M} (𝓛 : Logic 𝓤) (mem : Memory → SProp
         -- [the numbers' token; the text's; the numbers; what the text owns; _11; …; _0; …]
         move ! (3 ∷ 1 ∷ 2 ∷ []) $
         looped 𝓣 known is sized l₀ l₁ l₂ l₃ l₄ l₅ l₆ l₇ l₈ l₉ l₁₀ l₁₁
-        (opened p b (at-val p u ip) ns₀ refl h))))))))))))))
+        (opened p b (at_val p u ip) ns₀ refl h))))))))))))))
 
 module _ {M : Type 1} {𝓤 : Ura M} (𝓛 : Logic 𝓤) (mem : Memory → SProp 𝓤)
     (run : Routine → Fun 𝓤) (𝓣 : Tables 𝓤 𝓛.H) (known : Known 𝓛 mem run 𝓣.C) where
   open 𝓛 use {H}
 
-  read-lines-walks : Walks 𝓛 read-lines.ended stayed (WpFn 𝓤 H 𝓣.C 𝓣.Λ code.function)
+  read_lines_walks : Walks 𝓛 read-lines.ended stayed (WpFn 𝓤 H 𝓣.C 𝓣.Λ code.function)
       (read-lines.clauses 𝓛 mem run)
-  read-lines-walks =
+  read_lines_walks =
       walked 𝓛 read-lines.ended stayed (read-lines.clauses 𝓛 mem run) (WpFn 𝓤 H 𝓣.C 𝓣.Λ code.function)
       (λ κs. (shr_slice_vals, (bool_vals, (shr_slice_vals, tt))))
       (λ κs. (
@@ -400,9 +400,9 @@ module _ {M : Type 1} {𝓤 : Ura M} (𝓛 : Logic 𝓤) (mem : Memory → SProp
       (walk 𝓛 mem run κs.0 κs.1.0 qs.0 qs.1.0 a.0 a.1.0 a.1.1.0.ptr.0
       a.1.1.0.ref_ptr.1 a.1.1.0.ghost_name a.1.1.0.now 𝓣 known are.0 are.1.1.0.0.1))
 
-  read-lines-meets : Meets 𝓛 read-lines.signature (WpFn 𝓤 H 𝓣.C 𝓣.Λ code.function)
+  read_lines_meets : Meets 𝓛 read-lines.signature (WpFn 𝓤 H 𝓣.C 𝓣.Λ code.function)
       (read-lines.spec 𝓛 mem run)
-  read-lines-meets =
+  read_lines_meets =
       walk_Meets 𝓛 read-lines.ended stayed (
         Goes-dropped 𝓛 2 (shr_slice_of (0 ∷ []) tt (plain (λ _. u8))) yes (λ κs x f. refl),
         (
@@ -411,19 +411,19 @@ module _ {M : Type 1} {𝓤 : Ura M} (𝓛 : Logic 𝓤) (mem : Memory → SProp
         ),
       )
       (read-lines.clauses 𝓛 mem run) (WpFn 𝓤 H 𝓣.C 𝓣.Λ code.function)
-      (WpFn-mono 𝓤 H 𝓛.laws 𝓣 code.function) read-lines-walks
+      (WpFn-mono 𝓤 H 𝓛.laws 𝓣 code.function) read_lines_walks
 
-pub read-lines-spec : {M : Type 1} → stated.statement M
+pub read_lines_spec : {M : Type 1} → stated.statement M
 unfolding code.routine tables_of
-read-lines-spec 𝓤 𝓛 𝓜 𝓡 =
+read_lines_spec 𝓤 𝓛 𝓜 𝓡 =
     let 𝓣 = tables 𝓤 𝓛.H 𝓜 𝓡 code.env in
     let A = 𝓛.A in
     entered 𝓤 𝓛.H (triple_of 𝓛 read-lines.signature (read-lines.spec 𝓛 𝓜.mem 𝓡.run))
     𝓣.C 𝓣.Λ #read-lines code.function (code.unfolded 𝓤 𝓛.H 𝓜 𝓡)
-    (read-lines-meets 𝓛 𝓜.mem 𝓡.run (tables_of 𝓤 𝓛.H 𝓜 𝓣)
+    (read_lines_meets 𝓛 𝓜.mem 𝓡.run (tables_of 𝓤 𝓛.H 𝓜 𝓣)
     (record {
       start = cited 𝓤 𝓛.H (Start 𝓛 𝓜.mem 𝓡.run) 𝓜 𝓡 code.env #start
           start-def.routine code.calls-readers::progress::Progress::start (start-thm.met 𝓤 𝓛 𝓜 𝓡);
-      take-line = cited 𝓤 𝓛.H (TakeLine 𝓛 𝓜.mem 𝓡.run) 𝓜 𝓡 code.env #take-line
-          take-line-def.routine code.calls-readers::progress::take-line (take-line-thm.met 𝓤 𝓛 𝓜 𝓡);
+      take_line = cited 𝓤 𝓛.H (TakeLine 𝓛 𝓜.mem 𝓡.run) 𝓜 𝓡 code.env #take_line
+          take-line-def.routine code.calls-readers::progress::take_line (take-line-thm.met 𝓤 𝓛 𝓜 𝓡);
     }))

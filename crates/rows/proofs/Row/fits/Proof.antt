@@ -9,8 +9,8 @@ use Rattle.basics.proofs.Tests.{le-or-lt}
 use Rattle.rows.proofs.Row.fits.Statement.{statement}
 use Rattle.rows.proofs.Row.fits.Tie as tie
 
-taken-off : (worst switch period : ℕ) → switch ≤ period → leb worst (period - switch) ≡ leb (worst + switch) period
-taken-off worst switch period h =
+taken_off : (worst switch period : ℕ) → switch ≤ period → leb worst (period - switch) ≡ leb (worst + switch) period
+taken_off worst switch period h =
     elim (le-or-lt (worst + switch) period) [
       | inl l ↦ le-leb worst (period - switch) (omega arith) ∙ sym (le-leb (worst + switch) period l)
       | inr l ↦ lt-leb worst (period - switch) (omega arith) ∙ sym (lt-leb (worst + switch) period l)
@@ -24,7 +24,7 @@ returns c =
 returns-2 : tie.Need-returns-2
 returns-2 c =
     let a = c.before.args in
-    taken-off a.worst a.switch a.period (omega arith)
+    taken_off a.worst a.switch a.period (omega arith)
 
-pub fits-spec : {M : Type 1} → statement M
-fits-spec = tie.close (tie.spec returns returns-2)
+pub fits_spec : {M : Type 1} → statement M
+fits_spec = tie.close (tie.spec returns returns-2)

@@ -5,16 +5,16 @@ use Prim.Native.Nat.{◌+◌, ◌-◌, ◌≤◌}
 use native.Mathlib.Omega.{arith}
 use lib.ListN.{drop}
 use borrow.Author.Tests.{eq-eqb, ne_eqb}
-use Rattle.rows.specs.Rows.{hasTask}
+use Rattle.rows.specs.Rows.{has_task}
 use Rattle.rows.specs.inside.Numbers.{rows_of}
-use Rattle.rows.proofs.RowNumbers.{rowsPast, past_end, past_all, scan-task}
+use Rattle.rows.proofs.RowNumbers.{rows_past, past_end, past_all, scan_task}
 use Rattle.rows.proofs.numbers.has_task.Statement.{statement}
 use Rattle.rows.proofs.numbers.has_task.Tie as tie
 
 abbrev invariant-loop : tie.invariant-loop
 invariant-loop numbers start count task i₀ i =
     let ws = drop start numbers in
-    (i ≤ count) × (hasTask task (rows_of count ws) ≡ hasTask task (rowsPast count i ws))
+    (i ≤ count) × (has_task task (rows_of count ws) ≡ has_task task (rows_past count i ws))
 
 abbrev decreases-loop : tie.decreases-loop
 decreases-loop numbers start count task i₀ i = count - i
@@ -23,7 +23,7 @@ loop-holds : tie.Need-loop-init invariant-loop decreases-loop
 loop-holds c =
     let a = c.args in (
       omega arith,
-      ap (hasTask a.task) (past_all a.count (drop a.start a.numbers.now)),
+      ap (has_task a.task) (past_all a.count (drop a.start a.numbers.now)),
     )
 
 mul-if1 : tie.Need-overflow-mul-if1 invariant-loop decreases-loop
@@ -45,9 +45,9 @@ returns : tie.Need-returns invariant-loop decreases-loop
 returns c =
     let a = c.before.before.before.before.args in
     let x = c.before.before.before.loop in
-    let rest = rowsPast a.count (x.i + 1) (drop a.start a.numbers.now) in
-    sym (x.invariant.1 ∙ scan-task a.task a.count x.i a.start a.numbers.now (omega arith)
-    ∙ ap (λ b. b || hasTask a.task rest) (eq-eqb _ _ c.if1.true))
+    let rest = rows_past a.count (x.i + 1) (drop a.start a.numbers.now) in
+    sym (x.invariant.1 ∙ scan_task a.task a.count x.i a.start a.numbers.now (omega arith)
+    ∙ ap (λ b. b || has_task a.task rest) (eq-eqb _ _ c.if1.true))
 
 add-i : tie.Need-overflow-add-i invariant-loop decreases-loop
 add-i c = omega arith
@@ -59,10 +59,10 @@ loop-again : tie.Need-loop-preserved invariant-loop decreases-loop
 loop-again c =
     let a = c.before.before.before.before.args in
     let x = c.before.before.before.loop in
-    let rest = rowsPast a.count (x.i + 1) (drop a.start a.numbers.now) in (
+    let rest = rows_past a.count (x.i + 1) (drop a.start a.numbers.now) in (
       omega arith,
-      x.invariant.1 ∙ scan-task a.task a.count x.i a.start a.numbers.now (omega arith)
-          ∙ ap (λ b. b || hasTask a.task rest) (ne_eqb _ _ c.if1.false),
+      x.invariant.1 ∙ scan_task a.task a.count x.i a.start a.numbers.now (omega arith)
+          ∙ ap (λ b. b || has_task a.task rest) (ne_eqb _ _ c.if1.false),
     )
 
 returns-2 : tie.Need-returns-2 invariant-loop decreases-loop
@@ -70,10 +70,10 @@ returns-2 c =
     let a = c.before.before.args in
     let x = c.before.loop in
     let none = past_end a.count x.i (drop a.start a.numbers.now) (omega arith) in
-    sym (x.invariant.1 ∙ ap (hasTask a.task) none)
+    sym (x.invariant.1 ∙ ap (has_task a.task) none)
 
-pub has-task-spec : {M : Type 1} → statement M
-has-task-spec =
+pub has_task_spec : {M : Type 1} → statement M
+has_task_spec =
     tie.close
     (tie.spec
     invariant-loop

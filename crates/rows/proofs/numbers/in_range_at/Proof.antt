@@ -29,10 +29,10 @@ returns c =
       n₇.number-at7.ensures,
       s.switch-at.ensures,
     ) at k.keeps.ensures)
-    c.curve-keeps.ensures
+    c.curve_keeps.ensures
 
-pub in-range-at-spec : {M : Type 1} → statement M
-in-range-at-spec =
+pub in_range_at_spec : {M : Type 1} → statement M
+in_range_at_spec =
     tie.close
     (tie.spec (λ c κs. search rules) (λ c κs. search rules) (λ c κs. search rules) (λ c κs. search rules)
     (λ c κs. search rules) (λ c κs. search rules) (λ c κs. search rules) (λ c κs. search rules) (λ c κs. search rules)

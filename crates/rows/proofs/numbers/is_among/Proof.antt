@@ -9,25 +9,25 @@ use lib.Dec.{eqb}
 use lib.ListN.{length, get_or, take, drop}
 use borrow.Author.Rules.{rules}
 use borrow.Author.Tests.{eq-eqb, ne_eqb}
-use Rattle.basics.specs.Basics.{isIn}
-use Rattle.basics.proofs.Fronts.{left-none, left-next}
+use Rattle.basics.specs.Basics.{is_in}
+use Rattle.basics.proofs.Fronts.{left_none, left_next}
 use Rattle.rows.specs.inside.Numbers.{between}
 use Rattle.rows.proofs.numbers.is_among.Statement.{statement}
 use Rattle.rows.proofs.numbers.is_among.Tie as tie
 
 abbrev invariant-loop : tie.invariant-loop
 invariant-loop numbers start count value end i₀ i =
-    (i ≤ end) × (isIn value (between start count numbers) ≡ isIn value (drop i (take end numbers)))
+    (i ≤ end) × (is_in value (between start count numbers) ≡ is_in value (drop i (take end numbers)))
 
 abbrev decreases-loop : tie.decreases-loop
 decreases-loop numbers start count value end i₀ i = end - i
 
 -- the number at i, and those after it
 here : (ns : List ℕ) (end value i : ℕ) → i < end → end ≤ length ns
-    → isIn value (drop i (take end ns)) ≡ (eqb value (get_or ns i 0) || isIn value (drop (i + 1) (take end ns)))
+    → is_in value (drop i (take end ns)) ≡ (eqb value (get_or ns i 0) || is_in value (drop (i + 1) (take end ns)))
 here ns end value i h l =
-    ap (isIn value) (left-next ns end i 0 h l)
-    ∙ ap (λ j. eqb value (get_or ns i 0) || isIn value (drop j (take end ns))) (sym (add-one i))
+    ap (is_in value) (left_next ns end i 0 h l)
+    ∙ ap (λ j. eqb value (get_or ns i 0) || is_in value (drop j (take end ns))) (sym (add-one i))
 
 loop-holds : tie.Need-loop-init invariant-loop decreases-loop
 loop-holds c = (omega arith, refl)
@@ -47,7 +47,7 @@ returns c =
     let x = c.before.before.before.loop in
     let ns = a.numbers.now in
     sym (x.invariant.1 ∙ here ns (a.start + a.count) a.value x.i (omega arith) (omega arith)
-    ∙ ap (λ b. b || isIn a.value (drop (x.i + 1) (take (a.start + a.count) ns))) (eq-eqb _ _ c.if1.true))
+    ∙ ap (λ b. b || is_in a.value (drop (x.i + 1) (take (a.start + a.count) ns))) (eq-eqb _ _ c.if1.true))
 
 add-i : tie.Need-overflow-add-i invariant-loop decreases-loop
 add-i c = omega arith
@@ -63,17 +63,17 @@ loop-again c =
     let end = a.start + a.count in (
       omega arith,
       x.invariant.1 ∙ here ns end a.value x.i (omega arith) (omega arith)
-          ∙ ap (λ b. b || isIn a.value (drop (x.i + 1) (take end ns))) (ne_eqb _ _ c.if1.false),
+          ∙ ap (λ b. b || is_in a.value (drop (x.i + 1) (take end ns))) (ne_eqb _ _ c.if1.false),
     )
 
 returns-2 : tie.Need-returns-2 invariant-loop decreases-loop
 returns-2 c =
     let a = c.before.before.args in
     let x = c.before.loop in
-    sym (x.invariant.1 ∙ ap (isIn a.value) (left-none a.numbers.now (a.start + a.count) x.i (omega arith)))
+    sym (x.invariant.1 ∙ ap (is_in a.value) (left_none a.numbers.now (a.start + a.count) x.i (omega arith)))
 
-pub is-among-spec : {M : Type 1} → statement M
-is-among-spec =
+pub is_among_spec : {M : Type 1} → statement M
+is_among_spec =
     tie.close
     (tie.spec
     invariant-loop

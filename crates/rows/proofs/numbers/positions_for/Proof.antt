@@ -8,10 +8,10 @@ use borrow.Author.Rules.{rules}
 use lib.ListN.{length, get_or, take, drop, set, length-set}
 use lib.Seq.{take-suc, length-take-le}
 use Rattle.rows.specs.Rows.{Row}
-use Rattle.rows.specs.Rows.{tasksOf, position_of}
-use Rattle.rows.specs.inside.Numbers.{rows_of, positionsFor}
-use Rattle.rows.proofs.Arrays.{front-next}
-use Rattle.rows.proofs.Tasks.{positions-last, positions-length}
+use Rattle.rows.specs.Rows.{tasks_of, position_of}
+use Rattle.rows.specs.inside.Numbers.{rows_of, positions_for}
+use Rattle.rows.proofs.Arrays.{front_next}
+use Rattle.rows.proofs.Tasks.{positions_last, positions_length}
 use Rattle.rows.proofs.numbers.positions_for.Statement.{statement}
 use Rattle.rows.proofs.numbers.positions_for.Tie as tie
 
@@ -19,24 +19,24 @@ abbrev invariant-loop : tie.invariant-loop
 invariant-loop tasks rows n positions₀ k₀ positions k =
     (k ≤ n)
     × (length positions ≡ length positions₀)
-    × (positions ≡ positionsFor (take k tasks) (rows_of n rows) ++ drop k positions₀)
+    × (positions ≡ positions_for (take k tasks) (rows_of n rows) ++ drop k positions₀)
 
 abbrev decreases-loop : tie.decreases-loop
 decreases-loop tasks rows n positions₀ k₀ positions k = n - k
 
 -- one task more
 next : (ts : List ℕ) (rs : List Row) (ps qs : List ℕ) (k p : ℕ) → k < length ts → k < length ps
-    → p ≡ position_of (get_or ts k 0) (tasksOf rs)
-    → qs ≡ positionsFor (take k ts) rs ++ drop k ps
-    → set qs k p ≡ positionsFor (take (suc k) ts) rs ++ drop (suc k) ps
+    → p ≡ position_of (get_or ts k 0) (tasks_of rs)
+    → qs ≡ positions_for (take k ts) rs ++ drop k ps
+    → set qs k p ≡ positions_for (take (suc k) ts) rs ++ drop (suc k) ps
 next ts rs ps qs k p l m is e =
-    let front = positionsFor (take k ts) rs in
-    let many = positions-length (take k ts) rs ∙ length-take-le k ts (omega arith) in
+    let front = positions_for (take k ts) rs in
+    let many = positions_length (take k ts) rs ∙ length-take-le k ts (omega arith) in
     ap (λ zs. set zs k p) e
-    ∙ front-next 0 front ps k p many m
+    ∙ front_next 0 front ps k p many m
     ∙ ap (λ x. (front ++ (x ∷ [])) ++ drop (suc k) ps) is
-    ∙ ap (λ zs. zs ++ drop (suc k) ps) (sym (ap (λ zs. positionsFor zs rs) (take-suc ts k 0 l)
-    ∙ positions-last (take k ts) (get_or ts k 0) rs))
+    ∙ ap (λ zs. zs ++ drop (suc k) ps) (sym (ap (λ zs. positions_for zs rs) (take-suc ts k 0 l)
+    ∙ positions_last (take k ts) (get_or ts k 0) rs))
 
 loop-holds : tie.Need-loop-init invariant-loop decreases-loop
 loop-holds c = (omega arith, refl, refl)
@@ -85,8 +85,8 @@ returns c =
     let all : x.k ≡ a.n = omega arith in
     rw all at x.invariant.2
 
-pub positions-for-spec : {M : Type 1} → statement M
-positions-for-spec =
+pub positions_for_spec : {M : Type 1} → statement M
+positions_for_spec =
     tie.close
     (tie.spec
     invariant-loop

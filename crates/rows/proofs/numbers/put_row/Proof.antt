@@ -1,7 +1,7 @@
 -- `rows::numbers::put_row` meets its contract: nine numbers and a curve are written, or nothing.
 use borrow.Author.Rules.{rules}
 use Rattle.rows.specs.inside.Records.{as_row}
-use Rattle.rows.proofs.Putting.{row_put, row-left}
+use Rattle.rows.proofs.Putting.{row_put, row_left}
 use Rattle.rows.proofs.numbers.put_row.Statement.{statement}
 use Rattle.rows.proofs.numbers.put_row.Tie as tie
 
@@ -13,10 +13,10 @@ returns c =
 returns-2 : tie.Need-returns-2
 returns-2 c =
     let a = c.before.args in
-    row-left a.numbers.now a.i (as_row a.row) c.if1.false
+    row_left a.numbers.now a.i (as_row a.row) c.if1.false
 
-pub put-row-spec : {M : Type 1} → statement M
-put-row-spec =
+pub put_row_spec : {M : Type 1} → statement M
+put_row_spec =
     tie.close
     (tie.spec
     (λ c. search rules)

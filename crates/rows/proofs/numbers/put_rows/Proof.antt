@@ -25,8 +25,8 @@ use Rattle.rows.proofs.Walk.{look_in, sub, whole, addr, again, alloc0, alloc1, a
 use Rattle.rows.proofs.Walk.{bin, blocks, branches, enter, exec, first, fld, forget, free0, free1, from, hop}
 use Rattle.rows.proofs.Walk.{init, jumps, land, lit, load, look, look_raw, loops, no_more, of_opd, params1}
 use Rattle.rows.proofs.Walk.{pass0, pass1, returns, skips, stop, store, arr_parts, lft_new, lft_end, after}
-use Rattle.rows.proofs.Walk.{rowBytes, offset-fits}
-use Rattle.rows.proofs.Calls.{Asks, calls-left}
+use Rattle.rows.proofs.Walk.{row_bytes, offset_fits}
+use Rattle.rows.proofs.Calls.{Asks, calls_left}
 use mir.Syntax.{mut, ty_unit}
 use mir.Val.{vunit}
 use types.Kit.{feq_i}
@@ -37,10 +37,10 @@ use denote.Plain.{Nothing-Lawful}
 use denote.Ref.{MutRef, shr_vals, mut_Tells}
 use denote.Struct.Laws as LL
 use denote.Triple.Walked.{stay_ref, Goes-ref}
-use Rattle.rows.specs.Rows.{maxTasks, row_at}
+use Rattle.rows.specs.Rows.{max_tasks, row_at}
 use Rattle.rows.specs.declared.Row.{Row}
 use Rattle.rows.specs.inside.Numbers.{row_in}
-use Rattle.rows.specs.inside.Records.{as_row, asRows, noRecord, numbersRoom, FewPoints, RowPut, RowsPut}
+use Rattle.rows.specs.inside.Records.{as_row, as_rows, no_record, numbers_room, FewPoints, RowPut, RowsPut}
 use lib.ListN.{length-map, get_or-map}
 use mathlib.Core.Path.{subst}
 use Rattle.rows.proofs.RowNumbers.{rows_are}
@@ -60,7 +60,7 @@ use Rattle.rows.proofs.numbers.put_rows.Code.Mir.{turn-1, t-2, t-3}
 abbrev stayed : Stays (put-rows.ended).signature.params (put-rows.ended).kept
 stayed = (
   stay_dropped (shr_slice_of (0 ∷ []) tt (plain (λ _. T.the_row))) yes,
-  (stay_ref (1 ∷ []) tt (ArrayOf (plain (λ _. u64)) (λ _. tt) numbersRoom), tt),
+  (stay_ref (1 ∷ []) tt (ArrayOf (plain (λ _. u64)) (λ _. tt) numbers_room), tt),
 )
 
 abbrev word : Ty
@@ -71,13 +71,13 @@ slice = slice_ty (ty_ref (named 0) imm (pointee (T.the_row).written))
 
 -- the numbers' array, and a reference to it
 abbrev array : Ty
-array = ty_array word numbersRoom
+array = ty_array word numbers_room
 
 abbrev lent : Ty
 lent = ty_ref (named 1) mut array
 
-abbrev again-lent : Ty
-again-lent = ty_ref erased mut array
+abbrev again_lent : Ty
+again_lent = ty_ref erased mut array
 
 -- the loop's state and its invariant
 record St (ys : List Row) (ns₀ : List ℕ) : Type 0 where
@@ -85,8 +85,8 @@ record St (ys : List Row) (ns₀ : List ℕ) : Type 0 where
   ns : List ℕ
   within : i ≤ length ys
   long : length ns ≡ length ns₀
-  so : numbersRoom ≤ length ns₀ → FewPoints (asRows ys) → (k : ℕ) → k < i → k < maxTasks
-      → row_in ns k ≡ row_at (asRows ys) k
+  so : numbers_room ≤ length ns₀ → FewPoints (as_rows ys) → (k : ℕ) → k < i → k < max_tasks
+      → row_in ns k ≡ row_at (as_rows ys) k
 
 module _ (ys : List Row) (ns₀ : List ℕ) where
   abbrev Nearer : St ys ns₀ → St ys ns₀ → Type 0
@@ -97,21 +97,21 @@ module _ (ys : List Row) (ns₀ : List ℕ) where
 
   -- one record more
   abbrev next : (x : St ys ns₀) → x.i < length ys → (zs : List ℕ)
-      → RowPut x.ns x.i (as_row (get_or ys x.i noRecord)) zs → St ys ns₀
+      → RowPut x.ns x.i (as_row (get_or ys x.i no_record)) zs → St ys ns₀
   next x l zs p = record {
     i = x.i + 1;
     ns = zs;
     within = add-one-le l;
     long = p.long ∙ x.long;
-    so = λ room few. put_next x.ns zs (asRows ys) x.i (omega (arith, room, x.long)) (x.so room few)
-        (subst (λ t. RowPut x.ns x.i t zs) (sym (get_or-map as_row ys x.i noRecord)) p)
+    so = λ room few. put_next x.ns zs (as_rows ys) x.i (omega (arith, room, x.long)) (x.so room few)
+        (subst (λ t. RowPut x.ns x.i t zs) (sym (get_or-map as_row ys x.i no_record)) p)
         (few x.i (omega (arith, l, length-map ys as_row)));
   }
 
   -- none is left
-  over : (x : St ys ns₀) → length ys ≤ x.i → RowsPut (asRows ys) ns₀ x.ns
+  over : (x : St ys ns₀) → length ys ≤ x.i → RowsPut (as_rows ys) ns₀ x.ns
   over x h = record {
-    there = λ room few points. rows_are x.ns (asRows ys) (λ k l.
+    there = λ room few points. rows_are x.ns (as_rows ys) (λ k l.
         x.so room points k (omega (arith, h, l, length-map ys as_row)) (omega (arith, few, l)));
     long = x.long;
   }
@@ -140,7 +140,7 @@ module _ {M : Type 1} {𝓤 : Ura M} (𝓛 : Logic 𝓤) (mem : Memory → SProp
   held ε ns = record { ref_ptr = (d, e); ghost_name = ε; now = ns }
 
   abbrev Own : Lft → GName → List ℕ → Fml
-  Own ι ε ns = (MutRef (named 0) ι (Array u64 numbersRoom)).own_val (held ε ns) (vptr d e ∷ [])
+  Own ι ε ns = (MutRef (named 0) ι (Array u64 numbers_room)).own_val (held ε ns) (vptr d e ∷ [])
 
   abbrev Arg : Type 0
   Arg = Bor (List Row) × (Bor (List ℕ) × Unit {0})
@@ -159,8 +159,8 @@ module _ {M : Type 1} {𝓤 : Ura M} (𝓛 : Logic 𝓤) (mem : Memory → SProp
   mach x = LL.val T.the_type T'.the_laws x
 
   -- the call: what it is passed, and what it asks
-  abbrev to-put-row : ℕ → GName → List ℕ → ℕ → Row → (PutRow 𝓛 mem run).Ghost
-  to-put-row α ε ns i x = (
+  abbrev to_put_row : ℕ → GName → List ℕ → ℕ → Row → (PutRow 𝓛 mem run).Ghost
+  to_put_row α ε ns i x = (
     (
       (α ∷ [], tt),
       (full_share, tt),
@@ -171,18 +171,18 @@ module _ {M : Type 1} {𝓤 : Ura M} (𝓛 : Logic 𝓤) (mem : Memory → SProp
     tt,
   )
 
-  goes-put-row : (α : ℕ) (ε : GName) (ns : List ℕ) (i : ℕ) (x : Row)
+  goes_put_row : (α : ℕ) (ε : GName) (ns : List ℕ) (i : ℕ) (x : Row)
       → i < 2 ^ 64 → Is T.the_row x (mach x ∷ [])
       → ent 𝓤 (⋆ 𝓛 (‵ (flft (α ∷ []) full_share) ∷ ‵ (Own (α ∷ []) ε ns) ∷ []))
-      ((PutRow 𝓛 mem run).pre (to-put-row α ε ns i x))
-  goes-put-row α ε ns i x fits is =
+      ((PutRow 𝓛 mem run).pre (to_put_row α ε ns i x))
+  goes_put_row α ε ns i x fits is =
       qed 𝓛 (‵ (flft (α ∷ []) full_share) ∷ ‵ (Own (α ∷ []) ε ns) ∷ []) ∵
       nothing ! $ move ! (1 ∷ 0 ∷ []) $ join ! $
       nothing ! $ owned ! T.the_row (Is T.the_row) (LL.makes T.the_type T'.the_plain 𝓛) x _ is $ fjoin ! $
       owned ! usize (Is usize) (uint_Makes 𝓛 w64) i _ (refl, fits) $ fjoin ! $
       move ! (2 ∷ 0 ∷ []) $ fjoin ! $ move ! (1 ∷ 0 ∷ []) $ join ! $ frame ! $ done !
 
-  exits : (ns : List ℕ) → RowsPut (asRows ys) ns₀ ns
+  exits : (ns : List ℕ) → RowsPut (as_rows ys) ns₀ ns
       → ent 𝓤 (⋆ 𝓛 (‵ (flft κ q) ∷ ‵ (Own κ' δ ns) ∷ ‵ (flft κ' r) ∷ [])) (Post vunit)
   exits ns so =
       qed 𝓛 (‵ (flft κ q) ∷ ‵ (Own κ' δ ns) ∷ ‵ (flft κ' r) ∷ []) ∵
@@ -203,14 +203,14 @@ module _ {M : Type 1} {𝓤 : Ura M} (𝓛 : Logic 𝓤) (mem : Memory → SProp
 
     abbrev En : Env 𝓤 H
     En = (ty_unit, l₀) ∷ (slice, l₁) ∷ (lent, l₂) ∷ (word, l₃) ∷ (word, l₄) ∷ (ty_bool, l₅) ∷ (ty_unit, l₆)
-        ∷ (again-lent, l₇) ∷ (ty_ptr, l₈) ∷ (T'.mir, l₉) ∷ []
+        ∷ (again_lent, l₇) ∷ (ty_ptr, l₈) ∷ (T'.mir, l₉) ∷ []
 
     -- the slice's records and what shuts it, the numbers and their token, and the locals
     abbrev At : St ys ns₀ → List (Item 𝓤)
     At x = ‵ (row T.the_row q' ys b o) ∷ ‵ (fobor κ q ((arr_parts (shares T.the_row) n).part q' ys b o))
         ∷ ‵ (Own κ' δ x.ns) ∷ ‵ (flft κ' r)
         ∷ ‵ (froom T'.mir l₉ 0) ∷ ‵ (fdies T'.mir l₉) ∷ ‵ (froom ty_ptr l₈ 0) ∷ ‵ (fdies ty_ptr l₈)
-        ∷ ‵ (froom again-lent l₇ 0) ∷ ‵ (fdies again-lent l₇) ∷ ‵ (froom ty_unit l₆ 0) ∷ ‵ (fdies ty_unit l₆)
+        ∷ ‵ (froom again_lent l₇ 0) ∷ ‵ (fdies again_lent l₇) ∷ ‵ (froom ty_unit l₆ 0) ∷ ‵ (fdies ty_unit l₆)
         ∷ ‵ (froom ty_bool l₅ 0) ∷ ‵ (fdies ty_bool l₅) ∷ ‵ (froom word l₄ 0) ∷ ‵ (fdies word l₄)
         ∷ ‵ (fat full_share word l₃ 0 (vint w64 x.i)) ∷ ‵ (fdies word l₃)
         ∷ ‵ (fat full_share lent l₂ 0 (vptr d e)) ∷ ‵ (fdies lent l₂)
@@ -236,24 +236,24 @@ module _ {M : Type 1} {𝓤 : Ura M} (𝓛 : Logic 𝓤) (mem : Memory → SProp
         (store ! 14 refl (tt, record { fits = off (ltb→lt _ _ less) })) $
         assigns ! (bin ! (load ! (from ! (fld ! refl (stop !))) (look_in ! 20 (sub ! 0 refl (whole !))))
         (load ! (from ! (stop !)) (look ! 14 refl)) tt) (from ! (stop !)) (init ! 6 refl (tt, tt)) $
-        rewrite ! 6 (λ (p' : ℕ). ‵ (fat full_share ty_ptr l₈ 0 (vptr b p'))) (sym (place_is rowBytes o x.i)) refl $
+        rewrite ! 6 (λ (p' : ℕ). ‵ (fat full_share ty_ptr l₈ 0 (vptr b p'))) (sym (place_is row_bytes o x.i)) refl $
         elem_out ! T.the_row (Is T.the_row) (shows 𝓛 T.the_row) (LL.vals T.the_type T'.the_laws)
-        (LL.tells T.the_type T'.the_laws) q' ys x.i noRecord b o (ltb→lt _ _ less) (λ g.
+        (LL.tells T.the_type T'.the_laws) q' ys x.i no_record b o (ltb→lt _ _ less) (λ g.
         -- [the record; what it owns; the others; what shuts the slice; the numbers; their token; _9; …; _8; …]
         assigns ! (of_opd ! (load ! (from ! (hop ! (look ! 8 refl) (stop !))) (look_raw ! 0 refl))) (from ! (stop !))
         (init ! 6 refl ((LL.lawful T.the_type T'.the_laws 𝓛).typed elem (mach elem ∷ []) g).0) $
-        elem_back ! T.the_row q' ys x.i noRecord (mach elem ∷ []) b o (ltb→lt _ _ less) $
+        elem_back ! T.the_row q' ys x.i no_record (mach elem ∷ []) b o (ltb→lt _ _ less) $
         -- the numbers are lent again, for a lifetime α of the call
         lft_new ! tt (λ α. move ! (3 ∷ 4 ∷ []) $
         use2 𝓛 (later (some (λ (ε : GName). ‵ (Own (α ∷ []) ε x.ns)
-        ⊛ ‵ (LentAgain (Array u64 numbersRoom) κ' (α ∷ []) r δ d e ε x.ns))))
-        (lends_again 𝓛 (Array u64 numbersRoom) (named 0) κ' (α ∷ []) r δ d e (named 0) x.ns) $ await ! tt $
+        ⊛ ‵ (LentAgain (Array u64 numbers_room) κ' (α ∷ []) r δ d e ε x.ns))))
+        (lends_again 𝓛 (Array u64 numbers_room) (named 0) κ' (α ∷ []) r δ d e (named 0) x.ns) $ await ! tt $
         pick ! (λ ε. split ! $ move ! (2 ∷ 0 ∷ []) $
-        use2 𝓛 (raw ((PutRow 𝓛 mem run).pre (to-put-row α ε x.ns x.i elem)))
-        (goes-put-row α ε x.ns x.i elem (small (ltb→lt _ _ less)) g) $
+        use2 𝓛 (raw ((PutRow 𝓛 mem run).pre (to_put_row α ε x.ns x.i elem)))
+        (goes_put_row α ε x.ns x.i elem (small (ltb→lt _ _ less)) g) $
         -- [what `put_row` asks; what is had of the numbers; the slice's records; what shuts it; _9; …]
-        calls-left ! (fm_of 𝓤 H 𝓛.laws 𝓣) put-row.ended (put-row.clauses 𝓛 mem run) known
-        (to-put-row α ε x.ns x.i elem) (‵ (flft (α ∷ []) full_share) ⊛ ‵ ftrue) refl
+        calls_left ! (fm_of 𝓤 H 𝓛.laws 𝓣) put-row.ended (put-row.clauses 𝓛 mem run) known
+        (to_put_row α ε x.ns x.i elem) (‵ (flft (α ∷ []) full_share) ⊛ ‵ ftrue) refl
         (λ _ ws. RowPut x.ns x.i (as_row elem) ws.0) (λ _ ws. refl)
         (and_then ! (load ! (from ! (stop !)) (look ! 8 refl)) (and_then ! (load ! (from ! (stop !)) (look ! 16 refl))
         (and_then ! (load ! (from ! (stop !)) (look ! 4 refl)) (no_more !)))) (λ w _ ws put is. drop ! $
@@ -261,7 +261,7 @@ module _ {M : Type 1} {𝓤 : Ura M} (𝓛 : Logic 𝓤) (mem : Memory → SProp
         -- the lifetime ends, and the numbers come back as `put_row` left them
         fsplit ! $ move ! (1 ∷ []) $ drop ! $ move ! (1 ∷ []) $ split ! $ lft_end ! tt $ move ! (0 ∷ 3 ∷ 2 ∷ []) $
         use3 𝓛 (later (‵ (Own κ' δ ws.0) ⊛ ‵ (flft κ' r)))
-        (comes_back 𝓛 (Array u64 numbersRoom) (named 0) κ' (α ∷ []) r δ d e ε x.ns ws.0) $
+        (comes_back 𝓛 (Array u64 numbers_room) (named 0) κ' (α ∷ []) r δ d e ε x.ns ws.0) $
         await ! tt $ split ! $
         -- [the numbers; their token; true; the slice's records; what shuts it; _9; …]
         move ! (2 ∷ []) $ drop ! $ move ! (2 ∷ 3 ∷ 0 ∷ 1 ∷ []) $
@@ -284,10 +284,10 @@ module _ {M : Type 1} {𝓤 : Ura M} (𝓛 : Logic 𝓤) (mem : Memory → SProp
         by ! (exits x.ns (over ys ns₀ x (nltb→le _ _ none))))
       where
         elem : Row
-        elem = get_or ys x.i noRecord
+        elem = get_or ys x.i no_record
 
-        off : x.i < n → x.i * rowBytes < 2 ^ 64
-        off l = offset-fits x.i n l p.0.1.1
+        off : x.i < n → x.i * row_bytes < 2 ^ 64
+        off l = offset_fits x.i n l p.0.1.1
 
         up : x.i < n → x.i + 1 < 2 ^ 64
         up l = lt_of_le_of_lt (add-one-le l) p.0.1.0
@@ -305,7 +305,7 @@ module _ {M : Type 1} {𝓤 : Ura M} (𝓛 : Logic 𝓤) (mem : Memory → SProp
         (WpFn 𝓤 H 𝓣.C 𝓣.Λ code.function (v ∷ vptr d e ∷ []) Post)
     walk p =
         qed 𝓛 ((‵ (flft κ q) ⊛ (‵ (flft κ' r) ⊛ ‵ ftrue))
-        ∷ ‵ (owns (ShrSlice (named 0) κ T.the_row ∷ MutRef (named 1) κ' (Array u64 numbersRoom) ∷ []) a at) ∷ []) ∵
+        ∷ ‵ (owns (ShrSlice (named 0) κ T.the_row ∷ MutRef (named 1) κ' (Array u64 numbers_room) ∷ []) a at) ∷ []) ∵
         enter ! 𝓣.C 𝓣.Λ code.function (v ∷ vptr d e ∷ []) _ $
         alloc1 ! (λ l₀. alloc1 ! (λ l₁. alloc1 ! (λ l₂. alloc1 ! (λ l₃. alloc1 ! (λ l₄. alloc1 ! (λ l₅.
         alloc1 ! (λ l₆. alloc1 ! (λ l₇. alloc1 ! (λ l₈. alloc1 ! (λ l₉. alloc0 ! $ params1 ! $
@@ -329,33 +329,33 @@ module _ {M : Type 1} {𝓤 : Ura M} (𝓛 : Logic 𝓤) (mem : Memory → SProp
     (run : Routine → Fun 𝓤) where
   open 𝓛 use {H}
 
-  put-rows-walks : (𝓣 : Tables 𝓤 H) → Triple 𝓤 (𝓣.C #put-row) (PutRow 𝓛 mem run)
+  put_rows_walks : (𝓣 : Tables 𝓤 H) → Triple 𝓤 (𝓣.C #put-row) (PutRow 𝓛 mem run)
       → Walks 𝓛 put-rows.ended stayed (WpFn 𝓤 H 𝓣.C 𝓣.Λ code.function) (put-rows.clauses 𝓛 mem run)
-  put-rows-walks 𝓣 known = walked 𝓛 put-rows.ended stayed (put-rows.clauses 𝓛 mem run)
+  put_rows_walks 𝓣 known = walked 𝓛 put-rows.ended stayed (put-rows.clauses 𝓛 mem run)
       (WpFn 𝓤 H 𝓣.C 𝓣.Λ code.function) (λ κs. (shr_slice_vals, (shr_vals, tt)))
       (λ κs. (
         shr_slice_Tells (named 0) κs.0 T.the_row,
-        (mut_Tells (named 1) κs.1.0 (Array u64 numbersRoom), tt),
+        (mut_Tells (named 1) κs.1.0 (Array u64 numbers_room), tt),
       ))
       (λ κs qs bounds a g are. via 𝓤 _ (fst∗ 𝓤 _ (emp 𝓤))
       (walk 𝓛 mem run κs.0 κs.1.0 qs.0 qs.1.0 a.0.ref_ptr.0 a.0.ref_ptr.1 a.0.ghost_name a.0.now
       a.1.0.ref_ptr.0 a.1.0.ref_ptr.1 a.1.0.ghost_name a.1.0.now 𝓣 known are.0))
 
-put-rows-meets : {M : Type 1} {𝓤 : Ura M} (𝓛 : Logic 𝓤) (mem : Memory → SProp 𝓤)
+put_rows_meets : {M : Type 1} {𝓤 : Ura M} (𝓛 : Logic 𝓤) (mem : Memory → SProp 𝓤)
     (run : Routine → Fun 𝓤) (𝓣 : Tables 𝓤 𝓛.H) → Triple 𝓤 (𝓣.C #put-row) (PutRow 𝓛 mem run)
     → Meets 𝓛 put-rows.signature (WpFn 𝓤 𝓛.H 𝓣.C 𝓣.Λ code.function) (put-rows.spec 𝓛 mem run)
-put-rows-meets {𝓤 = 𝓤} 𝓛 mem run 𝓣 known = walk_Meets 𝓛 put-rows.ended stayed (
+put_rows_meets {𝓤 = 𝓤} 𝓛 mem run 𝓣 known = walk_Meets 𝓛 put-rows.ended stayed (
   Goes-dropped 𝓛 2 (shr_slice_of (0 ∷ []) tt (plain (λ _. T.the_row))) yes (λ κs x f. refl),
-  (Goes-ref 𝓛 2 1 tt (ArrayOf (plain (λ _. u64)) (λ _. tt) numbersRoom), tt),
+  (Goes-ref 𝓛 2 1 tt (ArrayOf (plain (λ _. u64)) (λ _. tt) numbers_room), tt),
 )
     (put-rows.clauses 𝓛 mem run) (WpFn 𝓤 𝓛.H 𝓣.C 𝓣.Λ code.function) (WpFn-mono 𝓤 𝓛.H 𝓛.laws 𝓣 code.function)
-    (put-rows-walks 𝓛 mem run 𝓣 known)
+    (put_rows_walks 𝓛 mem run 𝓣 known)
 
-pub put-rows-spec : {M : Type 1} → stated.statement M
+pub put_rows_spec : {M : Type 1} → stated.statement M
 unfolding code.routine tables_of
-put-rows-spec 𝓤 𝓛 𝓜 𝓡 =
+put_rows_spec 𝓤 𝓛 𝓜 𝓡 =
     entered 𝓤 𝓛.H (triple_of 𝓛 put-rows.signature (put-rows.spec 𝓛 𝓜.mem 𝓡.run))
     (tables 𝓤 𝓛.H 𝓜 𝓡 code.env).C (tables 𝓤 𝓛.H 𝓜 𝓡 code.env).Λ #put-rows code.function (code.unfolded 𝓤 𝓛.H 𝓜 𝓡)
-    (put-rows-meets 𝓛 𝓜.mem 𝓡.run (tables_of 𝓤 𝓛.H 𝓜 (tables 𝓤 𝓛.H 𝓜 𝓡 code.env))
+    (put_rows_meets 𝓛 𝓜.mem 𝓡.run (tables_of 𝓤 𝓛.H 𝓜 (tables 𝓤 𝓛.H 𝓜 𝓡 code.env))
     (cited 𝓤 𝓛.H (PutRow 𝓛 𝓜.mem 𝓡.run) 𝓜 𝓡 code.env #put-row put-row-def.routine
     code.calls-rows::numbers::put-row (put-row-thm.met 𝓤 𝓛 𝓜 𝓡)))

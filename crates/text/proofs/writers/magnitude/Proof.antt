@@ -3,7 +3,7 @@
 use Rattle.std.proofs.Common.{◌≡◌, ℕ, zero, suc, ◌^◌, ◌<◌, ℤ, pos, negsuc, ◌+ℤ◌, ◌-ℤ◌, neg_ℤ, nat_abs, sym, refl, ap, ◌∙◌, add-one, arith, to_z-of_z, w64, SFits, to_z, of_z, rules}
 use lib.IntN.{suc_ℤ, +ℤ_one, +ℤ_idl}
 use mir.Facts.{to_z_pos, Fits-nat_abs}
-use Rattle.text.proofs.Spelling.{below-0, from-0}
+use Rattle.text.proofs.Spelling.{below_0, from_0}
 use Rattle.text.proofs.writers.magnitude.Statement.{statement}
 use Rattle.text.proofs.writers.magnitude.Tie as tie
 
@@ -23,18 +23,18 @@ module _ (w : ℤ) (fits : SFits w64 w) (n : ℕ) (is : w ≡ negsuc n) where
   up_is : to_z w64 (of_z w64 w) +ℤ pos 1 ≡ suc_ℤ (negsuc n)
   up_is = ap (λ x. x +ℤ pos 1) (to_z-of_z fits ∙ is) ∙ +ℤ_one (negsuc n)
 
-  turned-is : pos 0 -ℤ to_z w64 (of_z w64 (to_z w64 (of_z w64 w) +ℤ pos 1)) ≡ pos n
-  turned-is =
+  turned_is : pos 0 -ℤ to_z w64 (of_z w64 (to_z w64 (of_z w64 w) +ℤ pos 1)) ≡ pos n
+  turned_is =
       ap (λ x. pos 0 -ℤ to_z w64 (of_z w64 x)) up_is
       ∙ ap (λ x. pos 0 -ℤ x) (to_z-of_z (up_fits n small))
       ∙ +ℤ_idl (neg_ℤ (suc_ℤ (negsuc n)))
       ∙ down n
 
 low : (c : tie.Then1) → (n : ℕ) × (c.before.args.z ≡ negsuc n)
-low c = below-0 c.before.args.z (rw (to_z-of_z c.before.ranges.z) at c.if1.true)
+low c = below_0 c.before.args.z (rw (to_z-of_z c.before.ranges.z) at c.if1.true)
 
 turned : (c : tie.Then1) → pos 0 -ℤ to_z w64 (of_z w64 (to_z w64 (of_z w64 c.before.args.z) +ℤ pos 1)) ≡ pos (low c).0
-turned c = turned-is c.before.args.z c.before.ranges.z (low c).0 (low c).1
+turned c = turned_is c.before.args.z c.before.ranges.z (low c).0 (low c).1
 
 fits : (c : tie.Then1) → (low c).0 < 2 ^ 63
 fits c = small c.before.args.z c.before.ranges.z (low c).0 (low c).1
@@ -53,7 +53,7 @@ add-result-2 c = rw (turned c, to_z_pos w64 {n = (low c).0} (fits c)) (omega (ar
 
 cast-result-2 : tie.Need-overflow-cast-result-2
 cast-result-2 c =
-    let from = from-0 c.before.args.z (rw (to_z-of_z c.before.ranges.z) at c.if1.false) in
+    let from = from_0 c.before.args.z (rw (to_z-of_z c.before.ranges.z) at c.if1.false) in
     rw (to_z-of_z c.before.ranges.z) (rw from tt, Fits-nat_abs tt c.before.ranges.z)
 
 returns : tie.Need-returns
@@ -62,7 +62,7 @@ returns c = rw (turned c, to_z_pos w64 {n = (low c).0} (fits c)) (add-one (low c
 returns-2 : tie.Need-returns-2
 returns-2 c = search rules
 
-pub magnitude-spec : {M : Type 1} → statement M
-magnitude-spec =
+pub magnitude_spec : {M : Type 1} → statement M
+magnitude_spec =
     tie.close
     (tie.spec add-result sub-result cast-result add-result-2 cast-result-2 returns returns-2)

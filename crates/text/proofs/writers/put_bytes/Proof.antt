@@ -31,16 +31,16 @@ loop-less c = omega arith
 
 loop-again : tie.Need-loop-preserved invariant-loop decreases-loop
 loop-again c =
-    let at-loop = c.before.before in
-    let at = at-loop.before.args.at in
-    let text = at-loop.before.args.text.now in
-    let o = at-loop.before.args.out.now in
-    let i = at-loop.loop.i in (
-      ap (λ l. set l (at + i) (get_or text i 0)) at-loop.loop.invariant.0
+    let at_loop = c.before.before in
+    let at = at_loop.before.args.at in
+    let text = at_loop.before.args.text.now in
+    let o = at_loop.before.args.out.now in
+    let i = at_loop.loop.i in (
+      ap (λ l. set l (at + i) (get_or text i 0)) at_loop.loop.invariant.0
           ∙ paste-suc o at text i 0 (omega arith) (omega arith)
           ∙ ap (paste o at text) (sym (add-one i)),
       omega arith,
-      simp length-set at-loop.loop.invariant.2,
+      simp length-set at_loop.loop.invariant.2,
     )
 
 add-result : tie.Need-overflow-add-result invariant-loop decreases-loop
@@ -51,10 +51,10 @@ same_length c = c.before.loop.invariant.2
 
 returns : tie.Need-returns invariant-loop decreases-loop
 returns c =
-    let at-start = c.before.before in
-    let at = at-start.args.at in
-    let text = at-start.args.text.now in
-    let o = at-start.args.out.now in
+    let at_start = c.before.before in
+    let at = at_start.args.at in
+    let text = at_start.args.text.now in
+    let o = at_start.args.out.now in
     let i = c.before.loop.i in
     let e : i ≡ length text = omega arith in
     record {
@@ -65,8 +65,8 @@ returns c =
           ∙ ap (λ l. take at o ++ l ++ drop (at + length text) o) (take-length text);
     }
 
-pub put-bytes-spec : {M : Type 1} → statement M
-put-bytes-spec =
+pub put_bytes_spec : {M : Type 1} → statement M
+put_bytes_spec =
     tie.close
     (tie.spec
     invariant-loop

@@ -1,7 +1,7 @@
 -- `put_line` puts a key's line at its offset: the key, the number and the line feed are put one after another, each
 -- where the one before it ends.
 use Rattle.std.proofs.Common.{ℕ, List, [], ◌∷◌, drop, rules}
-use Rattle.text.specs.Text.{bytes, decimal, keyLine}
+use Rattle.text.specs.Text.{bytes, decimal, key_line}
 use Rattle.text.proofs.Puts.{Going, begins, fits_next, next, ends}
 use Rattle.text.proofs.writers.put_line.Statement.{statement}
 use Rattle.text.proofs.writers.put_line.Tie as tie
@@ -14,7 +14,7 @@ abbrev At : ℕ → ℕ → List ℕ → Type 0
 At k m o = (s : tie.Start) × Going (texts s) (drop k (texts s)) s.args.at s.args.out.now m o
 
 room : (s : tie.Start) → Going (texts s) (texts s) s.args.at s.args.out.now s.args.at s.args.out.now
-unfolding keyLine
+unfolding key_line
 room s = begins (texts s) s.args.at s.args.out.now s.requires
 
 abbrev start : (s : tie.Start) → At 0 s.args.at s.args.out.now
@@ -46,13 +46,13 @@ same_length : tie.Need-same-length
 same_length c = search rules
 
 returns : tie.Need-returns
-unfolding keyLine
+unfolding key_line
 returns c =
     let g = valued c.before.before.before.before.before.before.before in
     ends (next g.1 c.before.before.put-bytes2.ensures)
 
-pub put-line-spec : {M : Type 1} → statement M
-put-line-spec =
+pub put_line_spec : {M : Type 1} → statement M
+put_line_spec =
     tie.close
     (tie.spec
     put-bytes-requires

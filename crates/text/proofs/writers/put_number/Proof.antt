@@ -3,7 +3,7 @@
 use Rattle.std.proofs.Common.{◌≡◌, suc, ◌+◌, ◌/◌, ◌<◌, length, refl, ap, ◌∙◌, arith, length-set, rules}
 use Rattle.text.specs.Text.{decimal}
 use Rattle.text.specs.inside.Puts.{put}
-use Rattle.text.proofs.Decimals.{decimal-some, decimal-longer}
+use Rattle.text.proofs.Decimals.{decimal_some, decimal_longer}
 use Rattle.text.proofs.Spelling.{put_last, put_only}
 use Rattle.text.proofs.writers.put_number.Statement.{statement}
 use Rattle.text.proofs.writers.put_number.Tie as tie
@@ -25,11 +25,11 @@ add-end : tie.Need-overflow-add-end invariant-loop decreases-loop
 add-end c = omega arith
 
 sub-i : tie.Need-overflow-sub-i invariant-loop decreases-loop
-sub-i c = omega (arith, decimal-some c.before.before.args.n)
+sub-i c = omega (arith, decimal_some c.before.before.args.n)
 
 loop-holds : tie.Need-loop-init invariant-loop decreases-loop
 loop-holds c =
-    let some = decimal-some c.before.before.args.n in
+    let some = decimal_some c.before.before.args.n in
     (refl, omega arith, omega arith, refl)
 
 digit-requires : tie.Need-digit-requires invariant-loop decreases-loop
@@ -41,7 +41,7 @@ slice-write-out c = omega arith
 sub-i-2 : tie.Need-overflow-sub-i-2 invariant-loop decreases-loop
 sub-i-2 c =
     let rest = c.before.before.loop.rest in
-    omega (arith, decimal-longer rest (omega arith), decimal-some (rest / 10))
+    omega (arith, decimal_longer rest (omega arith), decimal_some (rest / 10))
 
 loop-less : tie.Need-loop-smaller invariant-loop decreases-loop
 loop-less c = omega arith
@@ -49,8 +49,8 @@ loop-less c = omega arith
 loop-again : tie.Need-loop-preserved invariant-loop decreases-loop
 loop-again c =
     let x = c.before.before.loop in
-    let long = decimal-longer x.rest (omega arith) in
-    let some = decimal-some (x.rest / 10) in
+    let long = decimal_longer x.rest (omega arith) in
+    let some = decimal_some (x.rest / 10) in
     let kept = length-set x.out x.i c.digit.result in (
       put_last _ x.rest x.out x.invariant.1 x.invariant.2 (omega arith) c.digit.ensures ∙ x.invariant.0,
       omega arith,
@@ -76,8 +76,8 @@ returns c =
       holds = put_only _ x.rest x.out x.invariant.1 x.invariant.2 (omega arith) c.digit2.ensures ∙ x.invariant.0;
     }
 
-pub put-number-spec : {M : Type 1} → statement M
-put-number-spec =
+pub put_number_spec : {M : Type 1} → statement M
+put_number_spec =
     tie.close
     (tie.spec
     invariant-loop

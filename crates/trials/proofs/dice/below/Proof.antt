@@ -9,5 +9,5 @@ rem-result c = search rules
 returns : tie.Need-returns
 returns c = mod-lt _ c.requires
 
-pub below-spec : {M : Type 1} → statement M
-below-spec = tie.close (tie.spec rem-result returns)
+pub below_spec : {M : Type 1} → statement M
+below_spec = tie.close (tie.spec rem-result returns)

@@ -22,5 +22,5 @@ returns-2 c =
       omega (arith, div-le_self x c.before.args.period),
     )
 
-pub ceiling-spec : {M : Type 1} → statement M
-ceiling-spec = tie.close (tie.spec returns sub-result add-result div-result returns-2)
+pub ceiling_spec : {M : Type 1} → statement M
+ceiling_spec = tie.close (tie.spec returns sub-result add-result div-result returns-2)

@@ -42,8 +42,8 @@ loop-again c = search rules
 returns-2 : tie.Need-returns-2 invariant-loop decreases-loop
 returns-2 c = search rules
 
-pub earliest-spec : {M : Type 1} → statement M
-earliest-spec =
+pub earliest_spec : {M : Type 1} → statement M
+earliest_spec =
     tie.close
     (tie.spec
     invariant-loop

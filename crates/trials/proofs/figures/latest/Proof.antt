@@ -45,8 +45,8 @@ loop-again c = search rules
 returns-2 : tie.Need-returns-2 invariant-loop decreases-loop
 returns-2 c = search rules
 
-pub latest-spec : {M : Type 1} → statement M
-latest-spec =
+pub latest_spec : {M : Type 1} → statement M
+latest_spec =
     tie.close
     (tie.spec
     invariant-loop

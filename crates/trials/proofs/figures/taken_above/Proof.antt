@@ -36,8 +36,8 @@ loop-again c = search rules
 returns : tie.Need-returns invariant-loop decreases-loop
 returns c = search rules
 
-pub taken-above-spec : {M : Type 1} → statement M
-taken-above-spec =
+pub taken_above_spec : {M : Type 1} → statement M
+taken_above_spec =
     tie.close
     (tie.spec
     invariant-loop

@@ -12,5 +12,5 @@ mul-result c = record { fits = omega (arith, below c) }
 returns : tie.Need-returns
 returns c = below c
 
-pub times-spec : {M : Type 1} → statement M
-times-spec = tie.close (tie.spec mul-result returns)
+pub times_spec : {M : Type 1} → statement M
+times_spec = tie.close (tie.spec mul-result returns)

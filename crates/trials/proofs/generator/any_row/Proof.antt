@@ -29,8 +29,8 @@ between-requires-3 c κs = search rules
 returns : tie.Need-returns
 returns c = search rules
 
-pub any-row-spec : {M : Type 1} → statement M
-any-row-spec =
+pub any_row_spec : {M : Type 1} → statement M
+any_row_spec =
     tie.close
     (tie.spec
     between-requires

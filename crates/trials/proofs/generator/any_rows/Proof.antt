@@ -54,8 +54,8 @@ loop-again c = search rules
 returns : tie.Need-returns invariant-loop decreases-loop
 returns c = search rules
 
-pub any-rows-spec : {M : Type 1} → statement M
-any-rows-spec =
+pub any_rows_spec : {M : Type 1} → statement M
+any_rows_spec =
     tie.close
     (tie.spec
     invariant-loop

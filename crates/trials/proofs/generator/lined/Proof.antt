@@ -51,8 +51,8 @@ loop-again c = search rules
 returns : tie.Need-returns invariant-loop decreases-loop
 returns c = search rules
 
-pub lined-spec : {M : Type 1} → statement M
-lined-spec =
+pub lined_spec : {M : Type 1} → statement M
+lined_spec =
     tie.close
     (tie.spec
     invariant-loop

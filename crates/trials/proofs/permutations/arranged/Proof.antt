@@ -42,8 +42,8 @@ loop-again c = search rules
 returns : tie.Need-returns invariant-loop decreases-loop
 returns c = search rules
 
-pub arranged-spec : {M : Type 1} → statement M
-arranged-spec =
+pub arranged_spec : {M : Type 1} → statement M
+arranged_spec =
     tie.close
     (tie.spec
     invariant-loop

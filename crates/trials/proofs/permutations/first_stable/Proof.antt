@@ -39,8 +39,8 @@ loop-again c = search rules
 returns : tie.Need-returns invariant-loop decreases-loop
 returns c = search rules
 
-pub first-stable-spec : {M : Type 1} → statement M
-first-stable-spec =
+pub first_stable_spec : {M : Type 1} → statement M
+first_stable_spec =
     tie.close
     (tie.spec
     invariant-loop

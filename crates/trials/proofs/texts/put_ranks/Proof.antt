@@ -48,8 +48,8 @@ same_length c = search rules
 returns : tie.Need-returns invariant-loop decreases-loop
 returns c = search rules
 
-pub put-ranks-spec : {M : Type 1} → statement M
-put-ranks-spec =
+pub put_ranks_spec : {M : Type 1} → statement M
+put_ranks_spec =
     tie.close
     (tie.spec
     invariant-loop

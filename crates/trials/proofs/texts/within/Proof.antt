@@ -10,5 +10,5 @@ returns c = prefix_len_of_le c.before.args.at c.before.args.out.now (omega arith
 returns-2 : tie.Need-returns-2
 returns-2 c = prefix_len_of_le _ c.before.args.out.now (omega arith)
 
-pub within-spec : {M : Type 1} → statement M
-within-spec = tie.close (tie.spec returns returns-2)
+pub within_spec : {M : Type 1} → statement M
+within_spec = tie.close (tie.spec returns returns-2)

@@ -5,7 +5,7 @@ use Prim.Native.Nat.{◌-◌, ◌≤◌}
 use native.Mathlib.Omega.{arith}
 use lib.ListN.{length}
 use borrow.Author.Rules.{rules}
-use Rattle.watch_demands.proofs.Merges.{least-one, least-same, least-new}
+use Rattle.watch_demands.proofs.Merges.{least-one, least_same, least_new}
 use Rattle.watch_runs.specs.inside.Owners.{EarliestIs}
 use Rattle.watch_runs.proofs.owners.earliest.Statement.{statement}
 use Rattle.watch_runs.proofs.owners.earliest.Tie as tie
@@ -24,8 +24,8 @@ loop-again c = (
   omega arith,
   omega arith,
   ⊎_elim
-      (λ w. rw w.1 (least-new c.before.before.before.before.loop.invariant.2 w.0.taken))
-      (λ w. rw w.1 (least-same c.before.before.before.before.loop.invariant.2 w.0.left))
+      (λ w. rw w.1 (least_new c.before.before.before.before.loop.invariant.2 w.0.taken))
+      (λ w. rw w.1 (least_same c.before.before.before.before.loop.invariant.2 w.0.left))
       c.if1.branch,
 )
 
@@ -35,8 +35,8 @@ returns c =
     let e : l.j ≡ c.before.before.args.n = omega arith in
     subst (λ k. EarliestIs k c.before.before.args.nexts.now l.r) e l.invariant.2
 
-pub earliest-spec : {M : Type 1} → statement M
-earliest-spec =
+pub earliest_spec : {M : Type 1} → statement M
+earliest_spec =
     tie.close
     (tie.spec
     invariant-loop

@@ -4,14 +4,14 @@ use Prim.Native.Nat.{◌-◌, ◌≤◌, ◌<◌}
 use native.Mathlib.Omega.{arith}
 use lib.ListN.{length, length-set}
 use borrow.Author.Rules.{rules}
-use Rattle.rows.specs.Rows.{maxTasks}
-use Rattle.watch_runs.proofs.Merging.{Merging, merging-starts, merging-on, merging-ends}
+use Rattle.rows.specs.Rows.{max_tasks}
+use Rattle.watch_runs.proofs.Merging.{Merging, merging_starts, merging_on, merging_ends}
 use Rattle.watch_runs.proofs.owners.fill_owners.Statement.{statement}
 use Rattle.watch_runs.proofs.owners.fill_owners.Tie as tie
 
 abbrev invariant-loop : tie.invariant-loop
 invariant-loop owners₀ periods n nexts₀ m₀ owners nexts m =
-    (length nexts ≡ maxTasks) × (length owners ≡ length owners₀) × (m ≤ length owners₀)
+    (length nexts ≡ max_tasks) × (length owners ≡ length owners₀) × (m ≤ length owners₀)
     × Merging n nexts₀ periods owners nexts m
 
 abbrev decreases-loop : tie.decreases-loop
@@ -23,7 +23,7 @@ start c = c.before.before.before.before.before.before
 loop-holds : tie.Need-loop-init invariant-loop decreases-loop
 loop-holds c =
     let s = c.before.before in
-    (s.well-formed.1.0.1.0.1, refl, omega arith, merging-starts _ _ _ s.requires)
+    (s.well-formed.1.0.1.0.1, refl, omega arith, merging_starts _ _ _ s.requires)
 
 slice-aggregate-earliest : tie.Need-slice-aggregate-earliest invariant-loop decreases-loop
 slice-aggregate-earliest c = sym c.before.before.loop.invariant.0
@@ -31,18 +31,18 @@ slice-aggregate-earliest c = sym c.before.before.loop.invariant.0
 earliest-requires : tie.Need-earliest-requires invariant-loop decreases-loop
 earliest-requires c κs =
     let l = c.before.before in
-    (l.before.before.before.requires.some, l.loop.invariant.3.nexts-long)
+    (l.before.before.before.requires.some, l.loop.invariant.3.nexts_long)
 
 -- the rank found is one of the columns
-in-nexts : (c : tie.After-earliest invariant-loop decreases-loop) → c.earliest.result < maxTasks
-in-nexts c =
+in_nexts : (c : tie.After-earliest invariant-loop decreases-loop) → c.earliest.result < max_tasks
+in_nexts c =
     let l = c.before.before.before.loop.invariant in
-    omega (arith, c.earliest.ensures.within, l.3.nexts-long, l.0)
+    omega (arith, c.earliest.ensures.within, l.3.nexts_long, l.0)
 
 shared-slice-read-nexts : tie.Need-shared-slice-read-nexts invariant-loop decreases-loop
 shared-slice-read-nexts c =
     let e = c.before in
-    omega (arith, e.earliest.ensures.within, (start e).requires.periods-long)
+    omega (arith, e.earliest.ensures.within, (start e).requires.periods_long)
 
 add-nexts : tie.Need-overflow-add-nexts invariant-loop decreases-loop
 add-nexts c =
@@ -50,8 +50,8 @@ add-nexts c =
     let p = (start e).requires in
     let l = e.before.before.before.loop.invariant in
     let r = e.earliest.result in
-    let in-n = e.earliest.ensures.within in
-    omega (arith, l.3.next-max r in-n, p.period-max r in-n, p.few, l.1, e.before.before.loop-test.true)
+    let in_n = e.earliest.ensures.within in
+    omega (arith, l.3.next_max r in_n, p.period_max r in_n, p.few, l.1, e.before.before.loop-test.true)
 
 loop-again : tie.Need-loop-preserved invariant-loop decreases-loop
 loop-again c =
@@ -60,17 +60,17 @@ loop-again c =
       length-set x.nexts _ _ ∙ x.invariant.0,
       length-set x.owners _ _ ∙ x.invariant.1,
       omega arith,
-      merging-on _ _ _ (start e).requires x.invariant.3 e.before.before.loop-test.true e.earliest.ensures,
+      merging_on _ _ _ (start e).requires x.invariant.3 e.before.before.loop-test.true e.earliest.ensures,
     )
 
 same_length : tie.Need-same-length invariant-loop decreases-loop
 same_length c = c.before.loop.invariant.1
 
 returns : tie.Need-returns invariant-loop decreases-loop
-returns c = merging-ends _ _ _ c.before.loop.invariant.3 c.loop-test.false
+returns c = merging_ends _ _ _ c.before.loop.invariant.3 c.loop-test.false
 
-pub fill-owners-spec : {M : Type 1} → statement M
-fill-owners-spec =
+pub fill_owners_spec : {M : Type 1} → statement M
+fill_owners_spec =
     tie.close
     (tie.spec
     invariant-loop
@@ -80,13 +80,13 @@ fill-owners-spec =
     earliest-requires
     (λ c. search rules)
     (λ c. search rules)
-    (λ c. omega (arith, in-nexts c))
-    in-nexts
-    (λ c. omega (arith, in-nexts c))
+    (λ c. omega (arith, in_nexts c))
+    in_nexts
+    (λ c. omega (arith, in_nexts c))
     shared-slice-read-nexts
     add-nexts
-    (λ c. omega (arith, in-nexts c.before))
-    (λ c. in-nexts c.before)
+    (λ c. omega (arith, in_nexts c.before))
+    (λ c. in_nexts c.before)
     (λ c. search rules)
     (λ c. search rules)
     loop-again

@@ -17,5 +17,5 @@ returns-2 c =
     let f = c.seek.ensures in
     record { within = f.within; goes_on = λ h. f; at-end = λ h. absurd (omega arith) }
 
-pub next-slot-spec : {M : Type 1} → statement M
-next-slot-spec = tie.close (tie.spec returns (λ c. search rules) (λ c κs. search rules) returns-2)
+pub next_slot_spec : {M : Type 1} → statement M
+next_slot_spec = tie.close (tie.spec returns (λ c. search rules) (λ c κs. search rules) returns-2)

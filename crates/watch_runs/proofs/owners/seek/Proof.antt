@@ -44,8 +44,8 @@ returns-2 c =
       between = l.invariant.2;
     }
 
-pub seek-spec : {M : Type 1} → statement M
-seek-spec =
+pub seek_spec : {M : Type 1} → statement M
+seek_spec =
     tie.close
     (tie.spec
     invariant-loop

@@ -6,7 +6,7 @@ use native.Mathlib.Nat.{not-suc-le-zero}
 use lib.ListN.{length, length-set}
 use borrow.Author.Rules.{rules}
 use Rattle.watch_runs.specs.inside.States.{Begins}
-use Rattle.watch_runs.proofs.Runs.{begins-more}
+use Rattle.watch_runs.proofs.Runs.{begins_more}
 use Rattle.watch_runs.proofs.steps.begin.Statement.{statement}
 use Rattle.watch_runs.proofs.steps.begin.Tie as tie
 
@@ -30,15 +30,15 @@ loop-again c =
     let k = c.length_at in
     let p = c.before.before.seek in
     let a = c.before.before.before.before.before.before.before.before.before.before.args in
-    let lefts-same = length-set x.lefts x.j k.result in
+    let lefts_same = length-set x.lefts x.j k.result in
     let slots_same = length-set x.slots x.j p.result in (
       omega arith,
       i.1,
-      omega (arith, lefts-same),
+      omega (arith, lefts_same),
       omega (arith, slots_same),
-      lefts-same ∙ i.4,
+      lefts_same ∙ i.4,
       slots_same ∙ i.5,
-      begins-more x.j a.costs.now a.owners.now a.lengths.now x.lefts x.slots (omega arith)
+      begins_more x.j a.costs.now a.owners.now a.lengths.now x.lefts x.slots (omega arith)
           (omega arith) i.6 p.result k.result p.ensures k.ensures,
     )
 
@@ -49,8 +49,8 @@ returns c =
     let e : x.j ≡ a.n = omega arith in
     subst (λ k. Begins k a.costs.now a.owners.now a.lengths.now x.lefts x.slots) e x.invariant.6
 
-pub begin-spec : {M : Type 1} → statement M
-begin-spec =
+pub begin_spec : {M : Type 1} → statement M
+begin_spec =
     tie.close
     (tie.spec
     invariant-loop

@@ -15,5 +15,5 @@ returns c =
 returns-2 : tie.Need-returns-2
 returns-2 c = sym (get_or-eq_default c.before.args.lengths.now c.before.args.cost c.if1.false)
 
-pub length-at-spec : {M : Type 1} → statement M
-length-at-spec = tie.close (tie.spec (λ c. search rules) (λ c. search rules) returns returns-2)
+pub length_at_spec : {M : Type 1} → statement M
+length_at_spec = tie.close (tie.spec (λ c. search rules) (λ c. search rules) returns returns-2)

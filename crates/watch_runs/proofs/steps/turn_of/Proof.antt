@@ -25,8 +25,8 @@ loop-again c = (omega arith, omega arith, below_more _ _ c.before.before.before.
 returns-2 : tie.Need-returns-2 invariant-loop decreases-loop
 returns-2 c = record { within = omega arith; due = λ l. omega arith; others = c.before.loop.invariant.2 }
 
-pub turn-of-spec : {M : Type 1} → statement M
-turn-of-spec =
+pub turn_of_spec : {M : Type 1} → statement M
+turn_of_spec =
     tie.close
     (tie.spec
     invariant-loop

@@ -5,8 +5,8 @@ use borrow.Author.Rules.{rules}
 use borrow.Author.Tests.{not-true, not-false}
 use lib.ListN.{length}
 use Rattle.grammars.proofs.Loops.{going}
-use Rattle.watches.proofs.Fronts.{Standing, Next, front-begins, front-turn, front_read}
-use Rattle.watches.proofs.Fronts.{left_of, left_is, not-over}
+use Rattle.watches.proofs.Fronts.{Standing, Next, front_begins, front_turn, front_read}
+use Rattle.watches.proofs.Fronts.{left_of, left_is, not_over}
 use Rattle.watches.proofs.front.read_front.Statement.{statement}
 use Rattle.watches.proofs.front.read_front.Tie as tie
 
@@ -21,14 +21,14 @@ loop-holds c =
     let s = c.before.before.before in (
       refl,
       subst (λ p. Standing s.args.text.now p s.args.numbers.now (left_of s.args.text.now p))
-          (sym c.start.ensures) (front-begins s.args.text.now s.args.numbers.now s.requires),
+          (sym c.start.ensures) (front_begins s.args.text.now s.args.numbers.now s.requires),
     )
 
 take-unheld-requires : tie.Need-take-unheld-requires invariant-loop decreases-loop
 take-unheld-requires c κs =
     let l = c.before.before.before.loop in
-    let open-still = not-over l.p (sym c.before.before.is-over.ensures ∙ not-true _ c.before.if1.true) in
-    ((going l.invariant.1 open-still.0).stands, open-still.1)
+    let open_still = not_over l.p (sym c.before.before.is-over.ensures ∙ not-true _ c.before.if1.true) in
+    ((going l.invariant.1 open_still.0).stands, open_still.1)
 
 -- a line more
 next : (c : tie.After-take-unheld invariant-loop decreases-loop)
@@ -40,9 +40,9 @@ next : (c : tie.After-take-unheld invariant-loop decreases-loop)
 next c =
     let l = c.before.before.before.before.loop in
     let t = c.take-unheld in
-    let still = not-over l.p (sym c.before.before.before.is-over.ensures ∙ not-true _
+    let still = not_over l.p (sym c.before.before.before.is-over.ensures ∙ not-true _
     c.before.before.if1.true) in
-    front-turn _ l.invariant.1 still.0 t.result t.new.1.1.0 t.ensures
+    front_turn _ l.invariant.1 still.0 t.result t.new.1.1.0 t.ensures
 
 loop-less : tie.Need-loop-smaller invariant-loop decreases-loop
 loop-less c =
@@ -64,8 +64,8 @@ returns c =
     front_read _ c.before.before.loop.invariant.1
     (sym c.before.is-over.ensures ∙ not-false _ c.if1.false)
 
-pub read-front-spec : {M : Type 1} → statement M
-read-front-spec =
+pub read_front_spec : {M : Type 1} → statement M
+read_front_spec =
     tie.close
     (tie.spec
     invariant-loop

@@ -5,7 +5,7 @@ use native.Mathlib.Omega.{arith}
 use borrow.Author.Rules.{rules}
 use lib.ListN.{length, get_or, length-set}
 use Rattle.watches.specs.inside.Lines.{Readable}
-use Rattle.watches.proofs.Numbers.{Reading, reading-starts, reading-on, reading-stops, reading-ends}
+use Rattle.watches.proofs.Numbers.{Reading, reading_starts, reading_on, reading_stops, reading_ends}
 use Rattle.watches.proofs.lines.read_numbers.Statement.{statement}
 use Rattle.watches.proofs.lines.read_numbers.Tie as tie
 
@@ -18,7 +18,7 @@ abbrev decreases-loop : tie.decreases-loop
 decreases-loop text offset first key lows highs owners numbers₀ at₀ line₀ m₀ numbers at line m = length numbers - m
 
 loop-holds : tie.Need-loop-init invariant-loop decreases-loop
-loop-holds c = (c.before.before.before.before.before.before.requires.1, reading-starts _ _ _ _ _ _ _ _)
+loop-holds c = (c.before.before.before.before.before.before.requires.1, reading_starts _ _ _ _ _ _ _ _)
 
 -- a number's owner has a range
 owned : (c : tie.In-loop invariant-loop decreases-loop)
@@ -77,7 +77,7 @@ same_length c = c.before.before.before.before.before.before.loop.invariant.1.sam
 returns : tie.Need-returns invariant-loop decreases-loop
 returns c =
     let x = c.before.before.before.before.before.before.loop in
-    reading-stops _ _ _ _ _ _ _ _ x.invariant.1 c.before.before.before.before.before.loop-test.true
+    reading_stops _ _ _ _ _ _ _ _ x.invariant.1 c.before.before.before.before.before.loop-test.true
     c.before.line_at_lem.result c.match.keys2
     c.before.line_at_lem.ensures
 
@@ -93,7 +93,7 @@ add-line c =
       fits = omega (
         arith,
         c.before.before.before.before.before.before.before.before.loop.invariant.0.soon,
-        c.before.before.before.before.before.before.before.before.loop.invariant.1.line-is,
+        c.before.before.before.before.before.before.before.before.loop.invariant.1.line_is,
         c.before.before.before.before.before.before.before.before.loop.invariant.1.same,
         c.before.before.before.before.before.before.before.loop-test.true,
       );
@@ -113,7 +113,7 @@ loop-again c =
     let x = c.before.before.before.before.before.before.before.before.loop in
     let d = c.before.answer.given in (
       x.invariant.0,
-      reading-on _ _ _ _ _ _ _ _ x.invariant.1 d.0.0 d.0.1.0
+      reading_on _ _ _ _ _ _ _ _ x.invariant.1 d.0.0 d.0.1.0
           c.before.before.before.before.before.before.before.loop-test.true
           (sym d.1 ∙ c.before.before.before.line_at_lem.ensures),
     )
@@ -122,10 +122,10 @@ same-length-2 : tie.Need-same-length-2 invariant-loop decreases-loop
 same-length-2 c = c.before.loop.invariant.1.same
 
 returns-2 : tie.Need-returns-2 invariant-loop decreases-loop
-returns-2 c = reading-ends _ _ _ _ _ _ _ _ c.before.loop.invariant.1 (omega (arith, c.loop-test.false))
+returns-2 c = reading_ends _ _ _ _ _ _ _ _ c.before.loop.invariant.1 (omega (arith, c.loop-test.false))
 
-pub read-numbers-spec : {M : Type 1} → statement M
-read-numbers-spec =
+pub read_numbers_spec : {M : Type 1} → statement M
+read_numbers_spec =
     tie.close
     (tie.spec
     invariant-loop

@@ -3,7 +3,7 @@ use mathlib.Core.Path.{sym, ap, subst, ◌∙◌}
 use native.Mathlib.Numerals.{add-one}
 use native.Mathlib.Omega.{arith}
 use borrow.Author.Rules.{rules}
-use Rattle.readers.specs.inside.Stands.{Counted, stand, standAfter}
+use Rattle.readers.specs.inside.Stands.{Counted, stand, stand_after}
 use Rattle.readers.proofs.progress.Stand.after.Statement.{statement}
 use Rattle.readers.proofs.progress.Stand.after.Tie as tie
 
@@ -39,10 +39,10 @@ returns-6 c =
     let s = a.self in
     let is = c.enum-told6.given.1 in
     ap (λ p. stand p s.ranked s.count s.left s.position) (sym is)
-    ∙ sym (ap (λ p. standAfter p a.last s a.value) is)
+    ∙ sym (ap (λ p. stand_after p a.last s a.value) is)
 
-pub after-spec : {M : Type 1} → statement M
-after-spec =
+pub after_spec : {M : Type 1} → statement M
+after_spec =
     tie.close
     (tie.spec
     (λ c. search rules)

@@ -14,7 +14,7 @@ returns-2 c =
     let s = c.before.before in
     rw (c.before.if1.false, add-one s.args.self.position)
 
-pub after-field-spec : {M : Type 1} → statement M
-after-field-spec =
+pub after_field_spec : {M : Type 1} → statement M
+after_field_spec =
     tie.close
     (tie.spec (λ c. search rules) (λ c κs. search rules) returns (λ c. search rules) returns-2)

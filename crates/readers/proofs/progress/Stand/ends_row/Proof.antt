@@ -46,8 +46,8 @@ returns-5 c = rw c.enum-told5.given.1
 returns-6 : tie.Need-returns-6
 returns-6 c = rw c.enum-told6.given.1
 
-pub ends-row-spec : {M : Type 1} → statement M
-ends-row-spec =
+pub ends_row_spec : {M : Type 1} → statement M
+ends_row_spec =
     tie.close
     (tie.spec
     (λ c. search rules)

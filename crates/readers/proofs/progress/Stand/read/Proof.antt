@@ -34,7 +34,7 @@ returns-3 : tie.Need-returns-3
 returns-3 c = rw c.enum-told3.given.1
 
 returns-4 : tie.Need-returns-4
-returns-4 c = rw c.before.enum-told4.given.1 c.behind-head.ensures
+returns-4 c = rw c.before.enum-told4.given.1 c.behind_head_lem.ensures
 
 returns-5 : tie.Need-returns-5
 returns-5 c = rw c.before.enum-told5.given.1 c.behind-head2.ensures

@@ -39,8 +39,8 @@ loop-again c = search rules
 returns : tie.Need-returns invariant-loop decreases-loop
 returns c = search rules
 
-pub released-spec : {M : Type 1} → statement M
-released-spec =
+pub released_spec : {M : Type 1} → statement M
+released_spec =
     tie.close
     (tie.spec
     invariant-loop

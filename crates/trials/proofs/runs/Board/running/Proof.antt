@@ -33,8 +33,8 @@ loop-again c = search rules
 returns-2 : tie.Need-returns-2 invariant-loop decreases-loop
 returns-2 c = search rules
 
-pub running-spec : {M : Type 1} → statement M
-running-spec =
+pub running_spec : {M : Type 1} → statement M
+running_spec =
     tie.close
     (tie.spec
     invariant-loop
