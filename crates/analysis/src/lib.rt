@@ -1,5 +1,7 @@
 // The response analysis: W, E, margin and stability of a row under rows whose times stand in columns, over rows that
 // block it for some ticks.
+#![tactic(auto)]
+
 ghost use Rattle.std.specs.Prelude.{◌≡◌, true, suc, ◌+◌, ◌-◌, ◌*◌, ◌≤◌, ◌<◌, length, take, drop};
 ghost use Rattle.std.proofs.Math.IntN.{sub_ℕ};
 ghost use Rattle.basics.specs.Basics.{pick};

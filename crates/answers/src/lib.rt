@@ -1,4 +1,6 @@
 // What a call returns, as numbers in a buffer of their own, for programs in other languages.
+#![tactic(auto)]
+
 ghost use Rattle.std.specs.Prelude.{◌≡◌};
 ghost use Rattle.answers.specs.Answers.{answered};
 

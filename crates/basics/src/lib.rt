@@ -1,4 +1,6 @@
 // What every crate says of tests, numbers, ranges and lists of numbers.
+#![tactic(auto)]
+
 ghost use Rattle.std.specs.Prelude.{◌≡◌};
 ghost use Rattle.basics.specs.Basics.{larger, within};
 

@@ -1,5 +1,7 @@
 // Plans of generated tables on a board. The planner's text is compared with the brute force's first, so the lines that
 // every finish is held against are those of the plan. Prints DIFFERS and the table at the first that is not kept.
+#![tactic(auto)]
+
 use trial_calls::Outcome;
 use trials::{Finishes, Question, Table};
 
@@ -18,7 +20,7 @@ fn runs_of(ranked: Table, seed: &mut u64) -> Finishes {
 }
 
 // What has been run.
-#[derive(Drop)]
+#[derive(Clone, Copy)]
 struct Seen {
     kept: bool,
     plans: u64,

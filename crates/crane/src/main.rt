@@ -1,4 +1,6 @@
 // The crane: the plans and refusals of the boards on standard input, in sequence, on standard output.
+#![tactic(auto)]
+
 use libc::{STDIN_FILENO, STDOUT_FILENO};
 
 // The bytes of the input that are taken as the text.

@@ -1,5 +1,7 @@
 // Curves of permitted jitter: whether their points keep the limits, and the margin of responses under one. A curve's
 // numbers stand by turns: a delay, its allow, the next delay, and so on.
+#![tactic(auto)]
+
 ghost use Rattle.std.specs.Prelude.{◌≡◌, true, ◌*◌, ◌≤◌, ◌<◌, ◌^◌, length};
 ghost use Rattle.std.proofs.Math.IntN.{sub_ℕ};
 ghost use Rattle.curves.specs.Curves.{point, max_points, max_delay, max_allow, max_response, well_formed};
@@ -51,7 +53,7 @@ pub fn well_formed(points: &[u64], n: u64) -> bool
 }
 
 // over / under.
-#[derive(Drop)]
+#[derive(Clone, Copy)]
 pub struct Fraction {
     pub over: u64,
     pub under: u64,

@@ -1,5 +1,7 @@
 // A row's figures between the rows above it and below it: rows are lent as numbers, highest first, and, where they are
 // in the limits of a table, the times of those above are put into the columns of the analysis.
+#![tactic(auto)]
+
 ghost use Rattle.std.specs.Prelude.{◌≡◌, ℕ, ◌*◌, ◌≤◌, ◌<◌, length, get_or};
 ghost use Rattle.rows.specs.Rows.{max_tasks, in_range, all_rows};
 ghost use Rattle.rows.specs.inside.Numbers.{field_count, rows_of};

@@ -1,5 +1,7 @@
 // W and E as fixed points: the interference of tasks in a window, and the smallest and the largest window that a base and
 // the interference in it fill, by tasks whose periods and costs stand in columns.
+#![tactic(auto)]
+
 ghost use Rattle.std.specs.Prelude.{◌≡◌, ◌+◌, ◌≤◌};
 ghost use Rattle.rows.specs.Rows.{max_ticks};
 ghost use Rattle.responses.specs.Interference.{ceiling, interference, least_fixed, largest_fixed};
@@ -31,7 +33,7 @@ pub fn interference(window: u64, spared: u64, periods: &[u64], costs: &[u64], n:
 }
 
 // Where the search of W ends: its last value, and the steps that led to it from the first.
-#[derive(Drop)]
+#[derive(Clone, Copy)]
 pub struct Tried {
     pub last: u64,
     pub steps: u64,

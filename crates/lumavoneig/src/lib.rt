@@ -1,4 +1,6 @@
 // The calls for programs in other languages: the answer's number, place and length go to a buffer of their own.
+#![tactic(auto)]
+
 ghost use Rattle.demands.specs.Demands.{PlanSays, ReviewSays};
 ghost use Rattle.crane_demands.specs.Demands.{CraneSays};
 ghost use Rattle.answers.specs.Answers.{Answers};

@@ -1,5 +1,7 @@
 // The watcher's call for programs in other languages, in a library of its own: the planner's stays as fast as it is
 // without a second reader of table lines in it.
+#![tactic(auto)]
+
 ghost use Rattle.watch_demands.specs.Demands.{WatchSays};
 ghost use Rattle.answers.specs.Answers.{Answers};
 

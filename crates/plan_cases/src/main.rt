@@ -1,5 +1,7 @@
 // Document 01's cases and some of holds, of the switch and of curves, as texts: what has to be answered stands beside
 // each, and the whole buffer is compared.
+#![tactic(auto)]
+
 ghost use Rattle.io.specs.Counts.{IsPrefixLen};
 
 use trials::{Answer, SPACE};

@@ -1,4 +1,6 @@
 // The lines of a plan and of a refusal, put into a lent buffer.
+#![tactic(auto)]
+
 ghost use Rattle.std.specs.Prelude.{◌+◌, ◌≤◌, length};
 ghost use Rattle.text.specs.Buffers.{Wrote};
 ghost use Rattle.text.specs.inside.Puts.{Put};

@@ -1,4 +1,6 @@
 // An order's plan: the figures of each rank are found and written in one pass. And what a program prints of an answer.
+#![tactic(auto)]
+
 ghost use Rattle.std.specs.Prelude.{◌≡◌, ◌+◌, ◌*◌, ◌≤◌, length, take, replicate};
 ghost use Rattle.text.specs.Buffers.{Wrote};
 ghost use Rattle.rows.specs.Rows.{max_tasks};
@@ -37,7 +39,7 @@ pub fn buffer() -> [u8; ROOM]
 }
 
 // Where the text of an order's ranks ends, where none of its tasks is late; else the first late rank, counted from 1.
-#[derive(Drop)]
+#[derive(Clone, Copy)]
 pub struct RanksPut {
     pub late: u32,
     pub end: usize,

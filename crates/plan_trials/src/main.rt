@@ -1,10 +1,12 @@
 // The planner and the reviewer on generated tables: every answer is compared with the brute force's, with every byte of
 // its buffer. Prints DIFFERS and the text at the first that is another, and stops.
+#![tactic(auto)]
+
 use trial_calls::Outcome;
 use trials::{Order, Question, Tally};
 
 // What has been compared.
-#[derive(Drop)]
+#[derive(Clone, Copy)]
 struct Seen {
     same: bool,
     ordered: u64,

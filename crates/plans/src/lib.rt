@@ -1,10 +1,12 @@
 // A plan: its entries, its text, and what a call returns. What they are and the laws of them stand in specs and proofs;
 // the code that writes a plan stands in `plan_lines` and `plan_orders`.
+#![tactic(auto)]
+
 ghost use Rattle.std.specs.Prelude.{◌≡◌};
 ghost use Rattle.plans.specs.Outcomes.{refuses, result};
 
 // A rank's entry in a plan. Best and worst are response times.
-#[derive(Drop)]
+#[derive(Clone, Copy)]
 pub struct Entry {
     pub task: u32,
     pub best: u32,
@@ -14,7 +16,7 @@ pub struct Entry {
 }
 
 // What a call returns. Number: 0, or the refusal; place: its line or rank; long: bytes written.
-#[derive(Drop)]
+#[derive(Clone, Copy)]
 pub struct Answer {
     pub number: u8,
     pub place: u32,

@@ -1,4 +1,6 @@
 // The public calls: a table's plan, the figures of an order chosen by hand, and what the programs print.
+#![tactic(auto)]
+
 ghost use Rattle.std.specs.Prelude.{◌≡◌, length};
 ghost use Rattle.io.specs.Counts.{IsPrefixLen};
 ghost use Rattle.text.specs.Buffers.{Wrote};

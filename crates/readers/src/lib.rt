@@ -1,4 +1,6 @@
 // A table as text: what is read, and what is refused on which line.
+#![tactic(auto)]
+
 ghost use Rattle.std.specs.Prelude.{◌≡◌, ◌≤◌, leb, length};
 ghost use Rattle.readers.specs.inside.Numbers.{most_numbers, bytes_for, Room};
 ghost use Rattle.readers.specs.inside.Readings.{ReadAs};
@@ -43,7 +45,7 @@ pub fn fits_in(text: &[u8], numbers: usize) -> bool
 
 // What a text reads as: refusal 0 and how many rows the table has, its numbers standing where they were lent; or a
 // refusal's number and its line.
-#[derive(Drop)]
+#[derive(Clone, Copy)]
 pub struct Reading {
     pub refused: u8,
     pub line: u32,

@@ -14,7 +14,7 @@ use rows::{FIELDS, POINTS, SWITCH};
 use text::Line;
 
 // The line that is expected next: one of the head, of a row, a rank, or none.
-#[derive(Drop)]
+#[derive(Clone, Copy)]
 pub enum Part {
     Board,
     Tasks,
@@ -27,7 +27,7 @@ pub enum Part {
 // Where in the table the reading stands: the rows that are whole, how many are left after the one that is being read,
 // and how many of its numbers are there; before the rows, how many are to come; or, behind them, the ranks that are left
 // after the next and those so far.
-#[derive(Drop)]
+#[derive(Clone, Copy)]
 pub struct Stand {
     pub part: Part,
     pub ranked: bool,
@@ -38,7 +38,7 @@ pub struct Stand {
 
 // Where the reading stands, with the line and the offset of the next line; or its end, with refusal 0, or with a
 // refusal and its line.
-#[derive(Drop)]
+#[derive(Clone, Copy)]
 pub struct Progress {
     pub stand: Stand,
     pub ended: bool,

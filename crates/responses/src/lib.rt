@@ -1,8 +1,9 @@
 // A row's figures: what they are and the laws of them stand in specs and proofs, the code that finds them in
 // `analysis`.
+#![tactic(auto)]
 
 // Figured: the rows are in the limits of a table. Of a late row nothing else is said.
-#[derive(Drop)]
+#[derive(Clone, Copy)]
 pub struct Figures {
     pub figured: bool,
     pub late: bool,

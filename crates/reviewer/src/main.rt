@@ -1,4 +1,6 @@
 // The reviewer: the figures of the order given on standard input, or its refusal, on standard output.
+#![tactic(auto)]
+
 use libc::{STDIN_FILENO, STDOUT_FILENO};
 
 // The bytes of the input that are taken as the text.

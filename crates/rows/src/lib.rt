@@ -1,4 +1,6 @@
 // A task's row: its limits, and rows and orders as numbers. What a row is stands in specs/Rows.antt.
+#![tactic(auto)]
+
 ghost use Rattle.std.specs.Prelude.{◌≡◌, ◌^◌, ◌<◌, leb};
 ghost use Rattle.rows.specs.Rows.{full_cost, numbers_in_range, row};
 ghost use Rattle.rows.specs.inside.Records.{no_record, recorded, checked};
@@ -20,7 +22,7 @@ pub const MAX_TASKS: usize = 16;
 // A task's row, as a record. Times are in ticks, alpha in thousandths, beta in thousandths of a tick. A job of it may keep
 // the processor for a stretch of at most `hold` ticks, and its board spends `switch` ticks when it first gets it. Its
 // curve has so many points, whose numbers stand by turns.
-#[derive(Drop)]
+#[derive(Clone, Copy)]
 pub struct Row {
     pub task: u32,
     pub period: u32,
@@ -35,14 +37,14 @@ pub struct Row {
 }
 
 // What the constructor answers: whether the numbers keep the limits, and the row that they make, or else no row.
-#[derive(Drop)]
+#[derive(Clone, Copy)]
 pub struct Checked {
     pub in_range: bool,
     pub row: Row,
 }
 
 // An order, highest rank first: at most MAX_TASKS task numbers and a count.
-#[derive(Drop)]
+#[derive(Clone, Copy)]
 pub struct Order {
     pub tasks: [u16; MAX_TASKS],
     pub count: usize,

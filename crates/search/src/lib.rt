@@ -1,4 +1,6 @@
 // The order of a table's tasks by the rule, found from the whole set down with a byte for each set.
+#![tactic(auto)]
+
 ghost use Rattle.std.specs.Prelude.{◌≡◌, [], ◌++◌, ◌*◌, ◌/◌, ◌%◌, ◌^◌, ◌≤◌, ◌<◌, length, drop};
 ghost use Rattle.rows.specs.Rows.{max_tasks};
 ghost use Rattle.rows.specs.inside.Arrays.{ranking};
@@ -187,7 +189,7 @@ fn read_off(rows: &[u64], n: usize, m: usize, sets: &[u8]) -> Order
 }
 
 // The order that is chosen, if there is one.
-#[derive(Drop)]
+#[derive(Clone, Copy)]
 pub struct Choice {
     pub order: Order,
     pub found: bool,

@@ -1,6 +1,8 @@
 // Reads stored texts as tables and prints what each reads as: the refusal's number and its line, or 0 and 0, then the
 // board, the numbers of each row's lines and its switch, and the ranks. docs/src/table_cases.py makes the texts and what
 // must be printed.
+#![tactic(auto)]
+
 ghost use Rattle.std.specs.Prelude.{◌≡◌, ◌+◌, ◌≤◌, length};
 ghost use Rattle.basics.specs.Basics.{pick};
 ghost use Rattle.rows.specs.inside.Numbers.{line_count, field_count};
@@ -18,7 +20,7 @@ const STDOUT: i32 = 1;
 const MAX_TEXT: u64 = 65_536;
 
 // What a stored text is followed by: another at an offset, or nothing that can be read.
-#[derive(Drop)]
+#[derive(Clone, Copy)]
 enum After {
     Offset(usize),
     Nothing,

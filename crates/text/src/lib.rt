@@ -1,4 +1,5 @@
 // Text as bytes: lines read, and numbers and lines written.
+#![tactic(auto)]
 
 // writers.rt: numbers and lines put into a lent buffer.
 mod writers;
@@ -16,7 +17,7 @@ pub use writers::{put_bytes, put_line, put_number, put_signed, put_signed_line};
 
 // What the reading of one line answers: its number and the offset after it, the end of the text where nothing is
 // expected, or a refusal with its number and its line.
-#[derive(Drop)]
+#[derive(Clone, Copy)]
 pub enum Line {
     Number(u64, usize),
     End,
@@ -31,7 +32,7 @@ const MALFORMED: u8 = 2;
 const OUT_OF_RANGE: u8 = 3;
 
 // What stands after a key: a number, or what is refusal 2.
-#[derive(Drop)]
+#[derive(Clone, Copy)]
 enum Digits {
     Value(u64),
     Malformed,
@@ -75,7 +76,7 @@ pub fn starts_with(s: &[u8], key: &[u8]) -> bool
 
 // The digits at the front of a text: how many they are, and the number that they write, where they are no more than a
 // number has.
-#[derive(Drop)]
+#[derive(Clone, Copy)]
 struct Front {
     value: u64,
     size: usize,

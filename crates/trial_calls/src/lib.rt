@@ -1,8 +1,10 @@
 // The planner's and the reviewer's calls, held against what the brute force has to answer.
+#![tactic(auto)]
+
 use trials::{Answer, Question, SPACE};
 
 // What came of a call: the answer that was expected, with its number, or another.
-#[derive(Drop)]
+#[derive(Clone, Copy)]
 pub enum Outcome {
     Same(u8),
     Differs,

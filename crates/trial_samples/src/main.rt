@@ -1,4 +1,6 @@
 // The brute force by itself: document 01's own figures, and what the generator makes.
+#![tactic(auto)]
+
 use trials::{Row, Table};
 
 // Document 01's example with betas of one's own.
@@ -61,7 +63,7 @@ fn show(table: Table) {
 }
 
 // How generated tables are spread.
-#[derive(Drop)]
+#[derive(Clone, Copy)]
 struct Spread {
     ordered: u64,
     several: u64,

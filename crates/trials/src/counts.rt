@@ -2,7 +2,7 @@
 pub const NUMBERS: usize = 10;
 
 // How often each number was answered.
-#[derive(Drop)]
+#[derive(Clone, Copy)]
 pub struct Tally {
     pub of: [u64; NUMBERS],
 }

@@ -3,7 +3,7 @@ ghost use Rattle.std.specs.Prelude.{◌*◌, ◌<◌, ◌≤◌};
 
 use crate::generator::{ROWS, Row};
 
-#[derive(Drop)]
+#[derive(Clone, Copy)]
 pub struct Figures {
     pub late: bool,
     pub worst: u64,

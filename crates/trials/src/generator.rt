@@ -9,7 +9,7 @@ use crate::permutations::{Order, arranged};
 pub const ROWS: usize = 6;
 
 // A table's row, its times short enough that no sum here can overflow.
-#[derive(Drop)]
+#[derive(Clone, Copy)]
 pub struct Row {
     pub task: u16,
     pub period: u16,
@@ -19,7 +19,7 @@ pub struct Row {
     pub beta: u32,
 }
 
-#[derive(Drop)]
+#[derive(Clone, Copy)]
 pub struct Table {
     pub board: u16,
     pub count: usize,

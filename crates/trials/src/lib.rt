@@ -1,5 +1,7 @@
 // What the planner and the reviewer are held against: generated tables, the figures by plain scanning, every order
 // tried, the texts, and a board tick by tick. Written from document 01 alone, and apart from the crates that it tests.
+#![tactic(auto)]
+
 mod counts;
 mod dice;
 mod figures;

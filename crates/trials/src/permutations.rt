@@ -4,7 +4,7 @@ use crate::figures::figures_at;
 use crate::generator::{ROWS, Table};
 
 // The rows of a table by their positions in it, highest rank first.
-#[derive(Drop)]
+#[derive(Clone, Copy)]
 pub struct Order {
     pub rows: [usize; ROWS],
 }
@@ -74,7 +74,7 @@ pub fn arranged(table: Table, order: Order) -> Table {
 }
 
 // What the figures of rows that stand highest rank first say of them.
-#[derive(Drop)]
+#[derive(Clone, Copy)]
 pub struct Verdict {
     // The first rank that is late, from 1; 0 for none, and only then do the others count.
     pub late: u32,
@@ -108,7 +108,7 @@ pub fn judged(ranked: Table) -> Verdict {
 }
 
 // The first stable order by document 01's rule, and how many are stable.
-#[derive(Drop)]
+#[derive(Clone, Copy)]
 pub struct Found {
     pub orders: u64,
     pub order: Order,

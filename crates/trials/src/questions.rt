@@ -9,7 +9,7 @@ use crate::texts::{put_bytes, put_plan, put_ranks, put_table};
 pub const SPACE: usize = 1024;
 
 // Of the reviewer: a table and an order. Of the planner: a table, and what trying every order has found.
-#[derive(Drop)]
+#[derive(Clone, Copy)]
 pub struct Question {
     pub review: bool,
     pub table: Table,
@@ -18,7 +18,7 @@ pub struct Question {
 }
 
 // What a call answers: 0 or a refusal's number, its place, and the bytes written.
-#[derive(Drop)]
+#[derive(Clone, Copy)]
 pub struct Answer {
     pub number: u8,
     pub place: u32,

@@ -4,7 +4,7 @@ use crate::figures::{Figures, figures_at};
 use crate::generator::{ROWS, Row, Table};
 
 // What a run has shown.
-#[derive(Drop)]
+#[derive(Clone, Copy)]
 pub struct Finishes {
     pub jobs: u64,
     pub at_worst: u64,
@@ -38,7 +38,7 @@ impl Finishes {
 
 // A rank: its row, its lines in the plan, and its open job; with `left` 0 none is open. One job is enough: a job that
 // is open a period after its release is past its worst line, and the run has ended by then.
-#[derive(Drop)]
+#[derive(Clone, Copy)]
 struct Seat {
     row: Row,
     worst: u64,
@@ -145,7 +145,7 @@ fn any_length(row: Row, lengths: u16, seed: &mut u64) -> u64 {
     }
 }
 
-#[derive(Drop)]
+#[derive(Clone, Copy)]
 struct Board {
     seats: [Seat; ROWS],
     count: usize,

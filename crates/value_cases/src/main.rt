@@ -1,6 +1,8 @@
 // The values that the search of W tries for some tasks, one after another, and the W that it finds, or that the task is
 // late. It is the planner's own search: how many values there are it says itself (`fixed_points::try_values`), and each is
 // found by its own first value and step.
+#![tactic(auto)]
+
 ghost use Rattle.std.specs.Prelude.{◌≡◌, true, ◌≤◌};
 ghost use Rattle.rows.specs.Rows.{max_ticks, max_switch};
 ghost use Rattle.fixed_points.specs.inside.Loads.{base_max, Columns};
@@ -13,7 +15,7 @@ use rows::Row;
 const STDOUT: i32 = 1;
 
 // A task by what counts for W: its period, and the most ticks that a job of it takes.
-#[derive(Drop)]
+#[derive(Clone, Copy)]
 pub struct Load {
     pub period: u64,
     pub cost: u64,

@@ -1,5 +1,7 @@
 // The run of a board with fixed priorities, tick by tick, and the text of the jobs that it finishes. No job holds the
 // processor: every tick goes by rank.
+#![tactic(auto)]
+
 ghost use Rattle.std.specs.Prelude.{◌≤◌, length};
 ghost use Rattle.text.specs.inside.Puts.{Put};
 ghost use Rattle.watch_demands.specs.Runs.{job_text};

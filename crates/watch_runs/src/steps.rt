@@ -7,7 +7,7 @@ ghost use Rattle.watch_runs.specs.inside.States.{TurnIs, Begins, Steady, Steps};
 use super::owners::{next_slot, seek};
 
 // What a tick comes to: the rank and the release of the job that it finishes, if it finishes one.
-#[derive(Drop)]
+#[derive(Clone, Copy)]
 pub struct Ticked {
     pub finished: bool,
     pub rank: usize,

@@ -1,4 +1,6 @@
 // The watcher: the jobs that a board finishes, run as the text on standard input says, on standard output.
+#![tactic(auto)]
+
 use libc::{STDIN_FILENO, STDOUT_FILENO};
 
 // The bytes of the input that are taken as the text.
