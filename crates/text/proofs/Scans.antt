@@ -1,10 +1,10 @@
 -- Lines, keys and digits, one byte after another: what a loop over a text needs at each turn. What is left to be read
 -- decides what the whole answers, so that one equation is the whole invariant.
-use Rattle.std.proofs.Common.{◌≡◌, ℕ, suc, ◌+◌, ◌-◌, ◌*◌, ◌<◌, ◌≤◌, false, eqb, List, [], ◌∷◌, length, get_or, take, drop, refl, inl, inr, arith, drop-cons, le-ltb, lt-ltb, eq-eqb, ne_eqb, le-leb}
+use Rattle.std.proofs.Common.{◌≡◌, ℕ, suc, ◌<◌, ◌≤◌, false, eqb, List, [], ◌∷◌, length, get_or, drop, refl, inl, inr, arith, drop-cons, le-ltb, lt-ltb, eq-eqb, ne_eqb, le-leb}
 use borrow.Author.Tests.{lt-leb}
 use Rattle.basics.proofs.Tests.{test_of, true_within}
 use Rattle.text.specs.declared.Digits.TheVariants.{Malformed}
-use Rattle.text.specs.Text.{line_feed, digit_zero, digit_nine}
+use Rattle.text.specs.Text.{line_feed, digit_zero}
 use Rattle.text.specs.Lines.{max_digits, line_of, begins, digits_from, number_of}
 
 -- ---- the first line, from an offset on

@@ -1,6 +1,5 @@
 -- Text as bytes: quoted text, a number in decimal, a line.
 use Rattle.std.specs.Prelude.{ℕ, zero, suc, ◌+◌, ◌/◌, ◌%◌, true, false, List, [], ◌∷◌, ◌++◌, ℤ, pos, negsuc, nat_lt}
-use Prim.Native.String
 use Prim.Native.String.{String}
 use Prim.Native.Char.{code}
 
