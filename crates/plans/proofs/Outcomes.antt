@@ -12,7 +12,7 @@ use Rattle.rows.specs.Rows.{Row}
 use Rattle.plans.specs.declared.Answer.{Answer}
 use Rattle.plans.specs.Entries.{first_late}
 use Rattle.plans.specs.Plans.{refusal_text}
-use Rattle.plans.specs.Outcomes.{Outcome, writes, refuses, fitted, plan_of, if_in_time, result, Written, printed}
+use Rattle.plans.specs.Outcomes.{Outcome, writes, refuses, fitted, plan_of, if_in_time, answer_of, Written, printed}
 use Rattle.plans.specs.inside.Prints.{to_print}
 
 pub fits : (room : ℕ) (t : List ℕ) → length t ≤ room → fitted room t ≡ writes t
@@ -37,7 +37,7 @@ timely_outcome room board order e = rw (e, if_in_time)
 
 -- a refusal leaves the buffer as it was
 pub refused : {w : Outcome} {o : List ℕ} {r : Answer} {number place : ℕ} → w ≡ refuses number place
-    → r ≡ result (refuses number place) → Written w o o r
+    → r ≡ answer_of (refuses number place) → Written w o o r
 refused e is = rw e record { returns = is; holds = refl }
 
 -- ---- what is printed

@@ -22,9 +22,9 @@ plan_of room board order = fitted room (plan_text board (entries order))
 unfoldable pub if_in_time : ℕ → ℕ → List Row → Outcome
 if_in_time room board order = elim (first_late order) [ zero ↦ plan_of room board order | suc k ↦ refuses 7 (suc k) ]
 
-abbrev pub result : Outcome → Answer
-result (writes text) = record { number = 0; place = 0; long = length text }
-result (refuses number place) = record { number = number; place = place; long = 0 }
+abbrev pub answer_of : Outcome → Answer
+answer_of (writes text) = record { number = 0; place = 0; long = length text }
+answer_of (refuses number place) = record { number = number; place = place; long = 0 }
 
 -- a buffer with a text at its start, every byte past it as it was
 abbrev pub over : List ℕ → List ℕ → List ℕ
@@ -37,7 +37,7 @@ after (refuses number place) buffer = buffer
 
 -- a call's promise: what it returns, and the bytes of its buffer before and after it
 pub record Written (w : Outcome) (buffer buffer' : List ℕ) (r : Answer) : Type 0 where
-  pub returns : r ≡ result w
+  pub returns : r ≡ answer_of w
   pub holds : buffer' ≡ after w buffer
 
 -- what a program prints

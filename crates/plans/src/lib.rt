@@ -3,7 +3,7 @@
 #![tactic(auto)]
 
 ghost use Rattle.std.specs.Prelude.{◌≡◌};
-ghost use Rattle.plans.specs.Outcomes.{refuses, result};
+ghost use Rattle.plans.specs.Outcomes.{refuses, answer_of};
 
 // A rank's entry in a plan. Best and worst are response times.
 #[derive(Clone, Copy)]
@@ -25,7 +25,7 @@ pub struct Answer {
 
 impl Answer {
     pub fn refused(number: u8, place: u32) -> Self
-        ensures* { λ r. ⌜ r ≡ result (refuses number place) ⌝ }
+        ensures { result ≡ answer_of (refuses number place) }
     {
         Answer {
             number,

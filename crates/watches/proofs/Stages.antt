@@ -28,7 +28,7 @@ use Rattle.grammars.proofs.Steps.{read_steps}
 use Rattle.rows.specs.Rows.{min_ticks, max_ticks, row_at, cost}
 use Rattle.rows.specs.Rows.{Row}
 use Rattle.plans.specs.declared.Answer.{Answer}
-use Rattle.plans.specs.Outcomes.{refuses, result, Written}
+use Rattle.plans.specs.Outcomes.{refuses, answer_of, Written}
 use Rattle.plans.proofs.Outcomes.{refused as stays}
 use Rattle.watch_demands.specs.WatchLines.{min_release, max_release, min_lengths, max_lengths, at_release, at_ticks}
 use Rattle.watch_demands.specs.WatchLines.{at_lengths, at_length, run_end, releases_stage, lengths_stage}
@@ -47,7 +47,7 @@ use Rattle.watches.proofs.Laid.{costs_long, bests_long}
 
 -- ---- a refused text is the call's refusal
 pub refused_text : (text o : List ℕ) {r : Answer} {n k : ℕ} → read watch_text watch_start text ≡ refused n k
-    → r ≡ result (refuses n k) → Written (watched text (length o)) o o r
+    → r ≡ answer_of (refuses n k) → Written (watched text (length o)) o o r
 refused_text text o {n = n} {k = k} e is = stays (watched_is text (length o) (refused n k) e) is
 
 -- ---- first releases

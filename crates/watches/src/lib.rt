@@ -6,7 +6,7 @@ ghost use Rattle.io.specs.Counts.{IsPrefixLen};
 ghost use Rattle.text.specs.Buffers.{Wrote};
 ghost use Rattle.text.specs.Lines.{refusal, place};
 ghost use Rattle.rows.specs.Rows.{max_tasks, max_ticks};
-ghost use Rattle.plans.specs.Outcomes.{refuses, result, Written};
+ghost use Rattle.plans.specs.Outcomes.{refuses, answer_of, Written};
 ghost use Rattle.watch_demands.specs.Calls.{watched, watch_room, watcher_prints};
 ghost use Rattle.watch_demands.specs.Demands.{WatchSays};
 ghost use Rattle.watches.specs.inside.Stages.{TableIn, Ordering, AtReleases, Laid, AtTicks, AtLengths, RunsLaid};
@@ -46,14 +46,14 @@ pub const WATCH_ROOM: usize = 65_536;
 
 // A buffer with that room.
 pub fn buffer() -> [u8; WATCH_ROOM]
-    ensures* { λ r. ⌜ r ≡ replicate watch_room 0 ⌝ }
+    ensures { result ≡ replicate watch_room 0 }
 {
     [0; WATCH_ROOM]
 }
 
 // The call's refusal where a line is refused.
 fn refused_by(answer: Line) -> Answer
-    ensures* { λ r. ⌜ r ≡ result (refuses (refusal answer) (place answer)) ⌝ }
+    ensures { result ≡ answer_of (refuses (refusal answer) (place answer)) }
 {
     let Line::Refused(number, place) = answer else {
         return Answer::refused(0, 0);
@@ -64,7 +64,7 @@ fn refused_by(answer: Line) -> Answer
 // The first release of each rank: that of its row.
 fn offsets_for(releases: [u64; MAX_TASKS], positions: &[usize], n: usize) -> [u64; MAX_TASKS]
     requires { (n ≤ max_tasks) × Located n positions.now }
-    ensures* { λ r. ⌜ OffsetsAre n releases positions.now r ⌝ }
+    ensures { OffsetsAre n releases positions.now result }
 {
     let mut offsets = [0u64; MAX_TASKS];
     let mut i = 0;
@@ -78,7 +78,7 @@ fn offsets_for(releases: [u64; MAX_TASKS], positions: &[usize], n: usize) -> [u6
 // Where the rows of the order stand among those of the table, and their times in columns.
 fn lay_out(numbers: &[u64], n: usize, positions: &mut [usize], columns: &mut [u64])
     requires { TableIn numbers.now n × (n ≤ length positions.old) × (3 * n ≤ length columns.old) }
-    ensures* { λ _. ⌜ Ordering numbers.now n positions.new columns.new ⌝ }
+    ensures { Ordering numbers.now n positions.new columns.new }
 {
     let order = order_at(numbers, HEAD + FIELDS * n, n);
     let rows = &numbers[HEAD..];
@@ -100,8 +100,8 @@ fn watch_run(
     lengths: &[u64],
 ) -> Answer
     requires { Laid numbers.now n positions.now columns.now offsets × (ticks ≤ max_ticks) }
-    ensures* { λ r. ⌜ RunsLaid numbers.now n positions.now columns.now offsets ticks
-        owners.now lengths.now out.old out.new r ⌝ }
+    ensures { RunsLaid numbers.now n positions.now columns.now offsets ticks
+        owners.now lengths.now out.old out.new result }
 {
     let rows = &numbers[HEAD..];
     let late = late_rank(rows, positions, n);
@@ -133,8 +133,8 @@ fn watch_lengths(
 ) -> Answer
     requires { AtLengths text.now at line numbers.now n positions.now columns.now offsets ticks
         owners.old lengths.old }
-    ensures* { λ r. ⌜ Written (watched text.now (length out.old)) out.old
-        out.new r ⌝ }
+    ensures { Written (watched text.now (length out.old)) out.old
+        out.new result }
 {
     fill_owners(owners, offsets, columns, n);
     let costs = &columns[n..];
@@ -166,8 +166,8 @@ fn watch_order(
     offsets: [u64; MAX_TASKS],
 ) -> Answer
     requires { AtTicks text.now at line numbers.now n positions.now columns.now offsets }
-    ensures* { λ r. ⌜ Written (watched text.now (length out.old)) out.old
-        out.new r ⌝ }
+    ensures { Written (watched text.now (length out.old)) out.old
+        out.new result }
 {
     let answer = line_at(text, at, line, b"ticks=", TICKS_MIN, TICKS_MAX);
     let Line::Number(ticks, next) = answer else {
@@ -206,8 +206,8 @@ fn watch_table(
     n: usize,
 ) -> Answer
     requires { AtReleases text.now at line numbers.now n }
-    ensures* { λ r. ⌜ Written (watched text.now (length out.old)) out.old
-        out.new r ⌝ }
+    ensures { Written (watched text.now (length out.old)) out.old
+        out.new result }
 {
     let lows = [RELEASE_MIN];
     let highs = [RELEASE_MAX];
@@ -246,7 +246,7 @@ fn watch_table(
 // The watcher: the jobs that a board finishes, run as a text says. The lines are measured before they are written, so
 // that a refusal leaves `out` as it was.
 pub fn watch_board(text: &[u8], out: &mut [u8]) -> Answer
-    ensures* { λ r. ⌜ WatchSays text.now out.old out.new r ⌝ }
+    ensures { WatchSays text.now out.old out.new result }
 {
     let mut numbers = [0u64; MOST_NUMBERS];
     let front = read_front(text, &mut numbers);
@@ -259,8 +259,8 @@ pub fn watch_board(text: &[u8], out: &mut [u8]) -> Answer
 
 // What the watcher's program prints for the text it took: the lines of the jobs, or the three lines of its refusal.
 pub fn print_watch(text: &[u8], out: &mut [u8; WATCH_ROOM]) -> usize
-    ensures* fact { λ r. ⌜ Wrote (watcher_prints text.now) out.old out.new r ⌝ }
-    ensures* fact_2 { λ r. ⌜ IsPrefixLen r out.new ⌝ }
+    ensures wrote { Wrote (watcher_prints text.now) out.old out.new result }
+    ensures prefix_len { IsPrefixLen result out.new }
 {
     let watched = watch_board(text, out);
     if watched.number != 0 {

@@ -9,12 +9,12 @@ use Rattle.text.specs.declared.Line.{Line}
 use Rattle.text.specs.declared.Line.TheVariants as L
 use Rattle.text.specs.contracts.Line.{the_type as Line-type}
 use Rattle.plans.specs.declared.Answer.{Answer}
-use Rattle.plans.specs.Outcomes.{refuses, result}
+use Rattle.plans.specs.Outcomes.{refuses, answer_of}
 use Rattle.watches.proofs.refused_by.Statement.{statement}
 use Rattle.watches.proofs.refused_by.Tie as tie
 
 unrefused : (l : Line) → OneOf (0 ∷ 1 ∷ []) (tag_of Line-type l)
-    → result (refuses 0 0) ≡ result (refuses (refusal l) (place l))
+    → answer_of (refuses 0 0) ≡ answer_of (refuses (refusal l) (place l))
 unrefused (L.Number v next) some = refl
 unrefused L.End some = refl
 unrefused (L.Refused n j) some = absurd (miss (0 ∷ 1 ∷ []) 2 tt some)
@@ -25,7 +25,7 @@ returns c = c.refused.ensures ∙ unrefused c.before.before.args.answer c.before
 returns-2 : tie.Need-returns-2
 returns-2 c =
     c.refused2.ensures
-    ∙ sym (ap (λ (l : Line). result (refuses (refusal l) (place l))) c.before.before.answer.given.1)
+    ∙ sym (ap (λ (l : Line). answer_of (refuses (refusal l) (place l))) c.before.before.answer.given.1)
 
 pub refused_by_spec : {M : Type 1} → statement M
 refused_by_spec =
