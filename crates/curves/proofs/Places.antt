@@ -1,11 +1,11 @@
 -- What a curve permits, and its last delay, by the numbers that the code reads: those of the point at the index that
 -- was found, and of the one before it.
-use mathlib.Core.Path.{◌≡◌, refl, ap, ap₂, sym, ◌∙◌, subst}
+use mathlib.Core.Path.{◌≡◌, ap, ap₂, sym, ◌∙◌, subst}
 use mathlib.Core.Bool.{true}
-use mathlib.Core.List.{List, [], ◌∷◌}
+use mathlib.Core.List.{List}
 use Prim.Native.Nat.{ℕ, suc, ◌-◌, ◌*◌, ◌≤◌, ◌<◌}
 use native.Mathlib.Omega.{arith}
-use lib.ListN.{length, get_or}
+use lib.ListN.{get_or}
 use Rattle.curves.specs.declared.Fraction.{Fraction}
 use Rattle.curves.specs.Curves.{Point, no_point, well_formed, points_from}
 use Rattle.curves.specs.Curves.{whole, on_line, permitted, last_delay}

@@ -1,12 +1,13 @@
 -- Rows put among numbers: a row that is put is there and the others stay, so rows put one after another are all there.
-use mathlib.Core.Path.{◌≡◌, refl, sym, ap, ◌∙◌}
+use mathlib.Core.Path.{◌≡◌, refl, sym, ap, subst, ◌∙◌}
 use mathlib.Core.List.{List, [], ◌∷◌, ◌++◌}
 use mathlib.Core.Logic.{inl, inr}
 use Prim.Native.Nat.{ℕ, zero, suc, ◌+◌, ◌-◌, ◌*◌, ◌≤◌, ◌<◌}
 use native.Mathlib.Nat.{zero-add}
 use native.Mathlib.Decide.{ℕ_discrete}
 use native.Mathlib.Omega.{arith}
-use lib.ListN.{length, get_or, drop, set, length-set, get_or-append}
+use lib.ListN.{length, get_or, drop, set, length-set, length-map, get_or-map, get_or-append}
+use Rattle.std.proofs.lemmas.List.{get_or_default}
 use lib.Seq.{get_or-drop, get_or-set_same, get_or-set_other}
 use Rattle.basics.proofs.Tests.{le-or-lt}
 use Rattle.curves.specs.Curves.{max_points}
@@ -14,8 +15,8 @@ use Rattle.curves.proofs.PointNumbers.{points_length}
 use Rattle.rows.specs.declared.Row.{Row as Record}
 use Rattle.rows.specs.Rows.{Row, max_tasks, first_point_at, row_of, row_at}
 use Rattle.rows.specs.inside.Numbers.{line_count, switch_at, field_count, lines_from, row_in}
-use Rattle.rows.specs.inside.Records.{as_row, numbers_room, CurvePut, RowPut}
-use Rattle.rows.proofs.RowNumbers.{lines_same, line_in_lem, switch_in_lem, row_same}
+use Rattle.rows.specs.inside.Records.{as_row, as_rows, no_record, numbers_room, CurvePut, FewPoints, RowPut, RowsPut}
+use Rattle.rows.proofs.RowNumbers.{lines_same, line_in_lem, switch_in_lem, row_same, rows_are}
 
 -- ---- numbers written one after another, from index at + d on
 abbrev written : List ℕ → ℕ → ℕ → List ℕ → List ℕ
@@ -150,3 +151,30 @@ put_next ns zs rows i room each put points k h few = elim (ℕ_discrete k i) [
   | yes e ↦ rw e (put.there room (omega arith) points)
   | no ne ↦ put.others k ne ∙ each k (omega (arith, h, ne)) few
 ]
+
+-- ---- rows put one after another: those before the index that have room are there
+pub record Passed (rows : List Row) (ns₀ : List ℕ) (i : ℕ) (ns : List ℕ) : Type 0 where
+  pub long : length ns ≡ length ns₀
+  pub there : numbers_room ≤ length ns₀ → FewPoints rows → (k : ℕ) → k < i → k < max_tasks
+      → row_in ns k ≡ row_at rows k
+
+pub none_passed : (rows : List Row) (ns : List ℕ) → Passed rows ns 0 ns
+none_passed rows ns = record { long = refl; there = λ room few k h. absurd (omega arith) }
+
+pub next_passed : (rs : List Record) (ns₀ : List ℕ) (i : ℕ) (ns zs : List ℕ) (d : Record) → i < length rs
+    → Passed (as_rows rs) ns₀ i ns → RowPut ns i (as_row (get_or rs i d)) zs → Passed (as_rows rs) ns₀ (i + 1) zs
+next_passed rs ns₀ i ns zs d l p put =
+    let same : as_row (get_or rs i d) ≡ row_at (as_rows rs) i =
+    ap as_row (get_or_default rs i d no_record l) ∙ sym (get_or-map as_row rs i no_record) in record {
+      long = put.long ∙ p.long;
+      there = λ room few. put_next ns zs (as_rows rs) i (omega (arith, room, p.long)) (p.there room few)
+          (subst (λ t. RowPut ns i t zs) same put) (few i (omega (arith, l, length-map rs as_row)));
+    }
+
+pub all_passed : (rows : List Row) (ns₀ : List ℕ) (i : ℕ) (ns : List ℕ) → length rows ≤ i → Passed rows ns₀ i ns
+    → RowsPut rows ns₀ ns
+all_passed rows ns₀ i ns h p = record {
+  there = λ room many few. rows_are ns rows (λ k l.
+      p.there room few k (omega (arith, h, l)) (omega (arith, many, l)));
+  long = p.long;
+}
