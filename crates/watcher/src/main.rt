@@ -1,15 +1,17 @@
 // The watcher: the jobs that a board finishes, run as the text on standard input says, on standard output.
 #![tactic(auto)]
 
-use libc::{STDIN_FILENO, STDOUT_FILENO};
+const STDIN: i32 = 0;
+
+const STDOUT: i32 = 1;
 
 // The bytes of the input that are taken as the text.
 const TEXT_MAX: usize = 65_536;
 
 fn main() {
     let mut text = [0u8; TEXT_MAX];
-    let n = io::read_full(STDIN_FILENO, &mut text);
+    let n = io::read_full(STDIN, &mut text);
     let mut out = watches::buffer();
     let long = watches::print_watch(&text[..n], &mut out);
-    io::write_all(STDOUT_FILENO, &out[..long]);
+    io::write_all(STDOUT, &out[..long]);
 }
