@@ -4,14 +4,13 @@ use mathlib.Core.Bool.{true, false}
 use mathlib.Core.List.{List, ◌++◌}
 use mathlib.Core.Logic.{inl, inr}
 use Prim.Native.Nat.{ℕ, zero, suc, ◌+◌}
-use native.Mathlib.Omega.{arith}
 use lib.IntN.{ℤ}
 use lib.ListN.{length, drop}
 use Rattle.basics.specs.Basics.{is_in}
 use Rattle.basics.proofs.Tests.{test_of}
 use Rattle.text.specs.Text.{line_feed, signed, key_line}
 use Rattle.text.proofs.Lines.{line_rest}
-use Rattle.grammars.specs.Forms.{Form, fits, in_form, Told, number, no_number, form_at}
+use Rattle.grammars.specs.Forms.{Form, fits, in_form, no_number, form_at}
 use Rattle.grammars.specs.Grammars.{Grammar, Expected, the_end, a_line, key_in, Plain}
 use Rattle.grammars.specs.Grammars.{goes_on, on_fault, on_told, on_expected, step}
 use Rattle.grammars.specs.Reasons.{Passes, Reaches, line}

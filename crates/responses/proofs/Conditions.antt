@@ -1,10 +1,10 @@
 -- A task is stable by the condition that its row carries: with no points the margin is that of its line, and else that
 -- of its curve; a smaller W at the same E leaves a stable task stable; and a curve counts for its own task alone, since
 -- W and E of others take nothing of it.
-use mathlib.Core.Path.{◌≡◌, refl, sym, ap, ap₂, ◌∙◌}
-use mathlib.Core.Bool.{Bool, true, false, not}
+use mathlib.Core.Path.{◌≡◌, refl, sym, ap, ◌∙◌}
+use mathlib.Core.Bool.{Bool, true, not}
 use mathlib.Core.List.{List, [], ◌∷◌, map}
-use Prim.Native.Nat.{ℕ, suc, ◌+◌, ◌-◌, ◌*◌, ◌≤◌}
+use Prim.Native.Nat.{ℕ, ◌+◌, ◌-◌, ◌*◌, ◌≤◌}
 use native.Mathlib.Nat.{mul-le-mul_left, mul-le-mul_right}
 use native.Mathlib.Omega.{arith}
 use borrow.Author.Tests.{leb-true, le-leb, not-true}
@@ -13,20 +13,19 @@ use lib.ListN.{length}
 use lib.Signed.{le_z}
 use Rattle.basics.specs.Basics.{larger}
 use Rattle.basics.proofs.Tests.{and_left, and_right, and_both}
-use Rattle.curves.specs.Curves.{Point, well_formed, whole, permitted, curve_margin}
-use Rattle.curves.specs.Claims.{AtMost, Margined}
+use Rattle.curves.specs.Curves.{Point, well_formed, permitted, curve_margin}
 use Rattle.curves.proofs.Permits.{permits}
 use Rattle.curves.proofs.Margins.{margined}
 use Rattle.rows.specs.Rows as R
 use Rattle.rows.specs.Rows.{Row, in_range}
 use Rattle.rows.proofs.Limits.{limits}
 use Rattle.responses.specs.Interference.{Load, interference}
-use Rattle.responses.specs.Figures.{worst_load, best_load, largest_hold, latest, earliest, is_late, margin, is_stable}
+use Rattle.responses.specs.Figures.{worst_load, best_load, largest_hold, latest, earliest, is_late, margin}
 use Rattle.responses.specs.Figures.{line_margin, margin_by}
 use Rattle.responses.specs.Claims.{spent, ByLine, ByCurve, ByCondition, uncurved, OwnCurve}
 use Rattle.responses.proofs.Blocking.{blocking_is}
 use Rattle.curves.proofs.Floors.{sub_is, sub_sign}
-use Rattle.responses.proofs.Sequences.{Same, same_figures}
+use Rattle.responses.proofs.Sequences.{same_figures}
 
 -- ---- the margin by a list of points
 module _ (alpha beta w e : ℕ) where

@@ -1,23 +1,21 @@
 -- The responses of a task between the rows above and below it. W is fixed within the period. At W the best jobs take at
 -- most what the worst take, so E exists and is at most W, by its formula as much as the best time. Demand 2 follows.
 use mathlib.Core.Path.{◌≡◌, ap, ap₂, sym, ◌∙◌}
-use mathlib.Core.Bool.{Bool, true, false, ◌&&◌, not}
-use mathlib.Core.List.{List, [], ◌∷◌, map}
-use Prim.Native.Nat.{ℕ, ◌+◌, ◌-◌, ◌≤◌}
-use native.Mathlib.Nat.{mul-le-mul, add-le-add}
+use mathlib.Core.Bool.{Bool, true, false, ◌&&◌}
+use mathlib.Core.List.{List, map}
+use Prim.Native.Nat.{ℕ, ◌+◌, ◌≤◌}
 use native.Mathlib.Omega.{arith}
-use borrow.Author.Tests.{eqb-false, eq-eqb, ne_eqb, leb-true, le-leb, lt-leb, not-true}
+use borrow.Author.Tests.{eqb-false, eq-eqb, ne_eqb, le-leb, lt-leb}
 use mathlib.Core.Logic.{inl, inr}
 use lib.Dec.{leb}
-use lib.IntN.{ℤ, pos}
-use lib.Signed.{le_z}
+use lib.IntN.{ℤ}
 use lib.ListN.{length}
 use Rattle.rows.specs.Rows.{cost, times_in_range, in_range, all_rows}
 use Rattle.rows.specs.Rows.{Row}
 use Rattle.basics.specs.Basics.{pick}
-use Rattle.basics.proofs.Tests.{test_of, and_left, and_right, and_both, le-or-lt}
-use Rattle.rows.proofs.Limits.{times, in_range_times, head_passes, tail_passes, all_times}
-use Rattle.responses.specs.Interference.{ceiling, least_fixed, largest_fixed}
+use Rattle.basics.proofs.Tests.{test_of, and_left, and_right, le-or-lt}
+use Rattle.rows.proofs.Limits.{times, in_range_times, all_times}
+use Rattle.responses.specs.Interference.{least_fixed, largest_fixed}
 use Rattle.responses.specs.Figures.{worst_load, best_load, worst_in, best_in, blocking, latest, is_late, earliest}
 use Rattle.responses.specs.Figures.{is_stable, margin_at, margin, late_figures, figures_at, figures_under}
 use Rattle.responses.specs.Figures.{least_hold, may_hold, max_others, in_limits}

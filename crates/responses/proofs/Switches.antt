@@ -1,13 +1,13 @@
 -- What a switch does to the figures: it stands beside each worst time and nowhere else, so without it they are those
 -- before it; and W never falls when it grows, since what W's equation demands of a window does not.
 use mathlib.Core.Path.{◌≡◌, refl, sym, ap, ap₂, ◌∙◌, subst}
-use mathlib.Core.Bool.{Bool, true, false, not}
+use mathlib.Core.Bool.{Bool, true, not}
 use mathlib.Core.Logic.{inl, inr}
 use mathlib.Core.List.{List, [], ◌∷◌, map}
 use Prim.Native.Nat.{ℕ, zero, suc, ◌+◌, ◌-◌, ◌*◌, ◌≤◌, ◌<◌}
 use native.Mathlib.Nat.{mul-le-mul, mul-le-mul_left, add-le-add, mul_comm, le_antisymm}
 use native.Mathlib.Omega.{arith}
-use borrow.Author.Tests.{eqb-true, eqb-false, ne_eqb, leb-true, le-leb, not-true}
+use borrow.Author.Tests.{eqb-true, eqb-false, ne_eqb, not-true}
 use lib.IntN.{pos}
 use lib.Signed.{le_z}
 use Rattle.basics.specs.Basics.{pick, larger}
@@ -19,7 +19,7 @@ use Rattle.rows.proofs.Limits.{limits, times, in_range_times, head_passes, tail_
 use Rattle.responses.specs.Interference.{ceiling, Load, interference, least_fixed, largest_fixed}
 use Rattle.responses.specs.Figures.{worst_load, best_load, worst_in, best_in, largest_hold, blocking, latest, is_late}
 use Rattle.responses.specs.Figures.{may_hold, earliest, margin_at, margin, is_stable}
-use Rattle.responses.specs.Claims.{switched_load, ByNumbers, plain_load, NoSwitch, AsRequest2, WithoutSwitch}
+use Rattle.responses.specs.Claims.{switched_load, ByNumbers, plain_load, NoSwitch, WithoutSwitch}
 use Rattle.responses.specs.Claims.{switched, Grows, SwitchUpTo, SwitchGrows}
 use Rattle.responses.proofs.Blocking.{blocking_is}
 use Rattle.responses.proofs.Conditions.{eased}

@@ -34,7 +34,7 @@ use Rattle.rows.specs.Rows.{lines_for, row_of, min_switch, max_switch, full_cost
 use Rattle.tables.specs.TableLines.{RowLine, min_board, max_board, exceeding, repeated, impossible, disorderly}
 use Rattle.tables.specs.TableLines.{row_line_at, at_most, new_rank, is_whole}
 use Rattle.tables.specs.TableLines.{Stage, at_board, at_tasks, at_switch, at_field, at_rank, at-end}
-use Rattle.tables.specs.TableLines.{ranks_stage, rows_stage, fault, after, table, table_of}
+use Rattle.tables.specs.TableLines.{ranks_stage, rows_stage, after, table, table_of}
 use Rattle.tables.specs.Claims.{Accepted}
 use Rattle.tables.specs.inside.Partial.{Partial}
 use Rattle.tables.proofs.RowLines.{delay_at, allow_at, partial_next, whole_few}

@@ -4,7 +4,7 @@ use mathlib.Core.Path.{◌≡◌, refl, sym, ap, subst, ◌∙◌}
 use mathlib.Core.Bool.{Bool, true, false}
 use mathlib.Core.List.{List, [], ◌∷◌}
 use mathlib.Core.Logic.{◌⊎◌, inl, inr, ◌↔◌}
-use Prim.Native.Nat.{ℕ, zero, suc, ◌≤◌, ◌<◌}
+use Prim.Native.Nat.{ℕ, suc, ◌≤◌, ◌<◌}
 use native.Mathlib.Omega.{arith}
 use lib.IntN.{ℤ}
 use lib.ListN.{length}
@@ -17,7 +17,7 @@ use Rattle.grammars.specs.Claims.{Decides}
 use Rattle.grammars.proofs.Decision.{decides, refused_as}
 use Rattle.rows.specs.Rows.{row_at, rows_for, cost}
 use Rattle.rows.specs.Rows.{Row}
-use Rattle.tables.specs.TableLines.{at-end, fault, table_of}
+use Rattle.tables.specs.TableLines.{fault, table_of}
 use Rattle.tables.specs.Claims.{ranked_refusals}
 use Rattle.tables.specs.Claims.{Accepted}
 use Rattle.tables.proofs.Refusals.{fault_listed, one_of}
@@ -34,7 +34,7 @@ use Rattle.demands.proofs.Promises.{promised}
 use Rattle.demands.proofs.Reviewer.{none_late_first, first_of, first-is}
 use Rattle.watch_demands.specs.Jobs.{length_of, Indexed}
 use Rattle.watch_demands.specs.Runs.{finished_text, finished_by, jobs_text, FinishedWithin}
-use Rattle.watch_demands.specs.WatchLines.{run_end, offset_of, WatchStage, watch_text, watch_start}
+use Rattle.watch_demands.specs.WatchLines.{offset_of, WatchStage, watch_text, watch_start}
 use Rattle.watch_demands.specs.Calls.{run_in_time, on_watch, watched}
 use Rattle.watch_demands.specs.Demands.{TellsRun, FailsRun, RunSays, RunOf, watcher_refusals, WatchDemands}
 use Rattle.watch_demands.proofs.Given.{is_given, given_only, order_in_range, order_limits, order_unheld}

@@ -3,14 +3,14 @@
 use mathlib.Core.Path.{◌≡◌, refl, sym, ap, subst, ◌∙◌}
 use mathlib.Core.Bool.{Bool, true, false, ◌&&◌, ◌||◌}
 use mathlib.Core.List.{List, [], ◌∷◌, ◌++◌, append-nil, append_assoc}
-use mathlib.Core.Logic.{◌⊎◌, inl, inr, ◌↔◌}
+use mathlib.Core.Logic.{◌⊎◌, inl, inr}
 use Prim.Native.Nat.{ℕ, zero, suc, ◌+◌, ◌-◌, ◌≤◌, ◌<◌}
 use native.Mathlib.Omega.{arith}
 use native.Mathlib.Nat.{le_refl, zero-add}
 use lib.Dec.{eqb}
 use borrow.Author.Tests.{eqb-true, eq-eqb}
 use Rattle.basics.specs.Basics.{pick}
-use Rattle.basics.proofs.Tests.{true_not_false, and_left, and_right, and_both, le-or-lt}
+use Rattle.basics.proofs.Tests.{true_not_false, and_left, and_right}
 use Rattle.text.specs.Text.{bytes, decimal, key_line}
 use Rattle.rows.specs.Rows.{row_at}
 use Rattle.rows.specs.Rows.{Row}

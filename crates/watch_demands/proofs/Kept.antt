@@ -1,8 +1,8 @@
 -- A run that is watched is one of which demand 3 speaks: each of its jobs takes from its row's best to its worst and
 -- the
 -- switch. So each that is printed keeps the lines of the order's plan.
-use mathlib.Core.Path.{◌≡◌, refl, sym, ap, subst, ◌∙◌}
-use mathlib.Core.Bool.{Bool, true}
+use mathlib.Core.Path.{◌≡◌, refl, sym, subst, ◌∙◌}
+use mathlib.Core.Bool.{Bool}
 use mathlib.Core.List.{List, [], ◌∷◌}
 use mathlib.Core.Logic.{inl, inr}
 use Prim.Native.Nat.{ℕ, zero, suc, ◌+◌, ◌*◌, ◌≤◌, ◌<◌}
@@ -13,8 +13,9 @@ use Rattle.basics.proofs.Tests.{le-or-lt}
 use Rattle.rows.specs.Rows.{row_at, cost}
 use Rattle.rows.specs.Rows.{Row}
 use Rattle.responses.specs.Claims.{NoneHolds}
-use Rattle.boards.specs.Boards.{Done, is_done}
-use Rattle.boards.specs.Claims.{LastsInRange, Finishes, AfterFirstReleases}
+use Rattle.boards.specs.Boards.{Done}
+use Rattle.boards.specs.Claims.{LastsInRange, Finishes}
+use Rattle.boards.specs.Witnesses.{never}
 use Rattle.boards.proofs.Document01.{same_board}
 use Rattle.demands.specs.Demands.{Promised}
 use Rattle.watch_demands.specs.Jobs.{index_of, rank_with, length_of, Indexed}
@@ -65,7 +66,7 @@ module _ (order : List Row) (offset : ℕ → ℕ) (lengths : List ℕ) where
   finished_same none keeps ticks ds w =
       finished_only order offset need keeps ticks ds w
       ∙ ((same_board order offset need keeps).same_finished none ticks
-      ∙ sym ((same_board order offset need _).same_finished none ticks))
+      ∙ sym ((same_board order offset need never).same_finished none ticks))
 
   pub run_kept : Promised order → LastsInRange order need → (keeps : ℕ → Bool) (ticks : ℕ) (ds : List Done)
       → FinishedWithin order offset need keeps ticks ds → RunKept order offset lengths ds

@@ -2,22 +2,21 @@
 -- lines
 -- of its run, in their limits.
 use mathlib.Core.Path.{◌≡◌, refl, sym, ap, subst, ◌∙◌}
-use mathlib.Core.Bool.{Bool, true, false, not}
+use mathlib.Core.Bool.{true, false, not}
 use mathlib.Core.List.{List, [], ◌∷◌, ◌++◌, append-nil}
 use mathlib.Core.Logic.{inl, inr}
-use Prim.Native.Nat.{ℕ, zero, suc, ◌+◌, ◌^◌, ◌≤◌, ◌<◌}
+use Prim.Native.Nat.{ℕ, zero, suc, ◌^◌, ◌≤◌, ◌<◌}
 use native.Mathlib.Omega.{arith}
 use lib.Dec.{eqb}
 use lib.IntN.{ℤ, pos}
 use lib.ListN.{length, get_or, get_or-eq_default}
-use borrow.Author.Tests.{eq-eqb, ne_eqb, eqb-true, not-true, lt-ltb, le-leb, lt-leb}
-use Rattle.basics.specs.Basics.{pick, is_in}
+use borrow.Author.Tests.{eq-eqb, ne_eqb, not-true, lt-ltb, le-leb, lt-leb}
 use Rattle.basics.proofs.Tests.{test_of, le-or-lt, true_not_false, and_left, and_right, or_right}
-use Rattle.text.specs.Text.{bytes, signed, key_line}
+use Rattle.text.specs.Text.{bytes, signed}
 use Rattle.text.specs.Lines.{max_digits}
 use Rattle.grammars.specs.Forms.{Form, natural}
 use Rattle.grammars.specs.Grammars.{Expected, the_end, a_line, Plain}
-use Rattle.grammars.specs.Sequences.{Sequel, first, second, where_ended, onward, Split}
+use Rattle.grammars.specs.Sequences.{first, second, where_ended, onward, Split}
 use Rattle.grammars.specs.Reasons.{Passes, Reaches, Refused, out_of_range}
 use Rattle.grammars.specs.Claims.{AsWritten}
 use Rattle.grammars.proofs.Invariants.{Invariant, holds}
@@ -29,10 +28,10 @@ use Rattle.tables.specs.TableLines.{Stage, at_board, at_tasks, at_switch, at_fie
 use Rattle.tables.specs.TableLines.{at-end, TableRead, table_of, table_at}
 use Rattle.tables.specs.TableLines.{table}
 use Rattle.tables.specs.Claims.{Accepted, Tells, line_of}
-use Rattle.tables.proofs.Readings.{Ending, at_last, ending}
+use Rattle.tables.proofs.Readings.{Ending, at_last}
 use Rattle.tables.proofs.Soundness as Soundness
 use Rattle.watch_demands.specs.WatchLines.{RunStage, at_release, at_ticks, at_lengths, at_length, run_end}
-use Rattle.watch_demands.specs.WatchLines.{no_hold, offset_of, unheld_line, unheld, run, run_behind, run_begins}
+use Rattle.watch_demands.specs.WatchLines.{no_hold, unheld_line, unheld, run_behind, run_begins}
 use Rattle.watch_demands.specs.WatchLines.{WatchStage, watch_text, watch_start}
 use Rattle.watch_demands.specs.Demands.{TellsRun, run_lines, RunLimits, RunSays, RunReadsBack}
 use Rattle.watch_demands.specs.Demands.{TableRefusals}

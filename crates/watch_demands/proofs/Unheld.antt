@@ -1,24 +1,22 @@
 -- A table none of whose tasks holds is one that the reviewer takes: a hold of 0 is in the range of every hold.
-use mathlib.Core.Path.{◌≡◌, refl, sym, ap, subst, ◌∙◌}
-use mathlib.Core.Bool.{true, false}
+use mathlib.Core.Path.{◌≡◌, refl, sym, ap, ◌∙◌}
+use mathlib.Core.Bool.{true}
 use mathlib.Core.List.{List, [], ◌∷◌, ◌++◌}
 use mathlib.Core.Logic.{inl, inr}
-use Prim.Native.Nat.{ℕ, zero, suc, ◌≤◌, ◌<◌}
+use Prim.Native.Nat.{ℕ, zero, suc, ◌<◌}
 use native.Mathlib.Omega.{arith}
 use lib.Dec.{eqb}
 use lib.IntN.{ℤ, pos, negsuc}
 use lib.ListN.{length, get_or, length-append, get_or-append}
 use lib.Seq.{get_or_at}
 use borrow.Author.Tests.{eqb-true, eq-eqb}
-use Rattle.basics.specs.Basics.{pick, is_in}
 use Rattle.basics.proofs.Tests.{test_of, le-or-lt, true_within}
-use Rattle.text.specs.Text.{bytes, line_feed}
-use Rattle.grammars.specs.Forms.{Form, natural, size, fits, in_form}
-use Rattle.grammars.specs.Grammars.{Expected, a_line, key_in, Plain}
+use Rattle.text.specs.Text.{bytes}
+use Rattle.grammars.specs.Forms.{Form, natural, size, fits}
+use Rattle.grammars.specs.Grammars.{a_line, Plain}
 use Rattle.grammars.specs.Reasons.{Passes, Reaches}
 use Rattle.grammars.proofs.Invariants.{Invariant}
 use Rattle.grammars.proofs.Naturals.{natural_passes}
-use Rattle.grammars.proofs.Steps.{no_line}
 use Rattle.rows.specs.Rows.{min_hold, max_hold, hold_at, points_at, lines_for, row_of, no_row, row_at}
 use Rattle.rows.specs.Rows.{Row}
 use Rattle.tables.specs.TableLines.{Stage, at_board, at_tasks, at_switch, at_field, at_rank, at-end, row_line_at}

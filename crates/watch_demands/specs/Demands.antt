@@ -13,7 +13,7 @@ use Rattle.rows.specs.Rows.{Row}
 use Rattle.tables.specs.TableLines.{Stage, at_board, at_field, at-end, expected, table}
 use Rattle.tables.specs.Claims.{Tells, ranked_refusals, line_of}
 use Rattle.boards.specs.Boards.{Done, is_done}
-use Rattle.boards.specs.Claims.{LastsInRange, Finishes, AfterFirstReleases, NoneLate}
+use Rattle.boards.specs.Claims.{LastsInRange, AfterFirstReleases, NoneLate}
 use Rattle.plans.specs.declared.Answer.{Answer}
 use Rattle.plans.specs.Outcomes.{Outcome, writes, refuses, Written}
 use Rattle.demands.specs.Demands.{entry_at, Promised, Given, FirstLate}

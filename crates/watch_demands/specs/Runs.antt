@@ -1,5 +1,5 @@
 -- What a board finishes within some ticks, and its text.
-use Rattle.std.specs.Prelude.{◌≡◌, Bool, true, false, List, [], ◌∷◌, ◌++◌, ◌↔◌, ℕ, ◌+◌, ◌≤◌, ◌<◌}
+use Rattle.std.specs.Prelude.{◌≡◌, Bool, true, List, [], ◌∷◌, ◌++◌, ◌↔◌, ℕ, ◌≤◌, ◌<◌}
 use Rattle.text.specs.Text.{bytes, decimal, joined, key_line}
 use Rattle.rows.specs.Rows.{row_at}
 use Rattle.rows.specs.Rows.{Row}

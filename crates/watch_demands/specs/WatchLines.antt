@@ -1,6 +1,6 @@
 -- A text to watch: a table with its rank lines, none of whose tasks holds the processor; then a first release for each
 -- row, the ticks to run, and the lengths of jobs. What each line is to be, and what it leaves to be read.
-use Rattle.std.specs.Prelude.{true, List, [], ◌∷◌, ◌++◌, ℕ, zero, suc, eqb, ℤ, length, get_or}
+use Rattle.std.specs.Prelude.{true, List, [], ◌∷◌, ◌++◌, ℕ, eqb, length, get_or}
 use Rattle.basics.specs.Basics.{pick}
 use Rattle.text.specs.Text.{bytes}
 use Rattle.grammars.specs.Forms.{natural, size}
