@@ -20,11 +20,11 @@ put_job-end-requires c = end_small _ _ _ _ _ _ _ _ _ _ _ c.loop-t.invariant
 pub loop-t-preserved : goal.loop-t-preserved
 loop-t-preserved c =
     let s = c.step-ticked in
-    running_on _ _ _ _ _ _ _ _ _ _ _ c.loop-t.invariant c.loop-t-test.true s.ensures
+    running_on _ _ _ _ _ _ _ _ _ _ _ c.loop-t.invariant (omega (arith, c.loop-t-test.true)) s.ensures
     s.auto.starts s.auto.lefts s.auto.slots (elim c.if-ticked.branch [
       | then-ticked w ↦ inr (w.if-ticked.true, rw (w.out-is, w.end-is) w.put_job-end.ensures, c.if-ticked.auto.out)
       | else-ticked w ↦ inl (w.if-ticked.false, w.out-is, w.end-is)
     ])
 
 pub returns : goal.returns
-returns c = running_ends _ _ _ _ _ _ _ _ _ _ _ c.loop-t.invariant c.loop-t-test.false
+returns c = running_ends _ _ _ _ _ _ _ _ _ _ _ c.loop-t.invariant (omega (arith, c.loop-t-test.false))
