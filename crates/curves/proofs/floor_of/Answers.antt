@@ -2,7 +2,7 @@
 use mathlib.Core.Path.{refl}
 use Prim.Native.Nat.{◌-◌}
 use native.Mathlib.Omega.{arith}
-use Rattle.curves.proofs.Floors.{quotient_fits, floor_up, down_fits, floor_down}
+use Rattle.curves.proofs.Floors.{quotient_fits, floor_up, floor_down}
 use Rattle.curves.proofs.floor_of.Goals as goal
 
 pub overflow_cast-result : goal.overflow_cast-result
@@ -13,11 +13,6 @@ returns-then-b-a c = let a = c.args in floor_up a.a a.b a.d c.if-b-a.true c.requ
 
 pub overflow_cast-result-2 : goal.overflow_cast-result-2
 overflow_cast-result-2 c = let a = c.args in record { sfits = quotient_fits _ a.d (omega arith) }
-
-pub overflow_sub-result-4 : goal.overflow_sub-result-4
-overflow_sub-result-4 c =
-    let a = c.args in
-    down_fits a.a a.b a.d _ _ c.if-b-a.false c.requires.2 (omega arith) refl
 
 pub returns : goal.returns
 returns c =
