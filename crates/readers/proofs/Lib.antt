@@ -4,4 +4,3 @@ pub mod Stands
 pub mod Steps
 pub mod Turns
 pub mod Tables
-pub mod Again

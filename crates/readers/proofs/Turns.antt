@@ -2,9 +2,10 @@
 use mathlib.Core.Path.{◌≡◌, refl, subst}
 use mathlib.Core.Bool.{Bool, false}
 use mathlib.Core.List.{List}
-use Prim.Native.Nat.{ℕ, suc, ◌-◌}
+use Prim.Native.Nat.{ℕ, suc, ◌-◌, ◌<◌}
 use native.Mathlib.Omega.{arith}
 use lib.ListN.{length}
+use Rattle.basics.specs.Basics.{pick}
 use Rattle.grammars.specs.Grammars.{Verdict, step, read}
 use Rattle.grammars.specs.inside.Readers.{Takes}
 use Rattle.grammars.proofs.Loops as Loops
@@ -13,17 +14,18 @@ use Rattle.tables.specs.TableLines.{Stage, at_board, table}
 use Rattle.readers.specs.inside.Numbers.{Room}
 use Rattle.readers.specs.inside.Stands.{start, Stands, begun, stage_of, reader, On, TakesLine}
 
+-- the loop's measure: the bytes that are left, and one; none at the end
+abbrev pub left_of : List ℕ → Progress → ℕ
+left_of text p = pick p.ended 0 (suc (length text - p.offset))
+
 module _ (ranked : Bool) (text : List ℕ) where
   -- all that is to be read
   abbrev pub all : Verdict Stage
   all = read (table ranked) at_board text
 
-  -- where the loop is, with its measure, and after a turn
+  -- where the loop is, with its measure
   abbrev pub Standing : Progress → List ℕ → ℕ → Type 0
   Standing p ns left = Loops.Standing reader (On ranked text) (table ranked) at_board text (p, ns) left
-
-  abbrev pub Next : ℕ → Progress → List ℕ → Type 0
-  Next left q ms = Loops.Next reader (On ranked text) (table ranked) at_board text left (q, ms)
 
   -- before the first line
   pub begins : (ns : List ℕ) → Room text ns → Standing (begun ranked) ns (suc (length text - 0))
@@ -40,10 +42,21 @@ module _ (ranked : Bool) (text : List ℕ) where
       } in
       Loops.goes refl (record { stands = (refl, here); same = refl })
 
-  -- a turn
-  pub turn : {p : Progress} {ns : List ℕ} {left : ℕ} → Standing p ns left → p.ended ≡ false → (q : Progress)
-      (ms : List ℕ) → TakesLine p text p.offset p.line ns q ms → Next left q ms
-  turn {p} {ns} here go q ms t =
+  -- a turn: the reader stands again, and less is left
+  left_is : {p : Progress} {ns : List ℕ} {left : ℕ} → Standing p ns left → left ≡ left_of text p
+  left_is (Loops.goes e h) = rw e
+  left_is (Loops.done e h) = rw e
+
+  pub turn : {p : Progress} {ns : List ℕ} → Standing p ns (left_of text p) → p.ended ≡ false → (s : List ℕ)
+      (at k : ℕ) → s ≡ text → at ≡ p.offset → k ≡ p.line → (q : Progress) (ms : List ℕ)
+      → TakesLine p s at k ns q ms → Standing q ms (left_of text q) × (left_of text q < left_of text p)
+  turn {p} {ns} here go s at k in_text at_offset at_line q ms t =
+      let by_line = subst (λ j. TakesLine p s at j ns q ms) at_line t in
+      let by_offset = subst (λ o. TakesLine p s o p.line ns q ms) at_offset by_line in
+      let taken = subst (λ x. TakesLine p x p.offset p.line ns q ms) in_text by_offset in
+      let next =
       Loops.turn here go (q, ms)
       (subst (λ b. Takes reader (On b text) (step (table b) text (stage_of p.stand ns) p.offset p.line) (q, ms))
-      (Loops.going here go).stands.0 t)
+      (Loops.going here go).stands.0 taken) in
+      let same = left_is next.there in
+      (subst (Standing q ms) same next.there, subst (λ n. n < left_of text p) same next.less)

@@ -4,12 +4,10 @@ use mathlib.Core.Path.{◌≡◌, refl, sym, ap, ◌∙◌}
 use mathlib.Core.List.{List}
 use Prim.Native.Nat.{ℕ, suc, ◌+◌, ◌-◌, ◌*◌, ◌/◌, ◌<◌}
 use native.Mathlib.Omega.{arith}
-use borrow.Author.Rules.{rules}
 use lib.ListN.{get_or}
 use Rattle.text.specs.Lines.{line_at}
 use Rattle.text.specs.Text.{bytes}
 use Rattle.grammars.specs.inside.Answers.{tested}
-use Rattle.grammars.proofs.Answers.{no_test}
 use Rattle.curves.specs.Curves.{min_delay, max_delay, min_allow, max_allow}
 use Rattle.rows.specs.Rows.{first_point_at}
 use Rattle.rows.proofs.RowNumbers.{between_at}
@@ -17,8 +15,7 @@ use Rattle.tables.specs.TableLines.{RowLine, later_delay, lower_allow, next_dela
 use Rattle.readers.specs.inside.Numbers.{row_start, switch_in, rows_in, behind}
 use Rattle.readers.specs.inside.Stands.{row_line_tested}
 use Rattle.tables.proofs.RowLines.{delay_at, allow_at}
-use Rattle.readers.proofs.lines.point_line.Statement.{statement}
-use Rattle.readers.proofs.lines.point_line.Tie as tie
+use Rattle.readers.proofs.lines.point_line.Goals as goal
 
 module _ (n i : ℕ) (ns text : List ℕ) (at k : ℕ) where
   -- by the shape of the line at the position
@@ -49,58 +46,20 @@ module _ (n i : ℕ) (ns text : List ℕ) (at k : ℕ) where
         (read ∙ ap (λ m. get_or ns m 0) there ∙ sym here)
         ∙ sym (by_shape (next_allow (first_point_at + 2 * j)) (allow_at i j is few))
 
-returns : tie.Need-returns
-returns c = rw c.if1.true (c.before.line_at_lem.ensures ∙ no_test _ _)
-
-returns-2 : tie.Need-returns-2
-returns-2 c = rw c.if2.true (c.before.line-at2.ensures ∙ no_test _ _)
-
-returns-3 : tie.Need-returns-3
-returns-3 c =
-    let m = c.before.before.before in
-    let s = m.before.before.before.before.before in
-    let a = s.args in
+pub returns-else-position-eq-FIRST_POINT : goal.returns-else-position-eq-FIRST_POINT
+returns-else-position-eq-FIRST_POINT c =
+    let a = c.args in
     let j = (a.position - (first_point_at + 2)) / 2 in
-    let even = m.before.before.match.keys1 in
-    let not_first = c.before.before.if1.false in
-    let is : a.position ≡ first_point_at + 2 + 2 * j = omega (arith, even, not_first, s.requires.0.0) in
-    let few : j < 7 = omega (arith, is, s.requires.0.1) in
-    (rw m.line_at_lem.ensures at c.later-delay.ensures)
+    let is : a.position ≡ first_point_at + 2 + 2 * j = omega arith in
+    let few : j < 7 = omega arith in
+    (rw c.line_at-answer.ensures at c.later_delay.ensures)
     ∙ delay_tested a.count a.position a.numbers.now a.text.now a.at a.line j _ few is refl
 
-returns-4 : tie.Need-returns-4
-returns-4 c =
-    let m = c.before.before.before in
-    let s = m.before.before.before.before.before in
-    let a = s.args in
+pub returns-else-position : goal.returns-else-position
+returns-else-position c =
+    let a = c.args in
     let j = (a.position - (first_point_at + 3)) / 2 in
-    let odd = m.before.before.match.rest.1 in
-    let not_first = c.before.before.if2.false in
-    let is : a.position ≡ first_point_at + 3 + 2 * j = omega (arith, odd, not_first, s.requires.0.0) in
-    let few : j < 7 = omega (arith, is, s.requires.0.1) in
-    (rw m.line-at2.ensures at c.lower-allow.ensures)
+    let is : a.position ≡ first_point_at + 3 + 2 * j = omega arith in
+    let few : j < 7 = omega arith in
+    (rw c.line_at-answer-in_default.ensures at c.lower_allow.ensures)
     ∙ allow_tested a.count a.position a.numbers.now a.text.now a.at a.line j _ few is refl
-
-pub point_line_spec : {M : Type 1} → statement M
-point_line_spec =
-    tie.close
-    (tie.spec
-    (λ c. search rules)
-    (λ c. search rules)
-    (λ c. search rules)
-    (λ c. search rules)
-    (λ c. search rules)
-    (λ c κs. search rules)
-    returns
-    (λ c. search rules)
-    (λ c. search rules)
-    (λ c κs. search rules)
-    (λ c. search rules)
-    (λ c κs. search rules)
-    (λ c. search rules)
-    returns-2
-    (λ c. search rules)
-    (λ c. search rules)
-    (λ c κs. search rules)
-    returns-3
-    returns-4)
