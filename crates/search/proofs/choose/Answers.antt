@@ -4,7 +4,6 @@ use mathlib.Core.Path.{◌≡◌, sym, subst}
 use Prim.Native.Nat.{ℕ}
 use native.Mathlib.Omega.{arith}
 use lib.ListN.{length-replicate}
-use borrow.Author.Rules.{rules}
 use Rattle.rows.specs.Rows.{max_tasks}
 use Rattle.rows.specs.inside.Numbers.{rows_of}
 use Rattle.search.specs.inside.Sets.{unknown}

@@ -3,7 +3,6 @@ use mathlib.Core.Path.{sym}
 use Prim.Native.Nat.{ℕ}
 use native.Mathlib.Omega.{arith}
 use lib.ListN.{length-replicate}
-use borrow.Author.Rules.{rules}
 use Rattle.search.specs.inside.Sets.{unknown}
 use Rattle.search.proofs.Record.{fresh}
 use Rattle.search.proofs.choose_long.Goals as goal

@@ -1,13 +1,11 @@
-use mathlib.Core.Path.{◌≡◌, refl, sym, ap, ◌∙◌}
-use Prim.Native.Nat.{◌-◌}
+use mathlib.Core.Path.{refl, sym, ap, ◌∙◌}
 use native.Mathlib.Numerals.{add-one}
 use native.Mathlib.Omega.{arith}
-use lib.ListN.{length}
 use Rattle.rows.specs.inside.Numbers.{rows_of}
 use Rattle.rows.proofs.RowNumbers.{rows_length, rows_at_lem}
 use Rattle.analysis.specs.inside.Columns.{with_times}
 use Rattle.search.proofs.LentRows.{row_held, times_ranged}
-use Rattle.search.proofs.Gathering.{Gathering, gathering_none, gathering_next, gathered}
+use Rattle.search.proofs.Gathering.{gathering_none, gathering_next, gathered}
 use Rattle.search.proofs.gather.Goals as goal
 
 pub loop-j-init : goal.loop-j-init

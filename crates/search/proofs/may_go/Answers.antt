@@ -15,7 +15,6 @@ use Rattle.search.specs.inside.Search.{MayGo}
 use Rattle.search.proofs.Sets.{bit_le}
 use Rattle.search.proofs.Record.{goes_out, goes_unfit, goes_none, known_none}
 use Rattle.search.proofs.LentRows.{small, a_set}
-use borrow.Author.Rules.{rules}
 use Rattle.search.proofs.may_go.Goals as goal
 
 -- a row that does not go

@@ -1,5 +1,4 @@
 -- The order read off the record: the tasks along the chain, put into an array that had nothing in it.
-use borrow.Author.Rules.{rules}
 use Rattle.search.specs.inside.Search.{chain_tasks}
 use Rattle.search.proofs.Chains.{chain_length, chain_order}
 use Rattle.search.proofs.read_off.Goals as goal
