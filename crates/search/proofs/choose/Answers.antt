@@ -10,13 +10,6 @@ use Rattle.search.specs.inside.Sets.{unknown}
 use Rattle.search.specs.inside.Search.{Lent, Chooses}
 use Rattle.search.proofs.Record.{fresh}
 use Rattle.search.proofs.choose.Goals as goal
-use Rattle.search.proofs.choose.Lts as lts
-use Rattle.search.proofs.choose.Reads as reads
-use Rattle.search.proofs.choose.Tie as tie
-
--- the states of the call that lemmas speak of
-abbrev At-Else3 : Type 0
-At-Else3 = lts.Else3 tie.the-claims reads.Pre reads.Post
 
 pub order_with-requires : goal.order_with-requires
 order_with-requires c =
@@ -32,14 +25,13 @@ order_with-requires-then-n-le-SOME_TASKS c =
     (c.requires, fresh few (omega arith), omega (arith, few))
 
 -- a table that has not fewer rows than the most has the most
-full : (c : At-Else3) → c.args.n ≡ max_tasks
-full c = omega (arith, c.requires.few)
-
 pub choose_long-requires-2 : goal.choose_long-requires-2
 choose_long-requires-2 c =
-    subst (λ (n : ℕ). Lent n c.args.rows.now) (full c.before) c.requires
+    let full : c.args.n ≡ max_tasks = omega (arith, c.requires.few) in
+    subst (λ (n : ℕ). Lent n c.args.rows.now) full c.requires
 
 pub returns : goal.returns
 returns c =
-    subst (λ (n : ℕ). Chooses (rows_of n c.args.rows.now) c.choose_long-2.result) (sym (full c.before.before))
+    let full : c.args.n ≡ max_tasks = omega (arith, c.requires.few) in
+    subst (λ (n : ℕ). Chooses (rows_of n c.args.rows.now) c.choose_long-2.result) (sym full)
     c.choose_long-2.ensures

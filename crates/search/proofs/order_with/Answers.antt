@@ -25,13 +25,6 @@ use Rattle.search.proofs.Chains.{chain}
 use Rattle.search.proofs.Scan.{at_whole}
 use Rattle.orders.proofs.Stability.{chosen}
 use Rattle.search.proofs.order_with.Goals as goal
-use Rattle.search.proofs.order_with.Lts as lts
-use Rattle.search.proofs.order_with.Reads as reads
-use Rattle.search.proofs.order_with.Tie as tie
-
--- the states of the call that lemmas speak of
-abbrev At-After-power : Type 0
-At-After-power = lts.After-power tie.the-claims reads.Pre reads.Post
 
 no_tasks : (o : Option (List Row)) → false ≡ is_some o → [] ≡ tasks_in o
 no_tasks none e = refl
@@ -91,29 +84,26 @@ module _ (n : ℕ) (ns : List ℕ) (lent : Lent n ns) (all : ℕ) (e : all ≡ 2
 pub overflow_sub-all : goal.overflow_sub-all
 overflow_sub-all c = omega (arith, c.power-all.ensures, pow_pos c.args.n)
 
--- the set of all bits
-all_is : (c : At-After-power) → c.power-all.result - 1 ≡ 2 ^ c.args.n - 1
-all_is c = ap (λ (k : ℕ). k - 1) c.power-all.ensures
-
 pub settled-requires : goal.settled-requires
 settled-requires c =
     let a = c.args in
-    let l = c.requires.0 in (
+    let l = c.requires.0 in
+    let e = ap (λ (k : ℕ). k - 1) c.power-all.ensures in (
       record {
         lent = l;
-        set = in_table a.n a.rows.now l _ (all_is c.before.before.before);
+        set = in_table a.n a.rows.now l _ e;
         recorded = begun stable (rows_of a.n a.rows.now) (small l) a.sets.now
             (subst (λ (k : ℕ). Fresh k a.sets.now) (sym (rows_length a.n a.rows.now)) c.requires.1);
       },
       c.requires.2,
-      none_outside a.n a.rows.now l _ (all_is c.before.before.before),
+      none_outside a.n a.rows.now l _ e,
     )
 
 pub read_off-order-requires : goal.read_off-order-requires
 read_off-order-requires c =
     let a = c.args in
     let l = c.requires.0 in
-    let e = all_is c.before.before.before.before.before.before.before.before.before in
+    let e = ap (λ (k : ℕ). k - 1) c.power-all.ensures in
     let w = c.settled in (
       l.few,
       in_record a.n a.rows.now l _ e _ w.result w.ensures,
@@ -123,11 +113,13 @@ read_off-order-requires c =
 pub returns-then-settled : goal.returns-then-settled
 returns-then-settled c =
     let a = c.args in
-    chooses a.n a.rows.now c.requires.0 _ (all_is c.before.before.before.before.before.before.before.before.before.before) _ c.settled.result
+    let e = ap (λ (k : ℕ). k - 1) c.power-all.ensures in
+    chooses a.n a.rows.now c.requires.0 _ e _ c.settled.result
     c.settled.ensures c.read_off-order.result c.if-settled.true c.read_off-order.ensures
 
 pub returns : goal.returns
 returns c =
     let a = c.args in
-    chooses_none a.n a.rows.now c.requires.0 _ (all_is c.before.before.before.before.before.before.before.before.before.before) _ c.settled.result
+    let e = ap (λ (k : ℕ). k - 1) c.power-all.ensures in
+    chooses_none a.n a.rows.now c.requires.0 _ e _ c.settled.result
     c.settled.ensures c.nothing.result c.if-settled.false c.nothing.ensures

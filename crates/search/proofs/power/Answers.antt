@@ -5,7 +5,6 @@ use lib.Dec.{lit<}
 use lib.Pow.{shl_exact}
 use Rattle.search.proofs.power.Goals as goal
 
--- src/lib.rt:11:1
 pub returns : goal.returns
 returns c =
     let i = c.args.i in
