@@ -5,8 +5,7 @@ use mathlib.Core.Bool.{true, false}
 use mathlib.Core.List.{List}
 use mathlib.Core.Option.{Option, none, some}
 use Prim.Native.Nat.{ℕ}
-use native.Mathlib.Omega.{arith}
-use lib.ListN.{length, get_or}
+use lib.ListN.{get_or}
 use Rattle.basics.proofs.Tests.{true_not_false}
 use Rattle.rows.specs.Rows.{all_tasks, tasks_of, rows_for}
 use Rattle.rows.specs.inside.Arrays.{ranking, ranked}
@@ -26,7 +25,7 @@ use Rattle.search.specs.declared.Choice.{Choice}
 use Rattle.search.specs.inside.Sets.{is_some}
 use Rattle.search.specs.inside.Search.{tasks_in, choice_of, Chooses}
 use Rattle.search.proofs.Scan.{some_of}
-use Rattle.plans.specs.Outcomes.{refuses, plan_of, if_in_time}
+use Rattle.plans.specs.Outcomes.{refuses, if_in_time}
 use Rattle.plans.proofs.Outcomes.{timely_outcome}
 use Rattle.demands.specs.Calls.{if_ordered, planned}
 use Rattle.demands.proofs.Texts.{Accepts}

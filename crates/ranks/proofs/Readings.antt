@@ -9,7 +9,6 @@ use lib.ListN.{length, get_or, take, drop, length-drop}
 use lib.Seq.{take_all}
 use Rattle.rows.specs.Rows.{max_tasks, in_range, all_rows}
 use Rattle.rows.specs.inside.Numbers.{field_count, rows_of}
-use Rattle.rows.specs.Rows.{Row}
 use Rattle.readers.specs.declared.Reading.{Reading}
 use Rattle.tables.specs.TableLines.{TableRead, read_table, max_board}
 use Rattle.readers.specs.inside.Numbers.{head_count}

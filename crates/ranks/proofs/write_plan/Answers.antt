@@ -1,0 +1,23 @@
+-- Each room is long enough for the texts that go there, and the last for every text.
+use mathlib.Core.Path.{sym, ◌∙◌}
+use mathlib.Core.Logic.{inl, inr}
+use native.Mathlib.Omega.{arith}
+use lib.ListN.{length}
+use borrow.Author.Tests.{leb-true}
+use Rattle.readers.specs.inside.Numbers.{bytes_for}
+use Rattle.ranks.proofs.write_plan.Goals as goal
+
+pub plan_text-requires : goal.plan_text-requires
+plan_text-requires c =
+    let a = c.args in
+    let short = sym c.fits_in.ensures ∙ c.if-fits_in.true in
+    inr (leb-true (length a.text.now) (bytes_for 96) short)
+
+pub plan_text-requires-then-fits_in-2 : goal.plan_text-requires-then-fits_in-2
+plan_text-requires-then-fits_in-2 c =
+    let a = c.args in
+    let short = sym c.fits_in-2.ensures ∙ c.if-fits_in-2.true in
+    inr (leb-true (length a.text.now) (bytes_for 216) short)
+
+pub plan_text-requires-2 : goal.plan_text-requires-2
+plan_text-requires-2 c = inl (omega arith)
