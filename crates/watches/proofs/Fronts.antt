@@ -203,18 +203,19 @@ module _ (text : List ℕ) (p : Progress) (ns : List ℕ) (on : OnFront text (p,
 
       -- so where its line is not refused
       pub takes_unrefused : at_hold p.stand.part p.stand.position ≡ true → (l : Line)
-          → OneOf (0 ∷ 1 ∷ []) (tag_of Line-type l) → l ≡ line_at (bytes "hold=") no_hold no_hold text p.offset p.line
+          → ((n j : ℕ) → l ≡ L.Refused n j → ⊥) → l ≡ line_at (bytes "hold=") no_hold no_hold text p.offset p.line
           → TakesUnheld p text ns q ms
       takes_unrefused here l some e =
           go l some e
           (subst (T.Answers no_hold no_hold text p.offset p.line) (sym e)
           (T.line_answers (bytes "hold=") no_hold no_hold text p.offset p.line))
         where
-          go : (l : Line) → OneOf (0 ∷ 1 ∷ []) (tag_of Line-type l)
+          go : (l : Line) → ((n j : ℕ) → l ≡ L.Refused n j → ⊥)
               → l ≡ line_at (bytes "hold=") no_hold no_hold text p.offset p.line
               → T.Answers no_hold no_hold text p.offset p.line l → TakesUnheld p text ns q ms
           go (L.Number v next) some e a = takes_no_hold here v next (sym e)
-          go (L.Refused n j) some e a = absurd (miss (0 ∷ 1 ∷ []) 2 tt some)
+          go L.End some e a = elim a [ ]
+          go (L.Refused n j) some e a = absurd (some n j refl)
 
     -- where it is refused
     abbrev fault_here : ℕ → ℕ

@@ -51,6 +51,7 @@ module _ {S : Type 0} (g : Grammar S) (text : List ℕ) (s : S) (at k : ℕ) (ke
       go : (l : Line) → NoNumber l → answer ≡ l → Answers low high text at k l
           → read_from g text s at k ≡ refused (refusal l) (place l)
       go (L.Number v next) left e a = absurd (miss (1 ∷ 2 ∷ []) 0 tt left)
+      go L.End left e a = elim a [ ]
       go (L.Refused n j) left e a = by_answer ∙ ap (λ l. on_step (on_answer g s k l) (read_from g text)) e
 
 -- ---- lines of one key
@@ -147,6 +148,7 @@ module _ (text key lows highs owners : List ℕ) (at₀ k₀ : ℕ) (ns₀ : Lis
             → Answers (low m) (high m) text at k l
             → ReadsNumbers text key low high at₀ k₀ ns l
         go (L.Number v next) left is a = absurd (miss (1 ∷ 2 ∷ []) 0 tt left)
+        go L.End left is a = elim a [ ]
         go (L.Refused n j) left is a = record {
           numbers = take m ns;
           past = at;

@@ -293,14 +293,14 @@ module _ (text : List ℕ) (at k : ℕ) (ns : List ℕ) (n : ℕ) (positions col
                 → read watch_text watch_start text ≡ refused m j
             end_refused m j e = by_end (L.Refused m j) e
 
-            pub whole : (x : Line) → OneOf (0 ∷ 1 ∷ []) (tag_of Line-type x) → x ≡ end_at text next (k + length vs)
+            pub whole : (x : Line) → ((m j : ℕ) → x ≡ L.Refused m j → ⊥) → x ≡ end_at text next (k + length vs)
                 → (room : ℕ)
                 → watched text room ≡ run_in_time room (laid_order laid) (laid_offset laid) vs ticks
             whole x some e room = watched_is text room (accepted last) (go x some e)
               where
-                go : (x : Line) → OneOf (0 ∷ 1 ∷ []) (tag_of Line-type x) → x ≡ end_at text next (k + length vs)
+                go : (x : Line) → ((m j : ℕ) → x ≡ L.Refused m j → ⊥) → x ≡ end_at text next (k + length vs)
                     → read watch_text watch_start text ≡ accepted last
                 go (L.Number v past) some e =
                     absurd (no_number_at_end (λ x. 0) text next (k + length vs) v past (sym (no_test _ _) ∙ sym e))
                 go L.End some e = by_end L.End e
-                go (L.Refused m j) some e = absurd (miss (0 ∷ 1 ∷ []) 2 tt some)
+                go (L.Refused m j) some e = absurd (some m j refl)
