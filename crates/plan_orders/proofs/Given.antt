@@ -3,19 +3,16 @@
 use mathlib.Core.Path.{◌≡◌, refl, sym, ap, subst, ◌∙◌}
 use mathlib.Core.Bool.{true}
 use mathlib.Core.List.{List, []}
-use Prim.Native.Nat.{ℕ, zero, suc, ◌+◌, ◌*◌, ◌^◌, ◌≤◌, ◌<◌}
-use native.Mathlib.Nat.{mul-le-mul_right}
+use Prim.Native.Nat.{ℕ, zero, suc, ◌^◌, ◌≤◌, ◌<◌}
 use native.Mathlib.Omega.{arith}
 use lib.ListN.{length, take}
-use Rattle.text.specs.Text.{joined}
-use Rattle.text.specs.Buffers.{Wrote}
 use Rattle.text.specs.inside.Puts.{Put}
 use Rattle.text.proofs.Puts.{wrote_front}
 use Rattle.rows.specs.Rows.{in_range, all_rows}
 use Rattle.rows.specs.Rows.{Row}
 use Rattle.fixed_points.specs.inside.Loads.{columns_max}
 use Rattle.plans.specs.Entries.{entries, first_late}
-use Rattle.plans.specs.Plans.{head_text, rank_texts, plan_text, room_for, most_ranks}
+use Rattle.plans.specs.Plans.{head_text, plan_text, room_for, most_ranks}
 use Rattle.plans.specs.Outcomes.{fitted, plan_of, if_in_time}
 use Rattle.plans.proofs.Entries.{entries_length, first_late_none}
 use Rattle.plans.proofs.Lengths.{plan_fits}

@@ -10,7 +10,6 @@ use native.Mathlib.Omega.{arith}
 use lib.ListN.{length, take, drop, set, replicate, length-append, length-drop, length-set, length-replicate}
 use lib.Seq.{append_snoc, length-take-le, take-suc-set, take-add, drop-set-lt, get_or-take, get_or-set_other}
 use Rattle.basics.proofs.Tests.{never}
-use Rattle.rows.specs.Rows.{max_tasks}
 use Rattle.rows.specs.inside.Numbers.{line_count, field_count, switch_at}
 use Rattle.text.specs.declared.Line.{Line}
 use Rattle.text.specs.declared.Line.TheVariants as L
@@ -60,15 +59,6 @@ pub line_small : (text : List ℕ) (at : ℕ) (s : Stand) (k : ℕ) (ns : List �
     → k ≤ suc most_numbers
 line_small text at s k ns h =
     omega (arith, h.most, lines_few s.part s, few_read s.part s h.counted)
-
--- so many rows
-pub rows_few : (p : Part) (s : Stand) → Counted p s → s.count ≤ max_tasks
-rows_few P.Board s h = omega (arith, h.1)
-rows_few P.Tasks s h = omega (arith, h.1)
-rows_few P.Switch s h = omega (arith, h.1)
-rows_few P.Row s h = omega (arith, h.1)
-rows_few P.Rank s h = h.1
-rows_few P.End s h = h.1
 
 -- ---- a number put behind those before it, and the switch of its row
 put_long : (last : Bool) (at switch v : ℕ) (ns : List ℕ) → length (with_number last at switch v ns) ≡ length ns

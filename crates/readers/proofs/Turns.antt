@@ -6,11 +6,11 @@ use Prim.Native.Nat.{ℕ, suc, ◌-◌, ◌<◌}
 use native.Mathlib.Omega.{arith}
 use lib.ListN.{length}
 use Rattle.basics.specs.Basics.{pick}
-use Rattle.grammars.specs.Grammars.{Verdict, step, read}
+use Rattle.grammars.specs.Grammars.{step}
 use Rattle.grammars.specs.inside.Readers.{Takes}
 use Rattle.grammars.proofs.Loops as Loops
 use Rattle.readers.specs.declared.progress.Progress.{Progress}
-use Rattle.tables.specs.TableLines.{Stage, at_board, table}
+use Rattle.tables.specs.TableLines.{at_board, table}
 use Rattle.readers.specs.inside.Numbers.{Room}
 use Rattle.readers.specs.inside.Stands.{start, Stands, begun, stage_of, reader, On, TakesLine}
 
@@ -19,10 +19,6 @@ abbrev pub left_of : List ℕ → Progress → ℕ
 left_of text p = pick p.ended 0 (suc (length text - p.offset))
 
 module _ (ranked : Bool) (text : List ℕ) where
-  -- all that is to be read
-  abbrev pub all : Verdict Stage
-  all = read (table ranked) at_board text
-
   -- where the loop is, with its measure
   abbrev pub Standing : Progress → List ℕ → ℕ → Type 0
   Standing p ns left = Loops.Standing reader (On ranked text) (table ranked) at_board text (p, ns) left
@@ -42,11 +38,12 @@ module _ (ranked : Bool) (text : List ℕ) where
       } in
       Loops.goes refl (record { stands = (refl, here); same = refl })
 
-  -- a turn: the reader stands again, and less is left
+  -- the measure is that of where the loop is
   left_is : {p : Progress} {ns : List ℕ} {left : ℕ} → Standing p ns left → left ≡ left_of text p
   left_is (Loops.goes e h) = rw e
   left_is (Loops.done e h) = rw e
 
+  -- a turn: the loop stands again, and less is left
   pub turn : {p : Progress} {ns : List ℕ} → Standing p ns (left_of text p) → p.ended ≡ false → (s : List ℕ)
       (at k : ℕ) → s ≡ text → at ≡ p.offset → k ≡ p.line → (q : Progress) (ms : List ℕ)
       → TakesLine p s at k ns q ms → Standing q ms (left_of text q) × (left_of text q < left_of text p)

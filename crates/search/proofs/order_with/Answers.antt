@@ -7,7 +7,6 @@ use Prim.Native.Nat.{ℕ, ◌-◌, ◌^◌, ◌<◌}
 use native.Mathlib.Omega.{arith}
 use lib.ListN.{length}
 use lib.Pow.{pow_pos}
-use borrow.Author.Rules.{rules}
 use Rattle.rows.specs.Rows.{Row}
 use Rattle.rows.specs.declared.Order.{Order}
 use Rattle.rows.specs.inside.Arrays.{ranking}
@@ -25,8 +24,7 @@ use Rattle.search.proofs.Record.{begun}
 use Rattle.search.proofs.Chains.{chain}
 use Rattle.search.proofs.Scan.{at_whole}
 use Rattle.orders.proofs.Stability.{chosen}
-use Rattle.search.proofs.order_with.Statement.{statement}
-use Rattle.search.proofs.order_with.Tie as tie
+use Rattle.search.proofs.order_with.Goals as goal
 
 no_tasks : (o : Option (List Row)) → false ≡ is_some o → [] ≡ tasks_in o
 no_tasks none e = refl
@@ -83,87 +81,45 @@ module _ (n : ℕ) (ns : List ℕ) (lent : Lent n ns) (all : ℕ) (e : all ≡ 2
           chosen = chosen table lent.table.distinct;
         }
 
-power_requires : tie.Need-power-requires
-power_requires c κs = search rules
+pub overflow_sub-all : goal.overflow_sub-all
+overflow_sub-all c = omega (arith, c.power-all.ensures, pow_pos c.args.n)
 
-sub-all : tie.Need-overflow-sub-all
-sub-all c = omega (arith, c.power.ensures, pow_pos c.before.before.before.before.args.n)
-
--- the set of all bits
-all_is : (c : tie.After-power) → c.power.result - 1 ≡ 2 ^ c.before.before.before.before.args.n - 1
-all_is c = ap (λ (k : ℕ). k - 1) c.power.ensures
-
-settled-requires : tie.Need-settled-requires
-settled-requires c κs =
-    let s = c.before.before.before.before.before.before in
-    let a = s.args in
-    let l = s.requires.0 in (
+pub settled-requires : goal.settled-requires
+settled-requires c =
+    let a = c.args in
+    let l = c.requires.0 in
+    let e = ap (λ (k : ℕ). k - 1) c.power-all.ensures in (
       record {
         lent = l;
-        set = in_table a.n a.rows.now l _ (all_is c.before.before);
+        set = in_table a.n a.rows.now l _ e;
         recorded = begun stable (rows_of a.n a.rows.now) (small l) a.sets.now
-            (subst (λ (k : ℕ). Fresh k a.sets.now) (sym (rows_length a.n a.rows.now)) s.requires.1);
+            (subst (λ (k : ℕ). Fresh k a.sets.now) (sym (rows_length a.n a.rows.now)) c.requires.1);
       },
-      s.requires.2,
-      none_outside a.n a.rows.now l _ (all_is c.before.before),
+      c.requires.2,
+      none_outside a.n a.rows.now l _ e,
     )
 
-read-off-requires : tie.Need-read-off-requires
-read-off-requires c κs =
-    let d = c.before.before.before.before.before.before in
-    let s = d.before.before.before.before.before.before.before in
-    let a = s.args in
-    let l = s.requires.0 in
-    let e = all_is d.before.before.before in
-    let w = d.settled in (
+pub read_off-order-requires : goal.read_off-order-requires
+read_off-order-requires c =
+    let a = c.args in
+    let l = c.requires.0 in
+    let e = ap (λ (k : ℕ). k - 1) c.power-all.ensures in
+    let w = c.settled in (
       l.few,
       in_record a.n a.rows.now l _ e _ w.result w.ensures,
-      (chained a.n a.rows.now l _ e _ w.result w.ensures c.before.if1.true).0,
+      (chained a.n a.rows.now l _ e _ w.result w.ensures c.if-settled.true).0,
     )
 
-same_length : tie.Need-same-length
-same_length c = search rules
+pub returns-then-settled : goal.returns-then-settled
+returns-then-settled c =
+    let a = c.args in
+    let e = ap (λ (k : ℕ). k - 1) c.power-all.ensures in
+    chooses a.n a.rows.now c.requires.0 _ e _ c.settled.result
+    c.settled.ensures c.read_off-order.result c.if-settled.true c.read_off-order.ensures
 
-same-length-2 : tie.Need-same-length-2
-same-length-2 c = search rules
-
-returns : tie.Need-returns
+pub returns : goal.returns
 returns c =
-    let d = c.before.before.before.before.before.before.before in
-    let s = d.before.before.before.before.before.before.before in
-    let a = s.args in
-    chooses a.n a.rows.now s.requires.0 _ (all_is d.before.before.before) _ d.settled.result
-    d.settled.ensures c.read_off.result c.before.before.if1.true c.read_off.ensures
-
-nothing-requires : tie.Need-nothing-requires
-nothing-requires c κs = search rules
-
-same-length-3 : tie.Need-same-length-3
-same-length-3 c = search rules
-
-same-length-4 : tie.Need-same-length-4
-same-length-4 c = search rules
-
-returns-2 : tie.Need-returns-2
-returns-2 c =
-    let d = c.before.before.before.before.before.before in
-    let s = d.before.before.before.before.before.before.before in
-    let a = s.args in
-    chooses_none a.n a.rows.now s.requires.0 _ (all_is d.before.before.before) _ d.settled.result
-    d.settled.ensures c.nothing.result c.before.if1.false c.nothing.ensures
-
-pub order_with_spec : {M : Type 1} → statement M
-order_with_spec =
-    tie.close
-    (tie.spec
-    power_requires
-    sub-all
-    settled-requires
-    read-off-requires
-    same_length
-    same-length-2
-    returns
-    nothing-requires
-    same-length-3
-    same-length-4
-    returns-2)
+    let a = c.args in
+    let e = ap (λ (k : ℕ). k - 1) c.power-all.ensures in
+    chooses_none a.n a.rows.now c.requires.0 _ e _ c.settled.result
+    c.settled.ensures c.nothing.result c.if-settled.false c.nothing.ensures

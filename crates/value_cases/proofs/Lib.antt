@@ -1,2 +1,0 @@
--- Laws of the tasks that are shown.
-pub mod Columns
