@@ -1,8 +1,5 @@
 -- The tasks of the rank lines are found among the rows, and the times of those rows are put into columns.
-use mathlib.Core.Path.{◌≡◌, sym, ◌∙◌}
-use Prim.Native.Nat.{◌≤◌}
 use native.Mathlib.Omega.{arith}
-use borrow.Author.Rules.{rules}
 use Rattle.ranks.proofs.Readings.{few, head_there, rows_held}
 use Rattle.ranks.proofs.Given.{ranks_held, ranks_small}
 use Rattle.watches.proofs.Laid.{tasks_room, rows_fillable, ordered_by}

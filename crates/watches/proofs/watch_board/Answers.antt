@@ -1,10 +1,8 @@
 -- A text that is refused in its table is the call's refusal; what follows the table comes to the outcome.
-use mathlib.Core.Path.{◌≡◌}
 use mathlib.Core.List.{List}
 use mathlib.Core.Logic.{inl}
 use Prim.Native.Nat.{ℕ}
 use native.Mathlib.Omega.{arith}
-use borrow.Author.Rules.{rules}
 use lib.ListN.{length}
 use Rattle.plans.specs.declared.Answer.{Answer}
 use Rattle.plans.specs.Outcomes.{Written}

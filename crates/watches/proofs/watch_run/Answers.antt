@@ -1,7 +1,6 @@
 -- An order with a late rank is refused with it; any other is run.
-use mathlib.Core.Path.{◌≡◌, sym, subst}
+use mathlib.Core.Path.{sym, subst}
 use native.Mathlib.Omega.{arith}
-use borrow.Author.Rules.{rules}
 use lib.ListN.{length}
 use Rattle.plans.specs.Outcomes.{Outcome, Written}
 use Rattle.plans.proofs.Outcomes.{refused}
@@ -45,5 +44,5 @@ returns c l owned many =
     let r = c.run_order in
     let is = timely_outcome l late.result (length c.args.out.now) c.args.lengths.now c.args.ticks
     late.ensures c.if-late-ne0.false in
-    subst (λ (w : Outcome). Written w c.args.out.now r.new.0 r.result) (sym is)
+    subst (λ (w : Outcome). Written w c.args.out.now r.new.out r.result) (sym is)
     (r.ensures _ _ (describes l c.args.owners.now c.args.lengths.now owned many))

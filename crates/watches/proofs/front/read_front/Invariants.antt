@@ -1,12 +1,8 @@
 -- `read_front`. Invariant: the text reads as from the line at which the code stands (`Standing`).
-use mathlib.Core.Path.{◌≡◌, refl, sym, subst, ◌∙◌}
-use native.Mathlib.Omega.{arith}
-use borrow.Author.Rules.{rules}
-use borrow.Author.Tests.{not-true, not-false}
+use mathlib.Core.Path.{◌≡◌}
 use lib.ListN.{length}
-use Rattle.grammars.proofs.Loops.{going}
-use Rattle.watches.proofs.Fronts.{Standing, Next, front_begins, front_turn, front_read}
-use Rattle.watches.proofs.Fronts.{left_of, left_is, not_over}
+use Rattle.watches.proofs.Fronts.{Standing}
+use Rattle.watches.proofs.Fronts.{left_of}
 use Rattle.watches.proofs.front.read_front.Given as goal
 
 abbrev pub invariant-loop-numbers : goal.invariant-loop-numbers

@@ -18,12 +18,14 @@ take_line-requires c = c.requires.on_front.0.1
 pub returns : goal.returns
 returns c =
     let a = c.args in
+    let on = c.requires.on_front in
+    let open_still = c.requires.part_value in
     let t = c.take_line in
     let held = c.at_hold.ensures in
     elim c.if-at_hold.branch [
-      | then-at_hold+in_default w ↦ takes_unrefused a.text.now a.before a.numbers.now c.requires.on_front c.requires.part_value
+      | then-at_hold+in_default w ↦ takes_unrefused a.text.now a.before a.numbers.now on open_still
           t.result t.new.numbers t.ensures (sym held ∙ w.if-at_hold.true) w.line_at-answer.result
           w.in_default.not-Refused w.line_at-answer.ensures
-      | else-at_hold w ↦ takes_own a.text.now a.before a.numbers.now c.requires.on_front c.requires.part_value
+      | else-at_hold w ↦ takes_own a.text.now a.before a.numbers.now on open_still
           t.result t.new.numbers t.ensures (sym held ∙ w.if-at_hold.false)
     ]

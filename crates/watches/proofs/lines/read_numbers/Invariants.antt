@@ -1,11 +1,8 @@
 -- `read_numbers`. Invariant: the numbers so far are those of the lines before the one that is tried (`Reading`).
-use mathlib.Core.Path.{◌≡◌, sym, ◌∙◌}
-use Prim.Native.Nat.{ℕ, ◌*◌, ◌-◌, ◌^◌, ◌≤◌, ◌<◌}
-use native.Mathlib.Omega.{arith}
-use borrow.Author.Rules.{rules}
-use lib.ListN.{length, get_or, length-set}
+use Prim.Native.Nat.{◌-◌}
+use lib.ListN.{length}
 use Rattle.watches.specs.inside.Lines.{Readable}
-use Rattle.watches.proofs.Numbers.{Reading, reading_starts, reading_on, reading_stops, reading_ends}
+use Rattle.watches.proofs.Numbers.{Reading}
 use Rattle.watches.proofs.lines.read_numbers.Given as goal
 
 abbrev pub invariant-loop-m : goal.invariant-loop-m
