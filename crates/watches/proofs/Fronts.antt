@@ -1,12 +1,12 @@
 -- The table at the front of a text, line by line: a line that the table's reader takes is the text's own step, where a
 -- hold has been seen to be 0; and behind its last line stands a table that the reviewer takes.
 use mathlib.Core.Path.{◌≡◌, refl, sym, ap, ap₂, subst, ◌∙◌}
-use mathlib.Core.Bool.{Bool, true, false, ◌&&◌, ◌||◌}
-use mathlib.Core.List.{List, [], ◌∷◌}
+use mathlib.Core.Bool.{Bool, true, false, ◌||◌}
+use mathlib.Core.List.{List, []}
 use mathlib.Core.Logic.{inl, inr}
-use Prim.Native.Nat.{ℕ, zero, suc, ◌+◌, ◌-◌, ◌≤◌, ◌<◌}
+use Prim.Native.Nat.{ℕ, zero, suc, ◌+◌, ◌-◌, ◌≤◌}
 use native.Mathlib.Omega.{arith}
-use lib.Dec.{eqb, ltb}
+use lib.Dec.{eqb}
 use lib.IntN.{ℤ, pos}
 use lib.ListN.{length, take, drop, length-drop}
 use lib.Seq.{length-take-le}
@@ -16,13 +16,10 @@ use Rattle.basics.proofs.Tests.{test_of, never, true_not_false, within_true, tru
 use Rattle.text.specs.Text.{bytes, line_feed}
 use Rattle.text.specs.Lines.{line_at}
 use Rattle.text.proofs.Lines as T
-use Rattle.text.specs.contracts.Line.{the_type as Line-type}
-use denote.Enum.Declared.{tag_of}
-use types.Run.{OneOf, miss}
 use Rattle.text.specs.declared.Line.{Line}
 use Rattle.text.specs.declared.Line.TheVariants as L
 use Rattle.grammars.specs.Forms.{Form, natural, Told, number, no_number, plainly, form_at}
-use Rattle.grammars.specs.Grammars.{the_end, a_line, Verdict, accepted, refused, goes_on}
+use Rattle.grammars.specs.Grammars.{a_line, Verdict, accepted, refused}
 use Rattle.grammars.specs.Grammars.{stops, on_fault, on_told, on_expected, step}
 use Rattle.grammars.specs.Grammars.{read, read_from}
 use Rattle.grammars.specs.Reasons.{Reaches, begin}
@@ -32,15 +29,14 @@ use Rattle.grammars.specs.inside.Answers.{tested, on_answer}
 use Rattle.grammars.proofs.Naturals.{step_line}
 use Rattle.grammars.proofs.Loops as Loops
 use Rattle.rows.specs.Rows.{min_hold, max_hold, hold_at}
-use Rattle.rows.specs.Rows.{Row}
-use Rattle.tables.specs.TableLines.{Stage, at_board, at-end, expected, table, table_of, row_line_at}
-use Rattle.tables.specs.TableLines.{TableRead, read_table}
+use Rattle.tables.specs.TableLines.{Stage, at-end, expected, table, row_line_at}
+use Rattle.tables.specs.TableLines.{TableRead}
 use Rattle.readers.specs.declared.progress.Part.{Part}
 use Rattle.readers.specs.declared.progress.Part.TheVariants as P
 use Rattle.readers.specs.declared.progress.Stand.{Stand}
 use Rattle.readers.specs.declared.progress.Progress.{Progress}
-use Rattle.readers.specs.inside.Numbers.{Room, row_start, board_in, rows_in}
-use Rattle.readers.specs.inside.Stands.{begun, read_by, stage_in, stage_of, Stands, reader, On, TakesLine}
+use Rattle.readers.specs.inside.Numbers.{Room, row_start}
+use Rattle.readers.specs.inside.Stands.{begun, read_by, stage_in, stage_of, reader, On, TakesLine}
 use Rattle.tables.proofs.Readings as Tables
 use Rattle.readers.proofs.Tables.{end_in, shown_end, in_numbers}
 use Rattle.readers.proofs.Turns as Turns
@@ -48,7 +44,7 @@ use Rattle.readers.proofs.Steps.{line_small}
 use Rattle.watch_demands.specs.WatchLines.{no_hold, unheld_line, unheld, releases_stage, run_begins}
 use Rattle.watch_demands.specs.WatchLines.{WatchStage, watch_text, watch_start}
 use Rattle.watch_demands.proofs.Texts.{watch_plain, table_front, tells_table, no_holds}
-use Rattle.watches.specs.inside.Stages.{TableIn, AtReleases}
+use Rattle.watches.specs.inside.Stages.{AtReleases}
 use Rattle.watches.specs.inside.Fronts.{is_end, at_hold, is_over, front, OnFront, TakesUnheld, ReadsFront}
 use Rattle.grammars.proofs.Reached.{step_reaches}
 
@@ -203,18 +199,19 @@ module _ (text : List ℕ) (p : Progress) (ns : List ℕ) (on : OnFront text (p,
 
       -- so where its line is not refused
       pub takes_unrefused : at_hold p.stand.part p.stand.position ≡ true → (l : Line)
-          → OneOf (0 ∷ 1 ∷ []) (tag_of Line-type l) → l ≡ line_at (bytes "hold=") no_hold no_hold text p.offset p.line
+          → ((n j : ℕ) → l ≡ L.Refused n j → ⊥) → l ≡ line_at (bytes "hold=") no_hold no_hold text p.offset p.line
           → TakesUnheld p text ns q ms
       takes_unrefused here l some e =
           go l some e
           (subst (T.Answers no_hold no_hold text p.offset p.line) (sym e)
           (T.line_answers (bytes "hold=") no_hold no_hold text p.offset p.line))
         where
-          go : (l : Line) → OneOf (0 ∷ 1 ∷ []) (tag_of Line-type l)
+          go : (l : Line) → ((n j : ℕ) → l ≡ L.Refused n j → ⊥)
               → l ≡ line_at (bytes "hold=") no_hold no_hold text p.offset p.line
               → T.Answers no_hold no_hold text p.offset p.line l → TakesUnheld p text ns q ms
           go (L.Number v next) some e a = takes_no_hold here v next (sym e)
-          go (L.Refused n j) some e a = absurd (miss (0 ∷ 1 ∷ []) 2 tt some)
+          go L.End some e a = elim a [ ]
+          go (L.Refused n j) some e a = absurd (some n j refl)
 
     -- where it is refused
     abbrev fault_here : ℕ → ℕ

@@ -6,8 +6,8 @@ use mathlib.Core.List.{List, [], ◌∷◌, ◌++◌, map}
 use mathlib.Core.Logic.{inl, inr}
 use Prim.Native.Nat.{ℕ, zero, suc, ◌+◌, ◌-◌, ◌*◌, ◌≤◌, ◌<◌}
 use native.Mathlib.Omega.{arith}
-use lib.ListN.{length, get_or, take, drop, set, length-take}
-use lib.ListN.{length-drop, length-map, length-set, length-append, replicate}
+use lib.ListN.{length, get_or, take, drop, set}
+use lib.ListN.{length-drop, length-set, length-append, replicate}
 use lib.Dec.{eqb}
 use lib.Seq.{get_or-take, get_or-drop, length-take-le, get_or-set_same, get_or-set_other}
 use borrow.Author.Tests.{eqb-true, eqb-false}
@@ -16,27 +16,26 @@ use Rattle.rows.specs.Rows.{min_tasks, max_tasks, max_ticks, in_range, times_in_
 use Rattle.rows.specs.Rows as Rows
 use Rattle.rows.specs.Rows.{Row}
 use Rattle.rows.specs.declared.Order.{Order}
-use Rattle.rows.specs.inside.Arrays.{ranking, ranked}
+use Rattle.rows.specs.inside.Arrays.{ranking}
 use Rattle.rows.specs.inside.Numbers.{rows_in, positions_for, Below}
 use Rattle.rows.specs.inside.Numbers as Numbers
 use Rattle.rows.proofs.Limits.{all_times}
 use Rattle.rows.proofs.RowNumbers.{between_at, between_length}
-use Rattle.rows.proofs.Tasks.{positions_are, positions_length}
+use Rattle.rows.proofs.Tasks.{positions_are}
 use Rattle.tables.specs.TableLines.{read_table}
 use Rattle.tables.specs.Claims.{Accepted}
 use Rattle.readers.specs.inside.Numbers.{row_start}
 use Rattle.readers.specs.inside.Numbers as TableNumbers
 use Rattle.tables.proofs.Readings as Tables
 use Rattle.readers.proofs.Tables.{ranks_counted}
-use Rattle.responses.specs.Claims.{NoneHolds}
 use Rattle.analysis.specs.inside.Columns.{Fillable, Filled}
 use Rattle.plan_orders.specs.inside.Ranks.{Ordered}
 use Rattle.ranks.specs.inside.Tasks.{Tasked}
 use Rattle.ranks.proofs.Readings as R
-use Rattle.ranks.proofs.Given as goal
+use Rattle.ranks.proofs.Given as G
 use Rattle.ranks.proofs.Orders as O
 use Rattle.watch_demands.specs.WatchLines.{max_release, offset_of}
-use Rattle.watch_demands.proofs.Given.{is_given, order_long, order_in_range, order_limits, order_unheld}
+use Rattle.watch_demands.proofs.Given.{is_given, order_long, order_limits, order_unheld}
 use Rattle.plans.specs.Entries.{first_late}
 use Rattle.plans.specs.Outcomes.{refuses, fitted}
 use Rattle.watch_demands.specs.Calls.{run_in_time}
@@ -68,7 +67,7 @@ module _ {ns : List ℕ} {n : ℕ} (t : TableIn ns n) where
   tasks_long = ranks_counted true (read_table true t.front) table_sound ∙ sym count_is
 
   pub ranks_held : row_start n + n ≤ length ns
-  ranks_held = goal.ranks_held t.read_as t.ok
+  ranks_held = G.ranks_held t.read_as t.ok
 
   -- a rank's task stands behind the rows, in its place
   task_at_lem : (j : ℕ) → j < n → get_or ns (row_start n + j) 0 ≡ (row_at (order_of t) j).task
@@ -101,7 +100,7 @@ module _ {ns : List ℕ} {n : ℕ} (t : TableIn ns n) (order : Order)
   held = tasks_room t order is
 
   tasked : Tasked (lent_rows ns) n order
-  tasked = goal.given_tasked t.read_as t.ok order is
+  tasked = G.given_tasked t.read_as t.ok order is
 
   pub rows_ordered : Ordered (lent_rows ns) qs n
   rows_ordered = O.ordered tasked ps qs held room put
@@ -109,12 +108,12 @@ module _ {ns : List ℕ} {n : ℕ} (t : TableIn ns n) (order : Order)
   rows_are : rows_in (lent_rows ns) (take n qs) ≡ order_of t
   rows_are =
       O.planned_rows tasked ps qs held room put
-      ∙ ap₂ rows_for (goal.tasks_are t.read_as t.ok order is) (R.rows_are t.read_as t.ok)
+      ∙ ap₂ rows_for (G.tasks_are t.read_as t.ok order is) (R.rows_are t.read_as t.ok)
 
   positions_at : take n qs ≡ positions_for (tasks_of t) (rows_of t)
   positions_at =
       positions_are order.tasks (Numbers.rows_of n (lent_rows ns)) n ps qs held put
-      ∙ ap₂ positions_for (sym (O.tasks_are tasked ps qs held room put) ∙ goal.tasks_are t.read_as t.ok order is)
+      ∙ ap₂ positions_for (sym (O.tasks_are tasked ps qs held room put) ∙ G.tasks_are t.read_as t.ok order is)
       (R.rows_are t.read_as t.ok)
 
   pub rows_fillable : (columns : List ℕ) → 3 * n ≤ length columns → Fillable (lent_rows ns) qs n columns

@@ -1,9 +1,9 @@
 -- Lines with one key one after another: the numbers so far, one more, and what a grammar that expects such lines makes
 -- of them.
 use mathlib.Core.Path.{◌≡◌, refl, sym, ap, subst, ◌∙◌}
-use mathlib.Core.List.{List, [], ◌∷◌, ◌++◌, append-nil}
+use mathlib.Core.List.{List, [], ◌∷◌, ◌++◌}
 use mathlib.Core.Logic.{inl, inr}
-use Prim.Native.Nat.{ℕ, zero, suc, ◌+◌, ◌≤◌, ◌<◌}
+use Prim.Native.Nat.{ℕ, suc, ◌+◌, ◌≤◌, ◌<◌}
 use native.Mathlib.Omega.{arith}
 use native.Mathlib.Nat.{add-zero}
 use native.Mathlib.Numerals.{add-one}
@@ -15,14 +15,14 @@ use Rattle.basics.proofs.Tests.{le-or-lt, Within}
 use Rattle.text.specs.Lines.{line_at, refusal, place}
 use Rattle.text.specs.declared.Line.{Line}
 use Rattle.text.specs.declared.Line.TheVariants as L
-use Rattle.text.proofs.Lines.{Answers, tells, refuses, line_answers}
+use Rattle.text.proofs.Lines.{Answers, line_answers}
 use Rattle.grammars.specs.Forms.{natural}
-use Rattle.grammars.specs.Grammars.{Grammar, a_line, Verdict, refused, on_step, read_from}
+use Rattle.grammars.specs.Grammars.{Grammar, a_line, refused, on_step, read_from}
 use Rattle.grammars.specs.inside.Answers.{tested, on_answer}
 use Rattle.grammars.proofs.Answers.{NoNumber, no_test}
 use Rattle.grammars.proofs.Steps.{read_steps}
 use Rattle.grammars.proofs.Naturals.{step_line, number_within}
-use Rattle.watches.specs.inside.Lines.{range_of, number_line, Told, none, more, Stopped, ReadsNumbers, Readable}
+use Rattle.watches.specs.inside.Lines.{range_of, number_line, Told, none, more, Stopped, ReadsNumbers}
 
 -- ---- a grammar's line by what it answers, where no number in its range is refused
 module _ {S : Type 0} (g : Grammar S) (text : List ℕ) (s : S) (at k : ℕ) (key : List ℕ) (low high : ℕ)
@@ -51,6 +51,7 @@ module _ {S : Type 0} (g : Grammar S) (text : List ℕ) (s : S) (at k : ℕ) (ke
       go : (l : Line) → NoNumber l → answer ≡ l → Answers low high text at k l
           → read_from g text s at k ≡ refused (refusal l) (place l)
       go (L.Number v next) left e a = absurd (miss (1 ∷ 2 ∷ []) 0 tt left)
+      go L.End left e a = elim a [ ]
       go (L.Refused n j) left e a = by_answer ∙ ap (λ l. on_step (on_answer g s k l) (read_from g text)) e
 
 -- ---- lines of one key
@@ -147,6 +148,7 @@ module _ (text key lows highs owners : List ℕ) (at₀ k₀ : ℕ) (ns₀ : Lis
             → Answers (low m) (high m) text at k l
             → ReadsNumbers text key low high at₀ k₀ ns l
         go (L.Number v next) left is a = absurd (miss (1 ∷ 2 ∷ []) 0 tt left)
+        go L.End left is a = elim a [ ]
         go (L.Refused n j) left is a = record {
           numbers = take m ns;
           past = at;

@@ -1,27 +1,21 @@
 -- The stages of a text to watch behind its table: what the lines of each lead to, and what the whole comes to.
-use mathlib.Core.Path.{◌≡◌, refl, sym, ap, ap₂, subst, ◌∙◌}
-use mathlib.Core.Bool.{true}
+use mathlib.Core.Path.{◌≡◌, refl, sym, ap, ap₂, ◌∙◌}
 use mathlib.Core.List.{List, [], ◌∷◌, ◌++◌}
 use Prim.Native.Nat.{ℕ, zero, suc, ◌+◌, ◌≤◌, ◌<◌}
 use native.Mathlib.Omega.{arith}
 use native.Mathlib.Numerals.{add-one}
-use lib.Dec.{eqb}
 use lib.IntN.{ℤ, pos}
-use lib.ListN.{length, get_or, take, replicate, length-append}
-use denote.Enum.Declared.{tag_of}
+use lib.ListN.{length, get_or, take, replicate}
 use lib.Seq.{take-append_seam}
-use types.Run.{OneOf, miss}
+use types.Run.{miss}
 use borrow.Author.Tests.{eq-eqb, ne_eqb}
-use Rattle.basics.specs.Basics.{pick}
-use Rattle.basics.proofs.Tests.{Within}
 use Rattle.text.specs.Text.{bytes}
 use Rattle.text.specs.Lines.{line_at, end_at, refusal, place}
 use Rattle.text.specs.declared.Line.{Line}
 use Rattle.text.specs.declared.Line.TheVariants as L
-use Rattle.text.specs.contracts.Line.{the_type as Line-type}
 use Rattle.grammars.specs.Forms.{natural}
 use Rattle.grammars.specs.Grammars.{a_line, accepted, refused, on_step, read_from, read}
-use Rattle.grammars.specs.inside.Answers.{tested, on_answer}
+use Rattle.grammars.specs.inside.Answers.{on_answer}
 use Rattle.grammars.proofs.Answers.{NoNumber, no_test}
 use Rattle.grammars.proofs.Naturals.{step_end, number_within, no_number_at_end}
 use Rattle.grammars.proofs.Steps.{read_steps}
@@ -37,8 +31,8 @@ use Rattle.watch_demands.specs.Jobs.{rank_with}
 use Rattle.watch_demands.specs.Calls.{run_in_time, watched}
 use Rattle.watch_demands.proofs.Demands.{watched_is}
 use Rattle.watch_runs.specs.inside.Owners.{Mergeable, Owns, Owned}
-use Rattle.watches.specs.inside.Lines.{range_of, Told, Stopped, ReadsNumbers, Readable}
-use Rattle.watches.specs.inside.Stages.{TableIn, rows_of, tasks_of, order_of, behind, Resumes, AtReleases, OrderedBy}
+use Rattle.watches.specs.inside.Lines.{range_of, Told, ReadsNumbers, Readable}
+use Rattle.watches.specs.inside.Stages.{TableIn, rows_of, behind, Resumes, AtReleases, OrderedBy}
 use Rattle.watches.specs.inside.Stages.{Laid, laid_order, laid_offset, AtTicks, AtLengths, OffsetsAre}
 use Rattle.watches.proofs.Numbers.{line_number, line_refused, told_within, told_resumes, stopped_refused}
 use Rattle.watches.proofs.Laid.{count_is, some_rows, few_rows, lay, from}
@@ -293,14 +287,14 @@ module _ (text : List ℕ) (at k : ℕ) (ns : List ℕ) (n : ℕ) (positions col
                 → read watch_text watch_start text ≡ refused m j
             end_refused m j e = by_end (L.Refused m j) e
 
-            pub whole : (x : Line) → OneOf (0 ∷ 1 ∷ []) (tag_of Line-type x) → x ≡ end_at text next (k + length vs)
+            pub whole : (x : Line) → ((m j : ℕ) → x ≡ L.Refused m j → ⊥) → x ≡ end_at text next (k + length vs)
                 → (room : ℕ)
                 → watched text room ≡ run_in_time room (laid_order laid) (laid_offset laid) vs ticks
             whole x some e room = watched_is text room (accepted last) (go x some e)
               where
-                go : (x : Line) → OneOf (0 ∷ 1 ∷ []) (tag_of Line-type x) → x ≡ end_at text next (k + length vs)
+                go : (x : Line) → ((m j : ℕ) → x ≡ L.Refused m j → ⊥) → x ≡ end_at text next (k + length vs)
                     → read watch_text watch_start text ≡ accepted last
                 go (L.Number v past) some e =
                     absurd (no_number_at_end (λ x. 0) text next (k + length vs) v past (sym (no_test _ _) ∙ sym e))
                 go L.End some e = by_end L.End e
-                go (L.Refused m j) some e = absurd (miss (0 ∷ 1 ∷ []) 2 tt some)
+                go (L.Refused m j) some e = absurd (some m j refl)

@@ -6,8 +6,7 @@ use Rattle.grammars.specs.Sequences.{second}
 use Rattle.rows.specs.Rows.{max_ticks, max_tasks, rows_for, row_at}
 use Rattle.rows.specs.Rows.{Row}
 use Rattle.rows.specs.inside.Numbers.{rows_in, positions_for}
-use Rattle.tables.specs.TableLines.{at-end, TableRead, read_table}
-use Rattle.readers.specs.declared.Reading.{Reading}
+use Rattle.tables.specs.TableLines.{at-end, read_table}
 use Rattle.readers.specs.inside.Readings.{ReadAs}
 use Rattle.readers.specs.inside.Numbers.{head_count}
 use Rattle.analysis.specs.inside.Columns.{Filled}
