@@ -8,7 +8,7 @@ use Prim.Native.Nat.{ℕ, zero, suc, ◌+◌, ◌*◌, ◌≤◌, ◌<◌}
 use native.Mathlib.Omega.{arith}
 use lib.Dec.{leb, ltb}
 use lib.ListN.{length, get_or, take, length-take, length-drop}
-use borrow.Author.Tests.{leb-true, ltb-true, le-leb, lt-leb, lt-ltb, le-ltb}
+use borrow.Author.Tests.{leb-true, ltb-true, le-leb, lt-leb, lt-ltb}
 use Rattle.basics.specs.Basics.{pick}
 use mathlib.Core.Logic.{inl, inr}
 use Rattle.basics.proofs.Tests.{le-or-lt, and_left, and_right}
@@ -71,16 +71,9 @@ module _ (ns : List ℕ) (n i : ℕ) where
   too_many h =
       ap (λ b. b && (ltb i n && (leb (field_count * n) (length ns) && ranged))) (lt-leb n max_tasks h)
 
-  pub not_there : n ≤ max_tasks → n ≤ i → in_limits ns n i ≡ false
-  not_there few h =
-      ap₂ (λ a b. a && (b && (leb (field_count * n) (length ns) && ranged))) (le-leb n max_tasks few) (le-ltb i n h)
-
   pub by_room : n ≤ max_tasks → i < n → in_limits ns n i ≡ (leb (field_count * n) (length ns) && ranged)
   by_room few there =
       ap₂ (λ a b. a && (b && (leb (field_count * n) (length ns) && ranged))) (le-leb n max_tasks few) (lt-ltb i n there)
-
-  pub too_short : n ≤ max_tasks → i < n → length ns < field_count * n → in_limits ns n i ≡ false
-  too_short few there h = by_room few there ∙ ap (λ b. b && ranged) (lt-leb (field_count * n) (length ns) h)
 
   pub by_rows : n ≤ max_tasks → i < n → field_count * n ≤ length ns → in_limits ns n i ≡ ranged
   by_rows few there h = by_room few there ∙ ap (λ b. b && ranged) (le-leb (field_count * n) (length ns) h)

@@ -86,7 +86,8 @@ blocking_from-blocked-requires c =
     let a = c.args in
     let k = in_limits_lem a.rows.now a.n a.i (sym c.in_limits.ensures ∙ c.if-not-in_limits.false) in (
       omega (arith, k.there),
-      among a.rows.now a.n a.i k c.positions-positions.result (omega arith) c.positions-positions.ensures a.n (omega arith),
+      among a.rows.now a.n a.i k c.positions-positions.result (omega arith) c.positions-positions.ensures _
+          (omega (arith, k.there)),
     )
 
 pub figures_under-requires : goal.figures_under-requires
