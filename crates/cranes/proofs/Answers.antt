@@ -1,7 +1,7 @@
 -- The pieces taken one by one, and their answers put one after another.
-use mathlib.Core.Path.{◌≡◌, refl, sym, ap, ap₂, subst, ◌∙◌}
+use mathlib.Core.Path.{◌≡◌, sym, ap, ap₂, subst, ◌∙◌}
 use mathlib.Core.List.{List, [], ◌∷◌, ◌++◌}
-use Prim.Native.Nat.{ℕ, zero, suc, ◌+◌, ◌-◌, ◌≤◌, ◌<◌}
+use Prim.Native.Nat.{ℕ, suc, ◌+◌, ◌-◌, ◌≤◌, ◌<◌}
 use native.Mathlib.Omega.{arith}
 use lib.ListN.{length, get_or, take, drop, length-append, length-drop, drop_of_length-le}
 use lib.Seq.{drop-cons, drop-drop, take-append_seam, drop-append_seam}
@@ -10,9 +10,6 @@ use Rattle.text.specs.Text.{joined}
 use Rattle.text.specs.Buffers.{Wrote}
 use Rattle.text.specs.inside.Puts.{Put}
 use Rattle.text.proofs.Puts.{Going, begins, fits_next, next, ends, from_start}
-use Rattle.plans.specs.declared.Answer.{Answer}
-use Rattle.plans.specs.Outcomes.{Outcome, writes, refuses, Written, printed}
-use Rattle.plans.proofs.Outcomes.{Numbered}
 use Rattle.demands.specs.Calls.{planner_prints}
 use Rattle.crane_demands.specs.Pieces.{board_key, pieces, max_pieces}
 use Rattle.crane_demands.specs.Calls.{answers, crane_text, crane_room}
