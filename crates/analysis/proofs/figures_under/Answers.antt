@@ -112,7 +112,8 @@ pub overflow_cast-result : goal.overflow_cast-result
 overflow_cast-result c = record { fits = omega (arith, (timely c.before.before.before.before).latest_max) }
 
 pub overflow_cast-result-2 : goal.overflow_cast-result-2
-overflow_cast-result-2 c = record { fits = omega (arith, (timely c.before.before.before.before).latest_max, early c.before.before) }
+overflow_cast-result-2 c =
+    record { fits = omega (arith, (timely c.before.before.before.before).latest_max, early c.before.before) }
 
 pub overflow_sub-result : goal.overflow_sub-result
 overflow_sub-result c = early c.before.before
@@ -129,5 +130,5 @@ returns c rows below f blocked =
     let latest = latest_found (row_of s) below f blocked w (least c.before.before.before.before.before) in
     let earliest = earliest_found (row_of s) below f blocked w e latest c.earliest-earliest.ensures in
     ap (figures_at w e) m
-    ∙ timely_answer (row_of s) (take s.args.k rows) below w e c.margin-margin.result (omega (arith, c.if-latest-eq0.false))
-    latest earliest c.margin-margin.ensures
+    ∙ timely_answer (row_of s) (take s.args.k rows) below w e c.margin-margin.result
+    (omega (arith, c.if-latest-eq0.false)) latest earliest c.margin-margin.ensures

@@ -35,7 +35,8 @@ put_times-requires c =
     let long = rows_long a.rows.now a.positions.now a.n held in
     let rows = rows_in a.rows.now (take a.n a.positions.now) in (
       c.requires.held.rows_held x.k t,
-      ap times_in_range (sym here) ∙ at_passes times_in_range rows x.k c.requires.times_are_in_range (omega (arith, long, t)),
+      ap times_in_range (sym here)
+          ∙ at_passes times_in_range rows x.k c.requires.times_are_in_range (omega (arith, long, t)),
       t,
       c.requires.few,
       x.invariant.1.room,

@@ -11,7 +11,8 @@ use Rattle.curves.proofs.well_formed.Tie as tie
 
 -- the states of the call that lemmas speak of
 abbrev At-After-within2 : Type 0
-At-After-within2 = lts.After-within2 tie.the-claims reads.Pre reads.Post goal.the-invariant-loop-i goal.the-decreases-loop-i
+At-After-within2 =
+    lts.After-within2 tie.the-claims reads.Pre reads.Post goal.the-invariant-loop-i goal.the-decreases-loop-i
 
 pub returns-then-n-gt-POINTS_MAX : goal.returns-then-n-gt-POINTS_MAX
 returns-then-n-gt-POINTS_MAX c = let a = c.args in sym (too_many a.points.now a.n c.if-n-gt-POINTS_MAX.true)

@@ -12,7 +12,8 @@ use Rattle.figures.proofs.all_in_range.Tie as tie
 
 -- the states of the call that lemmas speak of
 abbrev At-After-in_range_at : Type 0
-At-After-in_range_at = lts.After-in_range_at tie.the-claims reads.Pre reads.Post goal.the-invariant-loop-i goal.the-decreases-loop-i
+At-After-in_range_at =
+    lts.After-in_range_at tie.the-claims reads.Pre reads.Post goal.the-invariant-loop-i goal.the-decreases-loop-i
 
 pub loop-i-init : goal.loop-i-init
 loop-i-init c = let a = c.args in (omega arith, ap (all_rows in_range) (past_all a.n a.numbers.now))

@@ -13,7 +13,9 @@ use Rattle.fixed_points.proofs.interference.Tie as tie
 
 -- the states of the call that lemmas speak of
 abbrev At-After-shared_slice_known4 : Type 0
-At-After-shared_slice_known4 = lts.After-shared_slice_known4 tie.the-claims reads.Pre reads.Post goal.the-invariant-loop-i goal.the-decreases-loop-i
+At-After-shared_slice_known4 =
+    lts.After-shared_slice_known4 tie.the-claims reads.Pre reads.Post goal.the-invariant-loop-i
+    goal.the-decreases-loop-i
 
 pub loop-i-init : goal.loop-i-init
 loop-i-init c =

@@ -8,8 +8,8 @@ use Rattle.fixed_points.proofs.interference.Given as goal
 abbrev pub invariant-loop-i : goal.invariant-loop-i
 invariant-loop-i l =
     (l.i ≤ l.n)
-    × (l.sum + interference l.spared l.window (loads_from l.i (l.n - l.i) l.periods l.costs) ≡ interference l.spared l.window
-    (loads l.n l.periods l.costs))
+    × (l.sum + interference l.spared l.window (loads_from l.i (l.n - l.i) l.periods l.costs)
+    ≡ interference l.spared l.window (loads l.n l.periods l.costs))
 
 abbrev pub decreases-loop-i : goal.decreases-loop-i
 decreases-loop-i l = l.n - l.i

@@ -25,11 +25,13 @@ pub returns-then-tried-limit : goal.returns-then-tried-limit
 returns-then-tried-limit c =
     let a = c.args in
     let ls = loads a.n a.periods.now a.costs.now in
-    let e = c.try_values-tried.ensures.ends in
-    ends_at a.base a.limit ls c.try_values-tried.result.last (stands c.before.before.before) e (omega (arith, c.if-tried-limit.true))
+    let s = stands c.before.before.before in
+    ends_at a.base a.limit ls c.try_values-tried.result.last s c.try_values-tried.ensures.ends
+    (omega (arith, c.if-tried-limit.true))
 
 pub returns-else-tried-limit : goal.returns-else-tried-limit
 returns-else-tried-limit c =
     let a = c.args in
     let ls = loads a.n a.periods.now a.costs.now in
-    ends_late a.base a.limit ls c.try_values-tried.result.last (stands c.before.before.before) (omega (arith, c.if-tried-limit.false))
+    let s = stands c.before.before.before in
+    ends_late a.base a.limit ls c.try_values-tried.result.last s (omega (arith, c.if-tried-limit.false))

@@ -1,6 +1,5 @@
 use Prim.Native.Nat.{◌≤◌, ◌<◌}
 use native.Mathlib.Omega.{arith}
-use Rattle.responses.proofs.Sums.{Periods}
 use Rattle.fixed_points.specs.inside.Loads.{loads}
 use Rattle.fixed_points.proofs.Values.{periods_some, moves}
 use Rattle.fixed_points.proofs.Values.{reached_first, stands, reached_next}
@@ -13,12 +12,6 @@ use Rattle.fixed_points.proofs.try_values.Tie as tie
 abbrev At-Else1 : Type 0
 At-Else1 = lts.Else1 tie.the-claims reads.Pre reads.Post goal.the-invariant-loop-last goal.the-decreases-loop-last
 
-abbrev At-Start : Type 0
-At-Start = lts.Start tie.the-claims reads.Pre reads.Post goal.the-invariant-loop-last goal.the-decreases-loop-last
-
-periods : (s : At-Start) → Periods (loads s.args.n s.args.periods.now s.args.costs.now)
-periods s = periods_some s.args.n s.args.periods.now s.args.costs.now s.requires.3
-
 pub first_value-last-requires : goal.first_value-last-requires
 first_value-last-requires c = let p = c.requires in (p.1, p.3)
 
@@ -26,7 +19,8 @@ pub loop-last-init : goal.loop-last-init
 loop-last-init c =
     let a = c.args in
     let ls = loads a.n a.periods.now a.costs.now in
-    reached_first a.base a.limit ls c.requires.0 (periods c.before.before.before.before) c.first_value-last.result c.first_value-last.ensures
+    let some = periods_some a.n a.periods.now a.costs.now c.requires.3 in
+    reached_first a.base a.limit ls c.requires.0 some c.first_value-last.result c.first_value-last.ensures
 
 pub next_value-next-requires : goal.next_value-next-requires
 next_value-next-requires c =
@@ -51,7 +45,8 @@ further c =
     let a = c.args in
     let l = c.loop-last in
     let ls = loads a.n a.periods.now a.costs.now in
-    let standing = stands a.base a.limit ls c.requires.0 (periods c.before.before.before.before.before.before) l.last l.steps l.invariant in
+    let some = periods_some a.n a.periods.now a.costs.now c.requires.3 in
+    let standing = stands a.base a.limit ls c.requires.0 some l.last l.steps l.invariant in
     let on = moves a.base a.limit ls l.last standing (λ e.
     omega (arith, e, c.next_value-next.ensures, c.if-next-last.false)) in
     (on.0, omega (arith, on.1, c.next_value-next.ensures))
@@ -68,5 +63,6 @@ loop-last-preserved c =
     let a = c.args in
     let l = c.loop-last in
     let ls = loads a.n a.periods.now a.costs.now in
-    reached_next a.base a.limit ls c.requires.0 (periods c.before.before.before.before.before.before.before) l.last l.steps l.invariant _
+    let some = periods_some a.n a.periods.now a.costs.now c.requires.3 in
+    reached_next a.base a.limit ls c.requires.0 some l.last l.steps l.invariant _
     c.next_value-next.ensures (further c.before).1

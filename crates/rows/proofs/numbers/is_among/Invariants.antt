@@ -8,7 +8,8 @@ use Rattle.rows.proofs.numbers.is_among.Given as goal
 
 abbrev pub invariant-loop-i : goal.invariant-loop-i
 invariant-loop-i l =
-    (l.i ≤ l.end) × (is_in l.value (between l.start l.count l.numbers) ≡ is_in l.value (drop l.i (take l.end l.numbers)))
+    (l.i ≤ l.end)
+    × (is_in l.value (between l.start l.count l.numbers) ≡ is_in l.value (drop l.i (take l.end l.numbers)))
 
 abbrev pub decreases-loop-i : goal.decreases-loop-i
 decreases-loop-i l = l.end - l.i

@@ -8,7 +8,9 @@ use Rattle.rows.proofs.numbers.position_of.Given as goal
 
 abbrev pub invariant-loop-i : goal.invariant-loop-i
 invariant-loop-i l =
-    (l.i ≤ l.n) × (position_of l.task (tasks_of (rows_of l.n l.rows)) ≡ l.i + position_of l.task (tasks_of (rows_past l.n l.i l.rows)))
+    (l.i ≤ l.n)
+    × (position_of l.task (tasks_of (rows_of l.n l.rows))
+    ≡ l.i + position_of l.task (tasks_of (rows_past l.n l.i l.rows)))
 
 abbrev pub decreases-loop-i : goal.decreases-loop-i
 decreases-loop-i l = l.n - l.i
