@@ -23,8 +23,13 @@ OTHER = {
     "no-order": "no_order_lem",
     "rows-at": "rows_at_lem",
     "rows_in": "rows_in_lem",
-    "not_after": "not_after_lem",
-    "lent_rows": "lent_rows_lem",
+    "not_after": "comes_first",
+    "lent_rows": "lent_as_rows",
+    "is-stable": "is_stable_order",
+    "first-late": "late_first",
+    "is-possible": "is_possible_order",
+    "table-refusals": "refused_tables",
+    "fifth-job": "fifth_in_turn",
 }
 
 KIT = os.environ.get("RATTLE_KIT", "/opt/rattle") + "/rattle"

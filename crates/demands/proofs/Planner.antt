@@ -53,7 +53,7 @@ module _ (text : List ℕ) where
 
     module _ (order : List Row) (is : chosen_order answer.rows ≡ some order) where
       pub order_in_range : all_rows in_range order ≡ true
-      order_in_range = possible_passes in_range (choice.is_possible_lem order is) sound.rows_in_range
+      order_in_range = possible_passes in_range (choice.is_possible_order order is) sound.rows_in_range
 
       rank_stable : (i : ℕ) → i < length order
           → is_stable (row_at order i) (rows_above order i) (rows_below order i) ≡ true
@@ -78,7 +78,7 @@ module _ (text : List ℕ) where
       -- at most `max_tasks` ranks within the limits
       order_fits : length (plan_text answer.board (entries order)) ≤ plan_room
       order_fits =
-          let as_many = possible_length (choice.is_possible_lem order is) in
+          let as_many = possible_length (choice.is_possible_order order is) in
           let fits = plan_fits answer.board order (omega (arith, sound.board_high)) (omega (arith, sound.few_rows))
           order_in_range in_time in
           omega (arith, fits, as_many, sound.few_rows)
@@ -157,20 +157,20 @@ module _ (text : List ℕ) where
       -- the order by the rule is the one chosen
       by_rule : (order : List Row) → ByRule answer.rows order → chosen_order answer.rows ≡ some order
       by_rule order r = elim (some_or_none (chosen_order answer.rows)) [
-        | inr o ↦ absurd (true_not_false _ r.is_stable_lem ((choice ok).none_passes o order r.possible))
+        | inr o ↦ absurd (true_not_false _ r.is_stable_order ((choice ok).none_passes o order r.possible))
         | inl o ↦ (
             let os = o.0 in
-            let possible = (choice ok).is_possible_lem os o.1 in
-            let before = (choice ok).by_rule os order o.1 r.possible r.is_stable_lem in
-            let after = r.not_after_lem os possible ((choice ok).is_passing os o.1) in
+            let possible = (choice ok).is_possible_order os o.1 in
+            let before = (choice ok).by_rule os order o.1 r.possible r.is_stable_order in
+            let after = r.comes_first os possible ((choice ok).is_passing os o.1) in
             o.1 ∙ ap some ((choice ok).one_only os order possible r.possible before after))
       ]
 
       pub rule_of : (order : List Row) → chosen_order answer.rows ≡ some order → ByRule answer.rows order
       rule_of order o = record {
-        possible = (choice ok).is_possible_lem order o;
-        is_stable_lem = (choice ok).is_passing order o;
-        not_after_lem = λ os possible passing. (choice ok).by_rule order os o possible passing;
+        possible = (choice ok).is_possible_order order o;
+        is_stable_order = (choice ok).is_passing order o;
+        comes_first = λ os possible passing. (choice ok).by_rule order os o possible passing;
       }
 
       table_plan : TablePlan room answer.board answer.rows (planned text room)

@@ -80,11 +80,11 @@ module _ (text : List ℕ) where
     pub sound : Accepted true answer
     sound = (read true text).sound ok
 
-    is_possible_lem : Possible order answer.rows × (tasks_of order ≡ answer.order)
-    is_possible_lem = possible_tasks answer.order answer.rows (sound.ranks_possible refl)
+    is_possible_order : Possible order answer.rows × (tasks_of order ≡ answer.order)
+    is_possible_order = possible_tasks answer.order answer.rows (sound.ranks_possible refl)
 
     pub order_in_range : all_rows in_range order ≡ true
-    order_in_range = possible_passes in_range is_possible_lem.0 sound.rows_in_range
+    order_in_range = possible_passes in_range is_possible_order.0 sound.rows_in_range
 
     module _ (in_time : NoneLate order) where
       order_promised : Promised order
@@ -92,7 +92,7 @@ module _ (text : List ℕ) where
 
       order_fits : length (plan_text answer.board (entries order)) ≤ plan_room
       order_fits =
-          let as_many = possible_length is_possible_lem.0 in
+          let as_many = possible_length is_possible_order.0 in
           let fits = plan_fits answer.board order (omega (arith, sound.board_high)) (omega (arith, sound.few_rows))
           order_in_range in_time in
           omega (arith, fits, as_many, sound.few_rows)
@@ -194,7 +194,7 @@ module _ (text : List ℕ) where
           ∙ rows_for_lem (sound ok).rows_distinct g.possible
 
       is_given : Given answer.rows answer.order order
-      is_given = record { possible = (is_possible_lem ok).0; tasks_are = (is_possible_lem ok).1 }
+      is_given = record { possible = (is_possible_order ok).0; tasks_are = (is_possible_order ok).1 }
 
     has_room : Cases → plan_room ≤ room → (p : ℕ) → reviewed text room ≡ refuses 9 p → ⊥
     has_room (refused n r is) h p e = refused_else true text n 9 r refl (same_refusal (sym is ∙ e)).0

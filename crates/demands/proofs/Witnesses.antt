@@ -107,7 +107,7 @@ met =
       every_order_fails = (Planner.choice (table "beta=8000" "beta=8000" "beta=54999") refl).none_passes refl;
       tells_late = late_told;
       given_late = late_given;
-      first_late_lem = ((late.accepted 7 example_rows (11 ∷ 13 ∷ 12 ∷ []) late_told late_order late_given).seven 2).0 refl;
+      late_first = ((late.accepted 7 example_rows (11 ∷ 13 ∷ 12 ∷ []) late_told late_order late_given).seven 2).0 refl;
       tells_timely = timely_told;
       given_timely = timely.given 7 example_rows (12 ∷ 11 ∷ 13 ∷ []) timely_told;
       none_late = runs_met.none_late;
@@ -132,7 +132,7 @@ met =
       by_rule_curved = Planner.rule_of curved_text 0 refl curved_rows refl;
       line_fails = (Planner.choice (pointed ("points=0" ∷ [])) refl).none_passes refl;
       lent_whole = refl;
-      lent_rows_lem = refl;
+      lent_as_rows = refl;
       lent_second = refl;
       tells_switched = telling false switched_text refl;
       by_rule_switched = Planner.rule_of switched_text 0 refl (switched 1 loose_order) refl;

@@ -78,8 +78,8 @@ EveryOrderFails rows = (os : List Row) → Possible os rows → order_stable os 
 -- the order that the rule chooses: stable, and not after any other stable one
 pub record ByRule (rows order : List Row) : Type 0 where
   pub possible : Possible order rows
-  pub is_stable_lem : order_stable order ≡ true
-  pub not_after_lem :
+  pub is_stable_order : order_stable order ≡ true
+  pub comes_first :
       (os : List Row) → Possible os rows → order_stable os ≡ true
       → not_after (positions_up (position_in rows) order) (positions_up (position_in rows) os) ≡ true
 

@@ -131,7 +131,7 @@ pub record Met : Type 0 where
   -- an order given with a late task, and one without
   pub tells_late : Tells true late_text 7 example_rows (11 ∷ 13 ∷ 12 ∷ [])
   pub given_late : Given example_rows (11 ∷ 13 ∷ 12 ∷ []) late_order
-  pub first_late_lem : FirstLate late_order 2
+  pub late_first : FirstLate late_order 2
   pub tells_timely : Tells true timely_text 7 example_rows (12 ∷ 11 ∷ 13 ∷ [])
   pub given_timely : Given example_rows (12 ∷ 11 ∷ 13 ∷ []) example_order
   pub none_late : NoneLate example_order
@@ -163,7 +163,7 @@ pub record Met : Type 0 where
   pub line_fails : EveryOrderFails (map (with_curve []) curved_rows)
   -- rows as they are lent, with their curve and their switch
   pub lent_whole : length lent_numbers ≡ field_count * 2
-  pub lent_rows_lem : rows_of 2 lent_numbers ≡ lent_rows
+  pub lent_as_rows : rows_of 2 lent_numbers ≡ lent_rows
   pub lent_second : row_in lent_numbers 1 ∷ [] ≡ drop 1 lent_rows
   -- a table under a switch, with an order; figures of rows that have different ones
   pub tells_switched : Tells false switched_text 7 (switched 1 loose_rows) []

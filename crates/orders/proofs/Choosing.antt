@@ -238,7 +238,7 @@ module _ (test : Row → List Row → List Row → Bool) where
       pub record First (n : ℕ) (rs below ps : List Row) : Type 0 where
         pub order : List Row
         pub found : O.order_from test n rs below ≡ some order
-        pub not_after_lem : not_after (positions_up position order) (positions_up position ps) ≡ true
+        pub comes_first : not_after (positions_up position order) (positions_up position ps) ≡ true
 
       pub complete :
           (n : ℕ) (rs below ps : List Row) →
@@ -247,7 +247,7 @@ module _ (test : Row → List Row → List Row → Bool) where
           Possible ps rs →
           passes_between [] ps below ≡ true →
           First n rs below ps
-      complete zero rs below ps e up p h = record { order = []; found = refl; not_after_lem = refl }
+      complete zero rs below ps e up p h = record { order = []; found = refl; comes_first = refl }
       complete (suc n) rs below ps e up p h =
           let l = lowest_of_lem n ps rs e p in
           let r = l.lowest in
@@ -263,14 +263,14 @@ module _ (test : Row → List Row → List Row → Bool) where
           (λ f. record {
             order = ih.order ++ (r ∷ []);
             found = f;
-            not_after_lem = compare (positions_lowest position ih.order r) positions
+            comes_first = compare (positions_lowest position ih.order r) positions
                 (same_first (position r) (positions_up position ih.order) (positions_up position l.above)
-                ih.not_after_lem);
+                ih.comes_first);
           })
           (λ f. record {
             order = f.above ++ (f.lowest ∷ []);
             found = f.found;
-            not_after_lem = compare (positions_lowest position f.above f.lowest) positions
+            comes_first = compare (positions_lowest position f.above f.lowest) positions
                 (earlier_first (position f.lowest) (position r) (positions_up position f.above)
                 (positions_up position l.above) f.earlier);
           })

@@ -156,12 +156,12 @@ module _ (test : Row → List Row → List Row → Bool) (by_sets : O.BySets tes
       | inl a ↦ absurd (true≢false (sym (good a.0 a.1).passing ∙ h a.0 (good a.0 a.1).possible))
       | inr e ↦ e
     ];
-    is_possible_lem = λ os h. (good os h).possible;
+    is_possible_order = λ os h. (good os h).possible;
     is_passing = λ os h. (good os h).passing;
     by_rule = λ os ps h p s.
         ap (λ (l : List Row). not_after (positions_up position l) (positions_up position ps))
         (same_some (sym h ∙ (first_of ps p s).found))
-        ∙ (first_of ps p s).not_after_lem;
+        ∙ (first_of ps p s).comes_first;
     one_only = λ os ps p q h k. one_order position (length table) table os ps refl up p q h k;
   }
     where

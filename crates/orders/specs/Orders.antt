@@ -103,7 +103,7 @@ module _ (test : Row → List Row → List Row → Bool) where
         order_of table ≡ none → (os : List Row) → Possible os table → passes os ≡ false
     pub none_only :
         ((os : List Row) → Possible os table → passes os ≡ false) → order_of table ≡ none
-    pub is_possible_lem : (os : List Row) → order_of table ≡ some os → Possible os table
+    pub is_possible_order : (os : List Row) → order_of table ≡ some os → Possible os table
     pub is_passing : (os : List Row) → order_of table ≡ some os → passes os ≡ true
     pub by_rule :
         (os ps : List Row) →

@@ -64,7 +64,7 @@ module _ {text ns : List ℕ} {r : Reading} (a : ReadAs false text ns r) (ok : A
     order = some_order.0
 
     possible : Possible order answer.rows
-    possible = (Planner.choice text ok).is_possible_lem order some_order.1
+    possible = (Planner.choice text ok).is_possible_order order some_order.1
 
     order_is : c.order ≡ ranking (tasks_of order)
     order_is =

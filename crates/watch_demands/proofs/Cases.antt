@@ -48,7 +48,7 @@ watch_met = record {
   with_it = refl;
   third_job = refl;
   fourth_job = refl;
-  fifth_job_lem = refl;
+  fifth_in_turn = refl;
   seventh_job = refl;
 }
   where

@@ -41,7 +41,7 @@ use Rattle.watch_demands.proofs.Given.{is_given, given_only, order_in_range, ord
 use Rattle.watch_demands.proofs.Merges.{indexed}
 use Rattle.watch_demands.proofs.Finished.{finished_within, job_lines}
 use Rattle.watch_demands.proofs.Texts.{watch_plain, Ended, at_both, ended, sound, run_says, run_reads_back}
-use Rattle.watch_demands.proofs.Texts.{table_refusals_lem}
+use Rattle.watch_demands.proofs.Texts.{refused_tables}
 use Rattle.watch_demands.proofs.Kept.{given, past, lasts, finished_same, run_kept}
 
 -- ---- by the first late rank
@@ -233,7 +233,7 @@ module _ (text : List ℕ) where
       says = λ b rs os rels t ls told.
           (run_says text b rs os rels t ls told, is_given (table_of b rs os) (sound told.whole));
       reads_back = run_reads_back;
-      table_refusals_lem = table_refusals_lem text;
+      refused_tables = refused_tables text;
       accepted = λ b rs os rels t ls told order g.
           subst (λ o. RunOf o (offset_of rs os rels) ls room t (watched text room))
           (given_only (table_of b rs os) (sound told.whole) order g)

@@ -31,11 +31,11 @@ module _ (a : TableRead) (sound : Accepted true a) where
   abbrev order : List Row
   order = rows_for a.order a.rows
 
-  is_possible_lem : Possible order a.rows × (tasks_of order ≡ a.order)
-  is_possible_lem = possible_tasks a.order a.rows (sound.ranks_possible refl)
+  is_possible_order : Possible order a.rows × (tasks_of order ≡ a.order)
+  is_possible_order = possible_tasks a.order a.rows (sound.ranks_possible refl)
 
   pub is_given : Given a.rows a.order order
-  is_given = record { possible = is_possible_lem.0; tasks_are = is_possible_lem.1 }
+  is_given = record { possible = is_possible_order.0; tasks_are = is_possible_order.1 }
 
   -- no other order is given
   pub given_only : (os : List Row) → Given a.rows a.order os → order ≡ os
@@ -43,10 +43,10 @@ module _ (a : TableRead) (sound : Accepted true a) where
       ap (λ (ts : List ℕ). rows_for ts a.rows) (sym g.tasks_are) ∙ rows_for_lem sound.rows_distinct g.possible
 
   pub order_long : length order ≡ length a.rows
-  order_long = possible_length is_possible_lem.0
+  order_long = possible_length is_possible_order.0
 
   pub order_in_range : all_rows in_range order ≡ true
-  order_in_range = possible_passes in_range is_possible_lem.0 sound.rows_in_range
+  order_in_range = possible_passes in_range is_possible_order.0 sound.rows_in_range
 
   pub order_limits : (i : ℕ) → i < length order → Limits (row_at order i)
   order_limits i l = limits (row_at order i) (at_passes in_range order i order_in_range l)
@@ -55,4 +55,4 @@ module _ (a : TableRead) (sound : Accepted true a) where
   order_unheld none i l =
       let short : Row → Bool = λ r. leb r.hold 1 in
       let all = every_passes short a.rows (λ j h. le-leb (row_at a.rows j).hold 1 (omega (arith, none j h))) in
-      leb-true (row_at order i).hold 1 (at_passes short order i (possible_passes short is_possible_lem.0 all) l)
+      leb-true (row_at order i).hold 1 (at_passes short order i (possible_passes short is_possible_order.0 all) l)

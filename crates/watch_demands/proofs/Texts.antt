@@ -180,9 +180,9 @@ module _ (text : List ℕ) where
       subst (λ w. Reaches watch_text watch_start text k w here)
       (ap (λ (e : Expected). where_ended e s (run_begins s)) x) (lifted unheld run_behind run_begins at_board text r)
 
-  pub table_refusals_lem : TableRefusals text
+  pub refused_tables : TableRefusals text
   unfolding signed
-  table_refusals_lem = record {
+  refused_tables = record {
     as_reviewed = λ n k s here key form r mine theirs c. record {
       state = first s;
       rest = here;

@@ -165,5 +165,5 @@ pub record WatchMet : Type 0 where
   pub with_it : index_of sample_order sample_offset 1 0 ≡ 1
   pub third_job : index_of sample_order sample_offset 0 1 ≡ 2
   pub fourth_job : rank_with sample_order sample_offset 3 ≡ 1
-  pub fifth_job_lem : rank_with sample_order sample_offset 4 ≡ 0
+  pub fifth_in_turn : rank_with sample_order sample_offset 4 ≡ 0
   pub seventh_job : rank_with sample_order sample_offset 6 ≡ 1

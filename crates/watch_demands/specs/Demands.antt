@@ -154,7 +154,7 @@ pub record WatchDemands (text : List ℕ) (room : ℕ) (w : Outcome) : Type 0 wh
       → TellsRun text board rows tasks releases ticks lengths
       → RunSays text board rows tasks releases ticks lengths × Given rows tasks (rows_for tasks rows)
   pub reads_back : RunReadsBack
-  pub table_refusals_lem : TableRefusals text
+  pub refused_tables : TableRefusals text
   -- the order given by the rank lines is run from the first releases of its rows
   pub accepted :
       (board : ℕ) (rows : List Row) (tasks releases : List ℕ) (ticks : ℕ) (lengths : List ℕ)

@@ -271,11 +271,11 @@ module _ {ns : List ℕ} {n : ℕ} {positions columns offsets : List ℕ} (l : L
   -- ---- by its first late rank
   module _ (late room : ℕ) (lengths : List ℕ) (ticks : ℕ)
       (is : late ≡ first_late (rows_in (lent_rows ns) (take n positions))) where
-    first_late_lem : first_late (laid_order l) ≡ late
-    first_late_lem = sym (is ∙ ap first_late l.ordered_by.order_is)
+    late_first : first_late (laid_order l) ≡ late
+    late_first = sym (is ∙ ap first_late l.ordered_by.order_is)
 
     pub late_outcome : (late ≡ 0 → ⊥) → run_in_time room (laid_order l) (laid_offset l) lengths ticks ≡ refuses 7 late
-    late_outcome some = go late first_late_lem some
+    late_outcome some = go late late_first some
       where
         go : (k : ℕ) → first_late (laid_order l) ≡ k → (k ≡ 0 → ⊥)
             → run_in_time room (laid_order l) (laid_offset l) lengths ticks ≡ refuses 7 k
@@ -285,4 +285,4 @@ module _ {ns : List ℕ} {n : ℕ} {positions columns offsets : List ℕ} (l : L
     pub timely_outcome : late ≡ 0
         → run_in_time room (laid_order l) (laid_offset l) lengths ticks
         ≡ fitted room (jobs_text (laid_order l) (laid_offset l) lengths ticks)
-    timely_outcome none = timely_run room (laid_order l) (laid_offset l) lengths ticks (first_late_lem ∙ none)
+    timely_outcome none = timely_run room (laid_order l) (laid_offset l) lengths ticks (late_first ∙ none)

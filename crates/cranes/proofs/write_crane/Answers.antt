@@ -14,44 +14,22 @@ use Rattle.crane_demands.specs.Calls.{crane_text, craned}
 use Rattle.crane_demands.specs.Demands.{CraneSays}
 use Rattle.crane_demands.proofs.Demands.{ten_is, nine_is, written_is, text_short, crane_demands, decided}
 use Rattle.cranes.proofs.write_crane.Goals as goal
-use Rattle.cranes.proofs.write_crane.Lts as lts
-use Rattle.cranes.proofs.write_crane.Reads as reads
-use Rattle.cranes.proofs.write_crane.Tie as tie
-
--- the states of the call that lemmas speak of
-abbrev At-After-put_answers : Type 0
-At-After-put_answers = lts.After-put_answers tie.the-claims reads.Pre reads.Post tie.handed_clauses
-
-abbrev At-Start : Type 0
-At-Start = lts.Start tie.the-claims reads.Pre reads.Post tie.handed_clauses
-
-abbrev start : At-After-put_answers → At-Start
-start p = p.before.before.before.before.before.before.before.before.before.before
-
-abbrev text_of : At-Start → List ℕ
-text_of s = s.args.text.now
-
-abbrev room_of : At-Start → ℕ
-room_of s = length s.args.out.now
 
 -- what is promised beside the answer holds of every text
 says : (text : List ℕ) {o o' : List ℕ} {r : Answer} → Written (craned text (length o)) o o' r → CraneSays text o o' r
 says text {o} w = record { answer = w; demands = crane_demands text (length o); no_other = decided text (length o) }
 
-few : (p : At-After-put_answers) → length (pieces (text_of (start p))) ≤ max_pieces
-few p =
-    omega (arith, p.cut-count.ensures.counted p.if-count-gt-MAX_PIECES.false, p.if-count-gt-MAX_PIECES.false)
-
 pub returns-then-count-gt-MAX_PIECES : goal.returns-then-count-gt-MAX_PIECES
 returns-then-count-gt-MAX_PIECES c =
     let many = c.cut-count.ensures.many c.if-count-gt-MAX_PIECES.true in
-    says (text_of c.before.before.before.before.before.before.before.before) (refused (ten_is (text_of c.before.before.before.before.before.before.before.before) (room_of c.before.before.before.before.before.before.before.before) many) c.refused.ensures)
+    says c.args.text.now (refused (ten_is c.args.text.now (length c.args.out.now) many) c.refused.ensures)
 
 pub returns-then-out-long : goal.returns-then-out-long
 returns-then-out-long c =
-    let s = start c.before.before.before.before in
-    let short : room_of s < length (crane_text (text_of s)) = omega (arith, c.put_answers-long.ensures.long_is, c.if-out-long.true) in
-    says (text_of s) (refused (nine_is (text_of s) (room_of s) (few c.before.before.before.before) short) c.refused-then-out-long.ensures)
+    let few : length (pieces c.args.text.now) ≤ max_pieces =
+    omega (arith, c.cut-count.ensures.counted c.if-count-gt-MAX_PIECES.false, c.if-count-gt-MAX_PIECES.false) in
+    let short : length c.args.out.now < length (crane_text c.args.text.now) = omega (arith, c.put_answers-long.ensures.long_is, c.if-out-long.true) in
+    says c.args.text.now (refused (nine_is c.args.text.now (length c.args.out.now) few short) c.refused-then-out-long.ensures)
 
 pub slice_bounds-answers-end : goal.slice_bounds-answers-end
 slice_bounds-answers-end c = (wrote_counts c.put_answers-long.ensures).0
@@ -66,15 +44,18 @@ put_bytes-requires c =
 
 pub overflow_cast-written : goal.overflow_cast-written
 overflow_cast-written c =
-    omega (arith, c.put_answers-long.ensures.long_is, text_short (text_of (start c.before.before.before.before.before.before.before.before)) (few c.before.before.before.before.before.before.before.before))
+    let few : length (pieces c.args.text.now) ≤ max_pieces =
+    omega (arith, c.cut-count.ensures.counted c.if-count-gt-MAX_PIECES.false, c.if-count-gt-MAX_PIECES.false) in
+    omega (arith, c.put_answers-long.ensures.long_is, text_short c.args.text.now few)
 
 pub returns : goal.returns
 returns c =
-    let s = start c.before.before.before.before.before.before.before.before in
+    let few : length (pieces c.args.text.now) ≤ max_pieces =
+    omega (arith, c.cut-count.ensures.counted c.if-count-gt-MAX_PIECES.false, c.if-count-gt-MAX_PIECES.false) in
     let w = c.put_answers-long.ensures in
     let copied = from_start (rw (wrote_front w) at c.put_bytes.ensures) in
-    let is = written_is (text_of s) (room_of s) (few c.before.before.before.before.before.before.before.before) (omega (arith, w.long_is, c.if-out-long.false)) in
-    says (text_of s) (rw is record {
+    let is = written_is c.args.text.now (length c.args.out.now) few (omega (arith, w.long_is, c.if-out-long.false)) in
+    says c.args.text.now (rw is record {
       returns = ap (λ n. record { number = 0; place = 0; long = n }) w.long_is;
       holds = copied.holds;
     })

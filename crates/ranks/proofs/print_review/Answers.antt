@@ -10,23 +10,14 @@ use Rattle.demands.specs.Calls.{reviewed}
 use Rattle.demands.specs.Demands.{reviewer_refusals}
 use Rattle.demands.proofs.Outcomes.{numbered}
 use Rattle.ranks.proofs.print_review.Goals as goal
-use Rattle.ranks.proofs.print_review.Lts as lts
-use Rattle.ranks.proofs.print_review.Reads as reads
-use Rattle.ranks.proofs.print_review.Tie as tie
-
--- the states of the call that lemmas speak of
-abbrev At-After-review_order : Type 0
-At-After-review_order = lts.After-review_order tie.the-claims reads.Pre reads.Post tie.handed_clauses
-
-room : (c : At-After-review_order) → length c.args.out.now ≡ plan_room
-room c = search rules
 
 pub returns : goal.returns
 returns c =
     let text = c.args.text.now in
+    let room : length c.args.out.now ≡ plan_room = search rules in
     let says = c.review_order-reviewed.ensures in
-    let listed = rw (room c.before.before.before) at says.demands.listed in
-    let answer = rw (room c.before.before.before) at says.answer in
+    let listed = rw room at says.demands.listed in
+    let answer = rw room at says.answer in
     let p = c.printed.ensures in
     record {
       wrote = prints (reviewed text plan_room) (numbered _ reviewer_refusals refl listed) answer p;
