@@ -21,13 +21,13 @@ says text {o} w = record { answer = w; demands = crane_demands text (length o); 
 
 pub returns-then-count-gt-MAX_PIECES : goal.returns-then-count-gt-MAX_PIECES
 returns-then-count-gt-MAX_PIECES c =
-    let many = c.cut-count.ensures.many c.if-count-gt-MAX_PIECES.true in
+    let many = c.cut-count.ensures.many (omega (arith, c.if-count-gt-MAX_PIECES.true)) in
     says c.args.text.now (refused (ten_is c.args.text.now (length c.args.out.now) many) c.refused.ensures)
 
 pub returns-then-out-long : goal.returns-then-out-long
 returns-then-out-long c =
     let few : length (pieces c.args.text.now) ≤ max_pieces =
-    omega (arith, c.cut-count.ensures.counted c.if-count-gt-MAX_PIECES.false, c.if-count-gt-MAX_PIECES.false) in
+    omega (arith, c.cut-count.ensures.counted (omega (arith, c.if-count-gt-MAX_PIECES.false)), c.if-count-gt-MAX_PIECES.false) in
     let short : length c.args.out.now < length (crane_text c.args.text.now) = omega (arith, c.put_answers-long.ensures.long_is, c.if-out-long.true) in
     says c.args.text.now (refused (nine_is c.args.text.now (length c.args.out.now) few short) c.refused-then-out-long.ensures)
 
@@ -45,13 +45,13 @@ put_bytes-requires c =
 pub overflow_cast-written : goal.overflow_cast-written
 overflow_cast-written c =
     let few : length (pieces c.args.text.now) ≤ max_pieces =
-    omega (arith, c.cut-count.ensures.counted c.if-count-gt-MAX_PIECES.false, c.if-count-gt-MAX_PIECES.false) in
+    omega (arith, c.cut-count.ensures.counted (omega (arith, c.if-count-gt-MAX_PIECES.false)), c.if-count-gt-MAX_PIECES.false) in
     omega (arith, c.put_answers-long.ensures.long_is, text_short c.args.text.now few)
 
 pub returns : goal.returns
 returns c =
     let few : length (pieces c.args.text.now) ≤ max_pieces =
-    omega (arith, c.cut-count.ensures.counted c.if-count-gt-MAX_PIECES.false, c.if-count-gt-MAX_PIECES.false) in
+    omega (arith, c.cut-count.ensures.counted (omega (arith, c.if-count-gt-MAX_PIECES.false)), c.if-count-gt-MAX_PIECES.false) in
     let w = c.put_answers-long.ensures in
     let copied = from_start (rw (wrote_front w) at c.put_bytes.ensures) in
     let is = written_is c.args.text.now (length c.args.out.now) few (omega (arith, w.long_is, c.if-out-long.false)) in
