@@ -13,7 +13,7 @@ use Rattle.crane_demands.specs.Pieces.{board_key}
 use Rattle.cranes.proofs.cut_after.Goals as goal
 
 pub returns-then-text-i-ne10 : goal.returns-then-text-i-ne10
-returns-then-text-i-ne10 c = simp (ne_eqb _ _ c.if-text-i-ne10.true)
+returns-then-text-i-ne10 c = simp (ne_eqb (get_or c.args.text.now c.args.i 0) line_feed c.if-text-i-ne10.true)
 
 pub returns : goal.returns
 returns c =
