@@ -1,4 +1,3 @@
--- Laws of columns: what they hold, and how they are filled.
-pub mod Columns
-pub mod Filling
+-- The responses that the code finds are those of the rows; rows at positions, and the largest of their holds.
+pub mod Found
 pub mod Holds

@@ -1,2 +1,2 @@
--- Inside, the code's columns: what its functions promise each other.
+-- Inside, the loads above a task: what its functions promise each other.
 pub mod inside

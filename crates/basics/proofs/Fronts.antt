@@ -1,18 +1,13 @@
--- The first n of a list, taken one by one: what is left at i is the ith and what is left after it;
--- at n nothing is left.
+-- The first n of a list, taken one by one: what is left at i is the ith and what is left after it.
 use mathlib.Core.Path.{◌≡◌, ap, ◌∙◌}
-use mathlib.Core.List.{List, [], ◌∷◌}
+use mathlib.Core.List.{List, ◌∷◌}
 use Prim.Native.Nat.{ℕ, suc, ◌≤◌, ◌<◌}
 use native.Mathlib.Omega.{arith}
-use lib.ListN.{length, get_or, take, drop, length-take, drop_of_length-le}
+use lib.ListN.{length, get_or, take, drop}
 use lib.Seq.{drop-cons, get_or-take, length-take-le}
 
-module _ {A : Type 0} (xs : List A) (n i : ℕ) where
-  pub left_none : n ≤ i → drop i (take n xs) ≡ []
-  left_none h = drop_of_length-le (take n xs) {i = i} (omega (arith, length-take n xs))
-
-  module _ (d : A) (h : i < n) (l : n ≤ length xs) where
-    pub left_next : drop i (take n xs) ≡ get_or xs i d ∷ drop (suc i) (take n xs)
-    left_next =
-        drop-cons (take n xs) i d (omega (arith, length-take-le n xs l))
-        ∙ ap (λ (x : A). x ∷ drop (suc i) (take n xs)) (get_or-take n xs i d h)
+module _ {A : Type 0} (xs : List A) (n i : ℕ) (d : A) (h : i < n) (l : n ≤ length xs) where
+  pub left_next : drop i (take n xs) ≡ get_or xs i d ∷ drop (suc i) (take n xs)
+  left_next =
+      drop-cons (take n xs) i d (omega (arith, length-take-le n xs l))
+      ∙ ap (λ (x : A). x ∷ drop (suc i) (take n xs)) (get_or-take n xs i d h)

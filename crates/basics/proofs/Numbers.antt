@@ -32,3 +32,19 @@ under_swapped a b c =
 
 pub larger_swap : (a b c : ℕ) → larger a (larger b c) ≡ larger b (larger a c)
 larger_swap a b c = le_antisymm (under_swapped a b c) (under_swapped b a c)
+
+-- of three it is the same in either pairing
+pub larger_assoc : (a b c : ℕ) → larger (larger a b) c ≡ larger a (larger b c)
+larger_assoc a b c =
+    le_antisymm
+    (larger_most (larger a b) c (larger a (larger b c))
+    (larger_most a b (larger a (larger b c)) (larger_left a (larger b c))
+    (le_trans (larger_left b c) (larger_right a (larger b c))))
+    (le_trans (larger_right b c) (larger_right a (larger b c))))
+    (larger_most a (larger b c) (larger (larger a b) c)
+    (le_trans (larger_left a b) (larger_left (larger a b) c))
+    (larger_most b c (larger (larger a b) c) (le_trans (larger_right a b) (larger_left (larger a b) c))
+    (larger_right (larger a b) c)))
+
+pub larger_none : (a : ℕ) → larger a 0 ≡ a
+larger_none a = le_antisymm (larger_most a 0 a (omega arith) (omega arith)) (larger_left a 0)

@@ -7,22 +7,15 @@ use Prim.Native.Nat.{ℕ, ◌≤◌, ◌<◌}
 use native.Mathlib.Omega.{arith}
 use lib.Dec.{leb, eqb}
 use borrow.Author.Tests.{leb-true, leb-false, le-leb, eqb-false, ne_eqb, not-true}
+-- a test's value with its equation, and joined tests
+pub use Rattle.std.proofs.lemmas.Bool.{cases_Bool as test_of, and_from as and_both, or_cases, or_parts as or_neither, or_right, false_from_ne_true as false_of}
 use Rattle.basics.specs.Basics.{pick, within, is_in, distinct}
-
--- a test's value with its equation
-pub test_of : (b : Bool) → (b ≡ true) ⊎ (b ≡ false)
-test_of true = inl refl
-test_of false = inr refl
 
 pub true_not_false : (b : Bool) → b ≡ true → b ≡ false → ⊥
 true_not_false b p q = let z : ◌≡◌ {A = ℕ} 0 1 = cc in omega arith
 
 pub never : {A : Type 0} → false ≡ true → A
 never e = absurd (true_not_false false e refl)
-
-pub false_of : (b : Bool) → (b ≡ true → ⊥) → b ≡ false
-false_of true h = absurd (h refl)
-false_of false h = refl
 
 -- ---- joined tests
 pub and_left : (a b : Bool) → (a && b) ≡ true → a ≡ true
@@ -32,21 +25,6 @@ and_left false b e = e
 pub and_right : (a b : Bool) → (a && b) ≡ true → b ≡ true
 and_right true b e = e
 and_right false b e = absurd (true_not_false false e refl)
-
-pub and_both : (a b : Bool) → a ≡ true → b ≡ true → (a && b) ≡ true
-and_both a b p q = rw (p, q)
-
-pub or_cases : (a b : Bool) → (a || b) ≡ true → (a ≡ true) ⊎ (b ≡ true)
-or_cases true b e = inl refl
-or_cases false b e = inr e
-
-pub or_neither : (a b : Bool) → (a || b) ≡ false → (a ≡ false) × (b ≡ false)
-or_neither true b e = absurd (true_not_false true refl e)
-or_neither false b e = (refl, e)
-
-pub or_right : (a b : Bool) → b ≡ true → (a || b) ≡ true
-or_right true b e = refl
-or_right false b e = e
 
 -- ---- a test that refuses by a number, 0 for none: what was not refused has passed
 pub not_refused : (b : Bool) (n : ℕ) → 0 < n → pick b n 0 ≡ 0 → b ≡ false

@@ -8,15 +8,12 @@ ghost use Rattle.basics.specs.Basics.{larger, within};
 pub fn larger(a: u64, b: u64) -> u64
     ensures { result ≡ larger a b }
 {
-    if a <= b { b } else { a }
+    a.max(b)
 }
 
 // Whether low ≤ value ≤ high.
 pub fn within(low: u64, high: u64, value: u64) -> bool
     ensures { result ≡ within low high value }
 {
-    if value < low {
-        return false;
-    }
-    value <= high
+    (low..=high).contains(&value)
 }

@@ -1,12 +1,12 @@
 -- What is promised of every crane's text, of any outcome and in document 02's words: how the text is cut, that each
 -- piece's single call meets the planner's demands, and when the whole call is refused. Only one outcome meets it.
-use Rattle.std.specs.Prelude.{◌≡◌, true, false, List, [], ◌∷◌, ◌++◌, map, ◌↔◌, ℕ, ◌≤◌, ◌<◌, length, get_or}
+use Rattle.std.specs.Prelude.{◌≡◌, true, false, List, [], ◌∷◌, ◌++◌, map, ◌↔◌, ℕ, ◌≤◌, ◌<◌, length, get_or, Result}
 use Rattle.basics.specs.Basics.{is_in}
 use Rattle.text.specs.Text.{bytes, joined}
 use Rattle.text.specs.Lines.{begins}
 use Rattle.rows.specs.Rows.{max_buffer}
 use Rattle.tables.specs.TableLines.{read_table}
-use Rattle.plans.specs.declared.Answer.{Answer}
+use Rattle.plans.specs.declared.Refusal.{Refusal}
 use Rattle.plans.specs.Plans.{refusal_text, plan_room}
 use Rattle.plans.specs.Outcomes.{Outcome, writes, refuses, Written, printed}
 use Rattle.demands.specs.Calls.{planned, planner_prints}
@@ -82,7 +82,7 @@ pub record CraneDemands (text : List ℕ) (room : ℕ) (w : Outcome) : Type 0 wh
   pub composes : Composes
 
 -- what the public call promises, of the bytes of its buffer before and after it and of what it returns
-pub record CraneSays (text buffer buffer' : List ℕ) (r : Answer) : Type 0 where
+pub record CraneSays (text buffer buffer' : List ℕ) (r : Result ℕ Refusal) : Type 0 where
   pub answer : Written (craned text (length buffer)) buffer buffer' r
   pub demands : CraneDemands text (length buffer) (craned text (length buffer))
   pub no_other : (w : Outcome) → CraneDemands text (length buffer) w → w ≡ craned text (length buffer)

@@ -1,10 +1,10 @@
 -- Where pieces end: the first piece is the front of its text, and the others are the pieces of what is left.
 use mathlib.Core.Path.{◌≡◌, refl, sym, ap, ◌∙◌}
+use Rattle.std.proofs.Common.{Some, None}
 use mathlib.Core.Bool.{true, false}
 use mathlib.Core.List.{List, [], ◌∷◌, ◌++◌, append-nil}
 use mathlib.Core.Logic.{inl, inr}
 use Prim.Native.Nat.{ℕ, suc, ◌+◌, ◌≤◌, ◌<◌}
-use native.Mathlib.Nat.{zero-add}
 use native.Mathlib.Omega.{arith}
 use lib.Dec.{eqb}
 use lib.ListN.{length, get_or, set, take, drop, length-append, length-drop, length-set, drop_of_length-le}
@@ -14,6 +14,7 @@ use Rattle.basics.proofs.Tests.{test_of, true_not_false, and_right}
 use Rattle.text.specs.Text.{line_feed}
 use Rattle.text.specs.Lines.{begins}
 use Rattle.crane_demands.specs.Pieces.{cut_after, before, board_key, pieces, max_pieces}
+use Rattle.crane_demands.proofs.Pieces.{some_pieces}
 use Rattle.cranes.specs.inside.Ends.{first_long, ends_from, Cuts}
 
 -- ---- the first piece
@@ -64,7 +65,7 @@ module _ (text : List ℕ) (i : ℕ) (h : i < length text) where
       ∙ ap (λ c. pick c 1 (suc (first_long (drop (suc i) text)))) e
 
 -- ---- piece by piece
-ends_length : (at : ℕ) (ps : List (List ℕ)) → length (ends_from at ps) ≡ length ps
+pub ends_length : (at : ℕ) (ps : List (List ℕ)) → length (ends_from at ps) ≡ length ps
 ends_length at [] = refl
 ends_length at (p ∷ ps) = ap suc (ends_length (at + length p) ps)
 
@@ -75,68 +76,65 @@ ends_split at s =
     ∙ ap (λ n. (at + n) ∷ ends_from (at + n) (left (drop (first_long s) s)))
     (length-take-le (first_long s) s (first_fits s))
 
--- the first `count` pieces end as noted, the last of them at `at`
-pub record Cutting (text ends : List ℕ) (count at : ℕ) : Type 0 where
+-- the first i pieces end as noted, and the next begins at `at`
+pub record Cutting (text ends : List ℕ) (i at : ℕ) : Type 0 where
+  pub room : length ends ≡ max_pieces
   pub at_in : at ≤ length text
-  pub few : count ≤ max_pieces
-  pub long : max_pieces ≤ length ends
-  pub are : ends_from 0 (pieces text) ≡ take count ends ++ ends_from at (left (drop at text))
+  pub are : ends_from 0 (pieces text) ≡ take i ends ++ ends_from at (pieces (drop at text))
 
-pub cut_first : (text ends : List ℕ) (at : ℕ) → max_pieces ≤ length ends → at ≡ 0 + first_long text
-    → Cutting text (set ends 0 at) 1 at
-cut_first text ends at l is = record {
-  at_in = omega (arith, is, first_fits text);
-  few = omega arith;
-  long = omega (arith, length-set ends 0 at);
-  are =
-      ends_split 0 text
-      ∙ ap (λ k. (0 + first_long text) ∷ ends_from (0 + first_long text) (left (drop k text)))
-      (sym (zero-add (first_long text)))
-      ∙ ap (λ k. k ∷ ends_from k (left (drop k text))) (sym is)
-      ∙ ap (λ f. f ++ ends_from at (left (drop at text))) (sym (take-suc-set ends 0 at (omega (arith, l))));
-}
-
-module _ {text ends : List ℕ} {count at : ℕ} (c : Cutting text ends count at) (more : at < length text) where
-  left_is : left (drop at text) ≡ pieces (drop at text)
-  left_is = left_some (drop at text) (omega (arith, length-drop at text))
-
-  -- the next piece is not empty, and lies within the text
-  pub cut_moves : at < at + first_long (drop at text)
-  cut_moves = omega (arith, first_some (drop at text) (omega (arith, length-drop at text)))
-
-  pub cut_many : count ≡ max_pieces → max_pieces < length (pieces text)
+module _ {text ends : List ℕ} {i at : ℕ} (c : Cutting text ends i at) where
+  -- a further piece, and another where the noted ones are as many as there may be
+  pub cut_many : i ≡ max_pieces → Cuts text ends None
   cut_many e =
-      let long = ap length c.are ∙ length-append (take count ends) (ends_from at (left (drop at text))) in
-      let front = length-take-le count ends (omega (arith, c.long)) in
-      let rest = ap (λ l. length (ends_from at l)) left_is ∙ ap length (ends_split at (drop at text)) in
-      omega (arith, long, front, rest, ends_length 0 (pieces text))
+      let all = ap length c.are ∙ length-append (take i ends) (ends_from at (pieces (drop at text))) in
+      omega (
+        arith,
+        all,
+        length-take-le i ends (omega (arith, c.room)),
+        ends_length at (pieces (drop at text)),
+        ends_length 0 (pieces text),
+        some_pieces board_key (drop at text),
+      )
 
-  pub cut_next : (at' : ℕ) → at' ≡ at + first_long (drop at text) → count < max_pieces
-      → Cutting text (set ends count at') (suc count) at'
-  cut_next at' is h = record {
-    at_in = omega (arith, is, first_fits (drop at text), length-drop at text);
-    few = h;
-    long = omega (arith, length-set ends count at', c.long);
-    are =
+  module _ {at' : ℕ} (more : i < max_pieces) (is : at' ≡ at + first_long (drop at text)) where
+    h : i < length ends
+    h = omega (arith, c.room, more)
+
+    next_in : at' ≤ length text
+    next_in = omega (arith, is, first_fits (drop at text), length-drop at text, c.at_in)
+
+    next_are : ends_from 0 (pieces text) ≡ take (suc i) (set ends i at') ++ ends_from at' (left (drop at' text))
+    next_are =
         c.are
-        ∙ ap (λ l. take count ends ++ ends_from at l) left_is
-        ∙ ap (λ l. take count ends ++ l) (ends_split at (drop at text))
-        ∙ ap (λ l. take count ends ++ ((at + first_long (drop at text)) ∷ ends_from (at + first_long (drop at text)) (left l)))
+        ∙ ap (λ l. take i ends ++ l) (ends_split at (drop at text))
+        ∙ ap (λ l. take i ends ++ ((at + first_long (drop at text)) ∷ ends_from (at + first_long (drop at text)) (left l)))
         (drop-drop (first_long (drop at text)) at text)
-        ∙ ap (λ k. take count ends ++ (k ∷ ends_from k (left (drop k text)))) (sym is)
-        ∙ sym (append_snoc (take count ends) at' (ends_from at' (left (drop at' text))))
-        ∙ ap (λ l. l ++ ends_from at' (left (drop at' text))) (sym (take-suc-set ends count at' (omega (arith, c.long))));
-  }
+        ∙ ap (λ k. take i ends ++ (k ∷ ends_from k (left (drop k text)))) (sym is)
+        ∙ sym (append_snoc (take i ends) at' (ends_from at' (left (drop at' text))))
+        ∙ ap (λ l. l ++ ends_from at' (left (drop at' text))) (sym (take-suc-set ends i at' h))
 
-pub cut_ends : {text ends : List ℕ} {count at : ℕ} → Cutting text ends count at → length text ≤ at
-    → Cuts text ends count
-cut_ends {text} {ends} {count} {at} c h =
-    let none : left (drop at text) ≡ [] = ap left (drop_of_length-le text {i = at} h) in
-    let are : take count ends ≡ ends_from 0 (pieces text) =
-    sym (c.are ∙ ap (λ l. take count ends ++ ends_from at l) none ∙ append-nil (take count ends)) in
-    let front = length-take-le count ends (omega (arith, c.long, c.few)) in
-    record {
-      many = λ m. absurd (omega (arith, c.few));
-      counted = λ f. sym (ends_length 0 (pieces text)) ∙ sym (ap length are) ∙ front;
-      ends_are = λ f. are;
+    -- text is left behind the piece
+    pub cut_next : at' < length text → Cutting text (set ends i at') (suc i) at'
+    cut_next some = record {
+      room = omega (arith, length-set ends i at', c.room);
+      at_in = next_in;
+      are =
+          next_are
+          ∙ ap (λ l. take (suc i) (set ends i at') ++ ends_from at' l)
+          (left_some (drop at' text) (omega (arith, length-drop at' text)));
     }
+
+    -- no text is left behind it
+    pub cut_ends : length text ≤ at' → Cuts text (set ends i at') (Some (suc i))
+    cut_ends done =
+        let none : left (drop at' text) ≡ [] = ap left (drop_of_length-le text {i = at'} done) in
+        let are : take (suc i) (set ends i at') ≡ ends_from 0 (pieces text) =
+        sym (next_are
+        ∙ ap (λ l. take (suc i) (set ends i at') ++ ends_from at' l) none
+        ∙ append-nil (take (suc i) (set ends i at'))) in
+        let same = length-set ends i at' in
+        let front = length-take-le (suc i) (set ends i at') (omega (arith, same, h)) in (
+          omega arith,
+          omega (arith, same, h),
+          record { few = omega (arith, ap length are, front, ends_length 0 (pieces text), more); ends_are = are },
+        )

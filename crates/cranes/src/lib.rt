@@ -7,10 +7,10 @@ ghost use Rattle.text.specs.Buffers.{Wrote};
 ghost use Rattle.crane_demands.specs.Pieces.{cut_after, board_key, max_pieces};
 ghost use Rattle.crane_demands.specs.Calls.{crane_text, crane_room, crane_prints};
 ghost use Rattle.crane_demands.specs.Demands.{CraneSays};
-ghost use Rattle.cranes.specs.inside.Ends.{first_long, Cuts};
+ghost use Rattle.cranes.specs.inside.Ends.{first_long, AreEnds, Cuts};
 
-use plan_lines::put_refusal;
-use plans::Answer;
+use plan_orders::{printed, put_whole};
+use plans::Refusal;
 use ranks::{ROOM, print_plan};
 use text::{put_bytes, starts_with};
 
@@ -20,7 +20,7 @@ const MAX_PIECES: usize = 32;
 // Room for every crane's output.
 pub const CRANE_ROOM: usize = MAX_PIECES * ROOM;
 
-// A buffer with that room.
+// A buffer with that room (`plan_orders::buffer`).
 pub fn buffer() -> [u8; CRANE_ROOM]
     ensures { result ≡ replicate crane_room 0 }
 {
@@ -41,80 +41,62 @@ fn cut_after(text: &[u8], i: usize) -> bool
 
 // Where the piece that begins at an offset ends.
 fn piece_end(text: &[u8], from: usize) -> usize
+    requires { from ≤ length text.now }
     ensures { result ≡ from + first_long (drop from text.now) }
 {
-    let mut i = from;
-    while i < text.len() {
+    for i in from..text.len() {
         if cut_after(text, i) {
             return i + 1;
         }
-        i += 1;
     }
-    i
+    text.len()
 }
 
-// Where each piece ends, and how many there are, or one more than the most where there are too many: in one pass over the
-// text, which stops there.
-fn cut(text: &[u8], ends: &mut [usize]) -> usize
-    requires { max_pieces ≤ length ends.old }
+// Where each piece ends, and how many there are, where they are no more than the most: in one pass over the text, which
+// stops there.
+fn cut(text: &[u8], ends: &mut [usize; MAX_PIECES]) -> Option<usize>
     ensures { Cuts text.now ends.new result }
 {
-    let mut at = piece_end(text, 0);
-    ends[0] = at;
-    let mut count = 1;
-    while at < text.len() {
-        if MAX_PIECES <= count {
-            return MAX_PIECES + 1;
-        }
+    let mut at = 0;
+    for i in 0..MAX_PIECES {
         at = piece_end(text, at);
-        ends[count] = at;
-        count += 1;
+        ends[i] = at;
+        if text.len() <= at {
+            return Some(i + 1);
+        }
     }
-    count
+    None
 }
 
 // The answers of all pieces, one after another.
-fn put_answers(out: &mut [u8], text: &[u8], ends: &[usize], count: usize) -> usize
-    requires count_le_max_pieces { (count ≤ max_pieces) × Cuts text.now ends.now count }
-    requires count_in_bounds { (count ≤ length ends.now) × (crane_room ≤ length out.old) }
+fn put_answers(out: &mut [u8], text: &[u8], ends: &[usize]) -> usize
+    requires ends_given { AreEnds text.now ends.now }
+    requires room_in_bounds { crane_room ≤ length out.old }
     ensures { Wrote (crane_text text.now) out.old out.new result }
 {
     let mut plan = ranks::buffer();
     let mut at = 0;
     let mut from = 0;
-    let mut i = 0;
-    while i < count {
-        let to = ends[i];
-        let long = print_plan(&text[from..to], &mut plan);
+    for to in ends {
+        let long = print_plan(&text[from..*to], &mut plan);
         at = put_bytes(out, at, &plan[..long]);
-        from = to;
-        i += 1;
+        from = *to;
     }
     at
 }
 
 // The crane's call: the plans and refusals of a text's pieces, in sequence. They are written whole into a buffer of the
 // call's own, so that a refusal leaves `out` as it was.
-pub fn write_crane(text: &[u8], out: &mut [u8]) -> Answer
+pub fn write_crane(text: &[u8], out: &mut [u8]) -> Result<usize, Refusal>
     ensures { CraneSays text.now out.old out.new result }
 {
     let mut ends = [0usize; MAX_PIECES];
-    let count = cut(text, &mut ends);
-    if MAX_PIECES < count {
-        return Answer::refused(10, 0);
-    }
+    let Some(count) = cut(text, &mut ends) else {
+        return Err(Refusal::ManyPieces);
+    };
     let mut answers = buffer();
-    let long = put_answers(&mut answers, text, &ends, count);
-    if out.len() < long {
-        return Answer::refused(9, 0);
-    }
-    put_bytes(out, 0, &answers[..long]);
-    let written = long as u32;
-    Answer {
-        number: 0,
-        place: 0,
-        long: written,
-    }
+    let long = put_answers(&mut answers, text, &ends[..count]);
+    put_whole(out, &answers[..long])
 }
 
 // What the crane's program prints for the text it took: the answers, or the three lines of a refusal.
@@ -123,8 +105,5 @@ pub fn print_crane(text: &[u8], out: &mut [u8; CRANE_ROOM]) -> usize
     ensures prefix_len { IsPrefixLen result out.new }
 {
     let crane = write_crane(text, out);
-    if crane.number != 0 {
-        return put_refusal(out, crane.number, crane.place);
-    }
-    crane.long as usize
+    printed(crane, out)
 }

@@ -2,9 +2,9 @@
 use mathlib.Core.Path.{◌≡◌, refl, ap, sym, ◌∙◌}
 use mathlib.Core.Bool.{Bool, true, cond}
 use mathlib.Core.Logic.{inl, inr}
-use Prim.Native.Nat.{ℕ, zero, suc, ◌+◌, ◌-◌, ◌*◌, ◌/◌, ◌^◌, ◌≤◌, ◌<◌}
+use Prim.Native.Nat.{ℕ, zero, suc, ◌+◌, ◌-◌, ◌*◌, ◌/◌, ◌≤◌, ◌<◌}
 use native.Mathlib.Nat.{le-div_iff_mul-le, div-lt_iff_lt-mul, div-mul-le_self, div-le_of_le-mul}
-use native.Mathlib.Nat.{div-le_self, div-one, lt-div-mul-add, mul-le-mul_right}
+use native.Mathlib.Nat.{div-one, lt-div-mul-add, mul-le-mul_right}
 use native.Mathlib.Omega.{arith}
 use borrow.Author.Tests.{le-ltb, lt-ltb, le-leb, lt-leb, leb-true, leb-false}
 use lib.Dec.{leb}
@@ -12,7 +12,7 @@ use lib.IntN.{ℤ, pos, negsuc, neg_ℤ, sub_ℕ, nat_abs, ◌-ℤ◌, ◌*ℤ�
 use lib.Signed.{le_z}
 use mir.Syntax.{w64}
 use mir.Val.{to_z, of_z, SFits}
-use mir.Facts.{to_z_pos, to_z-of_z}
+use mir.Facts.{to_z-of_z}
 use Rattle.basics.proofs.Tests.{test_of, le-or-lt, never}
 use Rattle.curves.specs.Curves.{floor_of}
 
@@ -121,32 +121,6 @@ sub_small a b m ha hb = elim (le-or-lt b a) [
   | inl p ↦ rw (sub_pos a b p) (omega arith)
   | inr p ↦ rw (sub_neg a b p) (omega arith)
 ]
-
--- ---- as the code computes it, in signed integers of 64 bits
-module _ (n d : ℕ) (h : n < 2 ^ 63) where
-  pub quotient_fits : n / d < 2 ^ 63
-  quotient_fits = omega (arith, div-le_self n d)
-
-module _ (a b d : ℕ) (l : b ≤ a) (h : a < 2 ^ 63) where
-  pub floor_up : to_z w64 ((a - b) / d) ≡ floor_of (sub_ℕ a b) d
-  floor_up = rw (to_z_pos w64 {n = (a - b) / d} (quotient_fits (a - b) d (omega arith)), sub_pos a b l) refl
-
-less_one : (q : ℕ) → negsuc 0 -ℤ pos q ≡ negsuc q
-less_one zero = refl
-less_one (suc q) = ap (λ (x : ℕ). negsuc (suc x)) (omega arith)
-
--- both are less one: what is divided, and what the quotient is taken from
-module _ (a b d k : ℕ) (z : ℤ) (l : a < b) (h : b < 2 ^ 63) (e : k ≡ b - suc a) (m : z ≡ negsuc 0) where
-  down : z -ℤ to_z w64 (k / d) ≡ negsuc (k / d)
-  down = rw (m, to_z_pos w64 {n = k / d} (quotient_fits k d (omega arith))) (less_one (k / d))
-
-  pub down_fits : SFits w64 (z -ℤ to_z w64 (k / d))
-  down_fits = rw down record { sfits = quotient_fits k d (omega arith) }
-
-  pub floor_down : to_z w64 (of_z w64 (z -ℤ to_z w64 (k / d))) ≡ floor_of (sub_ℕ a b) d
-  floor_down =
-      to_z-of_z down_fits
-      ∙ (down ∙ (ap (λ (x : ℕ). negsuc (x / d)) e ∙ sym (ap (λ (z : ℤ). floor_of z d) (sub_neg a b l))))
 
 -- what a call answers as a signed integer, read back
 pub answered : (z x : ℤ) → SFits w64 z → z ≡ x → to_z w64 (of_z w64 z) ≡ x

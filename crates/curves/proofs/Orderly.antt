@@ -93,11 +93,6 @@ module _ (vs : List ℕ) (n : ℕ) where
     abbrev pub left : Bool
     left = keeps low high (points_from (n - i) (drop (2 * i) vs))
 
-    pub none_left : n ≤ i → left ≡ true
-    none_left h =
-        let z : n - i ≡ 0 = omega arith in
-        ap (λ (k : ℕ). keeps low high (points_from k (drop (2 * i) vs))) z
-
     -- the point at index i, with its numbers as the code reads them
     module _ (l : i < n) where
       abbrev here : Point

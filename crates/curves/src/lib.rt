@@ -2,11 +2,11 @@
 // numbers stand by turns: a delay, its allow, the next delay, and so on.
 #![tactic(auto)]
 
-ghost use Rattle.std.specs.Prelude.{◌≡◌, true, ◌*◌, ◌≤◌, ◌<◌, ◌^◌, length};
+ghost use Rattle.std.specs.Prelude.{◌≡◌, true, ◌*◌, ◌≤◌, ◌<◌, ◌^◌, length, MatchOption};
 ghost use Rattle.std.proofs.Math.IntN.{sub_ℕ};
 ghost use Rattle.curves.specs.Curves.{point, max_points, max_delay, max_allow, max_response, well_formed};
 ghost use Rattle.curves.specs.Curves.{points_from, on_line, permitted, floor_of, thousandths, curve_margin};
-ghost use Rattle.curves.specs.inside.Places.{Reached};
+ghost use Rattle.curves.specs.inside.Places.{Passed, Reached};
 
 use basics::within;
 
@@ -38,8 +38,7 @@ pub fn well_formed(points: &[u64], n: u64) -> bool
     // the least delay and the largest allow that the next point may have
     let mut low = DELAY_MIN;
     let mut high = ALLOW_MAX;
-    let mut i = 0;
-    while i < count {
+    for i in 0..count {
         let delay = points[2 * i];
         let allow = points[2 * i + 1];
         if !(within(low, DELAY_MAX, delay) & within(ALLOW_MIN, high, allow)) {
@@ -47,7 +46,6 @@ pub fn well_formed(points: &[u64], n: u64) -> bool
         }
         low = delay + 1;
         high = allow;
-        i += 1;
     }
     true
 }
@@ -78,19 +76,17 @@ fn thousandths(f: Fraction, jitter: u64) -> i64
     floor_of(1000 * f.over, 1000 * (jitter * f.under), f.under)
 }
 
-// The index of the first of n points whose delay the response is not past; n where it is past all.
-fn place_of(points: &[u64], n: usize, earliest: u64) -> usize
+// The index of the first of n points whose delay the response is not past; none where it is past all.
+fn place_of(points: &[u64], n: usize, earliest: u64) -> Option<usize>
     requires { 2 * n ≤ length points.now }
-    ensures { Reached n points.now earliest result }
+    ensures { MatchOption result (Passed n points.now earliest) (Reached n points.now earliest) }
 {
-    let mut i = 0;
-    while i < n {
+    for i in 0..n {
         if earliest <= points[2 * i] {
-            return i;
+            return Some(i);
         }
-        i += 1;
     }
-    i
+    None
 }
 
 // What the line permits that falls from `high` at `from` to `low` at `to`.
@@ -108,23 +104,21 @@ fn permitted(points: &[u64], n: usize, earliest: u64) -> Fraction
     requires { (1 ≤ n) × (2 * n ≤ length points.now) × (well_formed (points_from n points.now) ≡ true) }
     ensures { result ≡ permitted (points_from n points.now) earliest }
 {
-    let i = place_of(points, n, earliest);
-    if i == 0 {
-        let first = points[1];
-        return Fraction {
-            over: first,
+    match place_of(points, n, earliest) {
+        None => Fraction { over: 0, under: 1 },
+        Some(0) => Fraction {
+            over: points[1],
             under: 1,
-        };
+        },
+        Some(i) => {
+            let j = i - 1;
+            let from = points[2 * j];
+            let high = points[2 * j + 1];
+            let to = points[2 * i];
+            let low = points[2 * i + 1];
+            on_line(from, high, to, low, earliest)
+        }
     }
-    let j = i - 1;
-    let from = points[2 * j];
-    let high = points[2 * j + 1];
-    if i == n {
-        return Fraction { over: 0, under: 1 };
-    }
-    let to = points[2 * i];
-    let low = points[2 * i + 1];
-    on_line(from, high, to, low, earliest)
 }
 
 // The margin of responses under a curve of n points.

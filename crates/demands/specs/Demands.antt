@@ -1,6 +1,6 @@
 -- What is promised of every text: the three demands, about the very figures that a plan's text writes. They are said of
 -- any outcome and in document 01's words, apart from how the outcome is found; only one outcome meets them.
-use Rattle.std.specs.Prelude.{◌≡◌, Bool, true, false, ◌↔◌, ℕ, suc, ◌≤◌, ◌<◌, pos, length, get_or}
+use Rattle.std.specs.Prelude.{◌≡◌, Bool, true, false, ◌↔◌, ℕ, suc, ◌≤◌, ◌<◌, pos, length, get_or, Result}
 use mathlib.Core.List.{List, [], ◌∷◌, ◌++◌, Perm}
 use Rattle.std.specs.Int.Signed.{le_z}
 use Rattle.basics.specs.Basics.{is_in}
@@ -15,7 +15,7 @@ use Rattle.orders.specs.Stability.{stable, order_stable}
 use Rattle.boards.specs.Claims.{LastsInRange, Kept, NoneLate}
 use Rattle.boards.specs.Runs.{BoardRuns}
 use Rattle.plans.specs.declared.Entry.{Entry}
-use Rattle.plans.specs.declared.Answer.{Answer}
+use Rattle.plans.specs.declared.Refusal.{Refusal}
 use Rattle.plans.specs.Entries.{entry, entries, no_entry}
 use Rattle.plans.specs.Plans.{plan_text, plan_room}
 use Rattle.plans.specs.Outcomes.{Outcome, writes, refuses, Written}
@@ -140,12 +140,12 @@ pub record ReviewDemands (text : List ℕ) (room : ℕ) (w : Outcome) : Type 0 w
 
 -- ---- what the public calls promise, of the bytes of their buffer before and after them and of what they return: they
 -- come from one outcome, which meets the demands; and no other outcome meets them
-pub record PlanSays (text buffer buffer' : List ℕ) (r : Answer) : Type 0 where
+pub record PlanSays (text buffer buffer' : List ℕ) (r : Result ℕ Refusal) : Type 0 where
   pub answer : Written (planned text (length buffer)) buffer buffer' r
   pub demands : PlanDemands text (length buffer) (planned text (length buffer))
   pub no_other : (w : Outcome) → PlanDemands text (length buffer) w → w ≡ planned text (length buffer)
 
-pub record ReviewSays (text buffer buffer' : List ℕ) (r : Answer) : Type 0 where
+pub record ReviewSays (text buffer buffer' : List ℕ) (r : Result ℕ Refusal) : Type 0 where
   pub answer : Written (reviewed text (length buffer)) buffer buffer' r
   pub demands : ReviewDemands text (length buffer) (reviewed text (length buffer))
   pub no_other : (w : Outcome) → ReviewDemands text (length buffer) w → w ≡ reviewed text (length buffer)

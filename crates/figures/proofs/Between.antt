@@ -13,28 +13,43 @@ use Rattle.basics.specs.Basics.{pick}
 use mathlib.Core.Logic.{inl, inr}
 use Rattle.basics.proofs.Tests.{le-or-lt, and_left, and_right}
 use Rattle.rows.specs.Rows.{Row, max_tasks, row_at, in_range, all_rows}
-use Rattle.rows.specs.inside.Numbers.{field_count, row_in, rows_of, rows_in}
-use Rattle.rows.proofs.RowNumbers.{rows_length, rows_at_lem, rows_are}
-use Rattle.analysis.proofs.Filling.{rows_long, row_is}
-use Rattle.responses.specs.Figures.{rows_above, rows_below, max_others, figures_under, no_figures, figures_of}
+use Rattle.rows.specs.inside.Numbers.{field_count, row_in, rows_of}
+use Rattle.rows.proofs.RowNumbers.{rows_length, rows_at_lem}
+use lib.Seq.{ext_get_or, get_or-take, length-take-le}
+use Rattle.rows.specs.Rows.{no_row}
+use Rattle.rows.specs.inside.Numbers.{row_from}
+use Rattle.rows.specs.inside.Lent.{table_of, lent_row, lent_rows}
+use Rattle.rows.proofs.LentRows.{table_at, lent_at}
+use Rattle.analysis.proofs.Found.{map_long}
+use Rattle.responses.specs.Figures.{Answered, rows_above, rows_below, max_others, figures_under, no_figures, figures_of}
 use Rattle.responses.specs.Figures as F
 use Rattle.responses.specs.Claims.{FiguresSay, RowFigures}
-use Rattle.responses.specs.declared.Figures.{Figures}
 use Rattle.responses.proofs.Conditions.{by_condition}
 use Rattle.responses.proofs.Responses.{limits_times, figured}
 use Rattle.responses.proofs.Switches.{by_numbers, switch_grows}
 use Rattle.responses.proofs.Sequences.{figures_permuted, figures_below}
 use Rattle.figures.specs.inside.Limits.{in_limits}
 
--- ---- rows at the positions 0, 1, 2, .. are those of the numbers, in their sequence
-pub in_sequence : (ns ps : List ℕ) (n : ℕ) → n ≤ length ps → ((i : ℕ) → i < n → get_or ps i 0 ≡ i)
-    → rows_in ns (take n ps) ≡ rows_of n ns
-in_sequence ns ps n held is =
-    let rows = rows_in ns (take n ps) in
-    let long = rows_long ns ps n held in
-    sym (ap (λ m. rows_of m ns) (sym long)
-    ∙ rows_are ns rows (λ i l.
-    let h : i < n = omega (arith, l, long) in sym (row_is ns ps n held i h ∙ ap (row_in ns) (is i h))))
+-- ---- rows at the positions 0, 1, 2, .. are those of the table, in their sequence
+pub in_sequence : (rows : List (List ℕ)) (ps : List ℕ) → length ps ≤ length rows
+    → ((i : ℕ) → i < length ps → get_or ps i 0 ≡ i) → lent_rows rows ps ≡ take (length ps) (table_of rows)
+in_sequence rows ps held is =
+    ext_get_or no_row (lent_rows rows ps) (take (length ps) (table_of rows)) same each
+  where
+    many : length (lent_rows rows ps) ≡ length ps
+    many = map_long (lent_row rows) ps
+
+    same : length (lent_rows rows ps) ≡ length (take (length ps) (table_of rows))
+    same = omega (arith, many, length-take-le (length ps) (table_of rows) (omega (arith, map_long row_from rows, held)))
+
+    each : (i : ℕ) → i < length (lent_rows rows ps)
+        → get_or (lent_rows rows ps) i no_row ≡ get_or (take (length ps) (table_of rows)) i no_row
+    each i l =
+        let h : i < length ps = omega (arith, many, l) in
+        lent_at rows ps i h
+        ∙ ap (lent_row rows) (is i h)
+        ∙ sym (table_at rows i (omega (arith, h, held)))
+        ∙ sym (get_or-take (length ps) (table_of rows) i no_row h)
 
 -- ---- every row passes: that at i, those before it and those after it
 regrouped : (r x a b : Bool) → (r && (x && (a && b))) ≡ (x && (r && a && b))
@@ -132,7 +147,7 @@ module _ (ns : List ℕ) (n i : ℕ) where
   ]
 
   -- ---- the answer
-  say : (x : Figures) → x ≡ figures_of t above below → FiguresSay t above below x
+  say : (x : Answered) → x ≡ figures_of t above below → FiguresSay t above below x
   say x is = record {
     answer = is;
     by_formulas = λ h. let k = limits_times t above below h in figured t above below k.0 k.1;
@@ -149,7 +164,7 @@ module _ (ns : List ℕ) (n i : ℕ) where
           and_left (in_range t) (all_rows in_range above
           && (all_rows in_range below && leb (length above + length below) max_others)) h
 
-  pub refused : (x : Figures) → x ≡ no_figures → in_limits ns n i ≡ false → RowFigures ns n i x
+  pub refused : (x : Answered) → x ≡ no_figures → in_limits ns n i ≡ false → RowFigures ns n i x
   refused x e h = record {
     held = λ room there.
         say x (e ∙ ap (λ b. pick b (figures_under t above below) no_figures) (sym (same_limits room there ∙ h)));
@@ -157,7 +172,7 @@ module _ (ns : List ℕ) (n i : ℕ) where
     no_such_row = λ l. e;
   }
 
-  pub answered : (x : Figures) → x ≡ figures_under t above below → in_limits ns n i ≡ true → RowFigures ns n i x
+  pub answered : (x : Answered) → x ≡ figures_under t above below → in_limits ns n i ≡ true → RowFigures ns n i x
   answered x e h =
       let k = in_limits_lem h in
       record {

@@ -9,12 +9,13 @@ use native.Mathlib.Omega.{arith}
 use borrow.Author.Tests.{le-leb, lt-leb}
 use Rattle.basics.specs.Basics.{pick}
 use Rattle.responses.specs.Extremes.{smallest}
-use Rattle.responses.specs.Interference.{ceiling, Load, load, interference, least_fixed}
+use Rattle.responses.specs.declared.Load.{Load}
+use Rattle.responses.specs.Interference.{ceiling, load, interference, least_fixed}
 use Rattle.basics.proofs.Tests.{le-or-lt}
 use Rattle.responses.proofs.Sums.{Periods, ceiling_one, interference_mono}
 use Rattle.responses.proofs.FixedPoints.{demand_mono, least_is, least_none}
-use Rattle.fixed_points.specs.inside.Loads.{loads_from, loads, Columns}
-use Rattle.fixed_points.specs.inside.Values.{one_job_each, first_value, next_value, value_at}
+use Rattle.std.specs.Prelude.{Option, Some, None}
+use Rattle.fixed_points.specs.inside.Values.{one_job_each, first_value, next_value, value_at, found}
 
 -- ---- the first value
 -- a window of a tick meets one job of each task
@@ -125,12 +126,14 @@ module _ (base limit : ℕ) (ls : List Load) (some : 1 ≤ base) (ps : Periods l
           ];
         })
 
--- ---- the columns' own
-module _ (n : ℕ) (ps cs : List ℕ) (k : Columns n ps cs) where
-  periods_from : (m i : ℕ) → i + m ≤ n → Periods (loads_from i m ps cs)
-  unfolding loads_from
-  periods_from zero i h = tt
-  periods_from (suc m) i h = (k.period_some i (omega arith), periods_from m (suc i) (omega arith))
+-- ---- a solution that is found, or none
+pub found_some : (x w : ℕ) → Some w ≡ found x → (w ≡ x) × (1 ≤ w)
+found_some zero w e = absurd (some_not_none w e)
+  where
+    some_not_none : (w : ℕ) → Some w ≡ None → ⊥
+    some_not_none w e = let z : ◌≡◌ {A = ℕ} 0 1 = cc in omega arith
+found_some (suc x) w e = let is : w ≡ suc x = cc in (is, omega arith)
 
-  pub periods_some : Periods (loads n ps cs)
-  periods_some = periods_from n 0 (omega arith)
+pub found_none : (x : ℕ) (o : Option ℕ) → o ≡ found x → ((w : ℕ) → o ≡ Some w → ⊥) → x ≡ 0
+found_none zero o e h = refl
+found_none (suc x) o e h = absurd (h (suc x) e)

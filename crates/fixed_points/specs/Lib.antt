@@ -1,2 +1,2 @@
--- Inside, two columns of numbers and the values of a search: what the code's functions promise each other.
+-- Inside, lent loads and the values of a search: what the code's functions promise each other.
 pub mod inside

@@ -1,12 +1,14 @@
 // W and E as fixed points: the interference of tasks in a window, and the smallest and the largest window that a base and
-// the interference in it fill, by tasks whose periods and costs stand in columns.
+// the interference in it fill.
 #![tactic(auto)]
 
 ghost use Rattle.std.specs.Prelude.{◌≡◌, ◌+◌, ◌≤◌};
 ghost use Rattle.rows.specs.Rows.{max_ticks};
 ghost use Rattle.responses.specs.Interference.{ceiling, interference, least_fixed, largest_fixed};
-ghost use Rattle.fixed_points.specs.inside.Loads.{loads, base_max, Columns};
-ghost use Rattle.fixed_points.specs.inside.Values.{first_value, next_value, Tries};
+ghost use Rattle.fixed_points.specs.inside.Loads.{base_max, Loads};
+ghost use Rattle.fixed_points.specs.inside.Values.{first_value, next_value, found, Tries};
+
+use responses::Load;
 
 // x / p rounded up. A window is often within the period, and a test is faster than a division; x + p is far below 2^32,
 // and division is faster there than in 64 bits.
@@ -20,14 +22,14 @@ fn ceil(x: u64, p: u64) -> u64
     ((x + (p - 1)) as u32 / p as u32) as u64
 }
 
-// The ticks that the first n tasks of the columns take from a window, less some jobs of each.
-pub fn interference(window: u64, spared: u64, periods: &[u64], costs: &[u64], n: usize) -> u64
-    requires { (window ≤ max_ticks) × (1 ≤ window) × (spared ≤ 1) × Columns n periods.now costs.now }
-    ensures { result ≡ interference spared window (loads n periods.now costs.now) }
+// The ticks that tasks take from a window, less some jobs of each.
+pub fn interference(window: u64, spared: u64, tasks: &[Load]) -> u64
+    requires { (window ≤ max_ticks) × (1 ≤ window) × (spared ≤ 1) × Loads tasks.now }
+    ensures { result ≡ interference spared window tasks.now }
 {
     let mut sum: u64 = 0;
-    for i in 0..n {
-        sum += (ceil(window, periods[i]) - spared) * costs[i];
+    for task in tasks {
+        sum += (ceil(window, task.period) - spared) * task.cost;
     }
     sum
 }
@@ -40,33 +42,33 @@ pub struct Tried {
 }
 
 // The first value that it tries: the base and one job of each task, which is what a window of one tick meets.
-pub fn first_value(base: u64, periods: &[u64], costs: &[u64], n: usize) -> u64
-    requires { (base ≤ base_max) × Columns n periods.now costs.now }
-    ensures { result ≡ first_value base (loads n periods.now costs.now) }
+pub fn first_value(base: u64, tasks: &[Load]) -> u64
+    requires { (base ≤ base_max) × Loads tasks.now }
+    ensures { result ≡ first_value base tasks.now }
 {
-    base + interference(1, 0, periods, costs, n)
+    base + interference(1, 0, tasks)
 }
 
 // The value after w, or w itself where the search ends: with a solution, or past the limit, where the task is late.
-pub fn next_value(base: u64, limit: u64, periods: &[u64], costs: &[u64], n: usize, w: u64) -> u64
-    requires { (1 ≤ w) × (base ≤ base_max) × (limit ≤ max_ticks) × Columns n periods.now costs.now }
-    ensures { result ≡ next_value base limit (loads n periods.now costs.now) w }
+pub fn next_value(base: u64, limit: u64, tasks: &[Load], w: u64) -> u64
+    requires { (1 ≤ w) × (base ≤ base_max) × (limit ≤ max_ticks) × Loads tasks.now }
+    ensures { result ≡ next_value base limit tasks.now w }
 {
     if limit < w {
         return w;
     }
-    base + interference(w, 0, periods, costs, n)
+    base + interference(w, 0, tasks)
 }
 
 // The search of W: from the first value on, until a value is followed by itself.
-pub fn try_values(base: u64, limit: u64, periods: &[u64], costs: &[u64], n: usize) -> Tried
-    requires { (1 ≤ base) × (base ≤ base_max) × (limit ≤ max_ticks) × Columns n periods.now costs.now }
-    ensures { Tries base limit (loads n periods.now costs.now) result }
+pub fn try_values(base: u64, limit: u64, tasks: &[Load]) -> Tried
+    requires { (1 ≤ base) × (base ≤ base_max) × (limit ≤ max_ticks) × Loads tasks.now }
+    ensures { Tries base limit tasks.now result }
 {
-    let mut last = first_value(base, periods, costs, n);
+    let mut last = first_value(base, tasks);
     let mut steps: u64 = 0;
     loop {
-        let next = next_value(base, limit, periods, costs, n, last);
+        let next = next_value(base, limit, tasks, last);
         if next == last {
             return Tried { last, steps };
         }
@@ -75,24 +77,28 @@ pub fn try_values(base: u64, limit: u64, periods: &[u64], costs: &[u64], n: usiz
     }
 }
 
-// The smallest w from 1 to the limit with w = base + interference in w; 0 for none.
-pub fn least_fixed(base: u64, limit: u64, periods: &[u64], costs: &[u64], n: usize) -> u64
-    requires { (1 ≤ base) × (base ≤ base_max) × (limit ≤ max_ticks) × Columns n periods.now costs.now }
-    ensures { result ≡ least_fixed base limit (loads n periods.now costs.now) }
+// The smallest w from 1 to the limit with w = base + interference in w, if there is one.
+pub fn least_fixed(base: u64, limit: u64, tasks: &[Load]) -> Option<u64>
+    requires { (1 ≤ base) × (base ≤ base_max) × (limit ≤ max_ticks) × Loads tasks.now }
+    ensures { result ≡ found (least_fixed base limit tasks.now) }
 {
-    let tried = try_values(base, limit, periods, costs, n);
-    if tried.last <= limit { tried.last } else { 0 }
+    let tried = try_values(base, limit, tasks);
+    if tried.last <= limit {
+        Some(tried.last)
+    } else {
+        None
+    }
 }
 
 // The largest e from 1 to the limit with e = base + interference in e, one job less of each task.
-pub fn largest_fixed(base: u64, limit: u64, periods: &[u64], costs: &[u64], n: usize) -> u64
-    requires { (1 ≤ base) × (limit ≤ max_ticks) × Columns n periods.now costs.now
-        × (base + interference 1 limit (loads n periods.now costs.now) ≤ limit) }
-    ensures { result ≡ largest_fixed base limit (loads n periods.now costs.now) }
+pub fn largest_fixed(base: u64, limit: u64, tasks: &[Load]) -> u64
+    requires { (1 ≤ base) × (limit ≤ max_ticks) × Loads tasks.now
+        × (base + interference 1 limit tasks.now ≤ limit) }
+    ensures { result ≡ largest_fixed base limit tasks.now }
 {
     let mut e = limit;
     loop {
-        let demand = base + interference(e, 1, periods, costs, n);
+        let demand = base + interference(e, 1, tasks);
         if demand == e {
             return e;
         }

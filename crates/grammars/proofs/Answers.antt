@@ -1,21 +1,16 @@
--- What the test of a number makes of a line's answer, as a match in code tells it.
+-- What the test of a number makes of a line's answer.
 use mathlib.Core.Path.{◌≡◌, refl}
-use mathlib.Core.List.{List, [], ◌∷◌}
 use Prim.Native.Nat.{ℕ, zero, suc}
 use native.Mathlib.Omega.{arith}
-use denote.Enum.Declared.{tag_of}
-use types.Run.{OneOf, miss}
-use Rattle.text.specs.declared.Line.{Line}
-use Rattle.text.specs.declared.Line.TheVariants as L
-use Rattle.text.specs.contracts.Line as T
+use Rattle.text.specs.Line.{Line}
+use Rattle.text.specs.Line as L
 use Rattle.grammars.specs.inside.Answers.{unless, tested}
 
 -- every case of a line's answer but its number
-abbrev no_numbers : List ℕ
-no_numbers = 1 ∷ 2 ∷ []
-
 abbrev pub NoNumber : Line → Type 0
-NoNumber l = OneOf no_numbers (tag_of T.the_type l)
+NoNumber (L.Number v next) = ⊥
+NoNumber L.End = Unit {0}
+NoNumber (L.Refused n j) = Unit {0}
 
 -- where there is no test, every answer stays
 pub no_test : (l : Line) (k : ℕ) → l ≡ tested (λ v. 0) l k
@@ -25,7 +20,7 @@ no_test (L.Refused n j) k = refl
 
 -- and so does an answer that is no number
 pub untested : (fault : ℕ → ℕ) (l : Line) (k : ℕ) → NoNumber l → l ≡ tested fault l k
-untested fault (L.Number v next) k none = absurd (miss no_numbers 0 tt none)
+untested fault (L.Number v next) k none = absurd none
 untested fault L.End k none = refl
 untested fault (L.Refused n j) k none = refl
 

@@ -14,8 +14,8 @@ use Rattle.basics.specs.Basics.{pick, within}
 use Rattle.basics.proofs.Tests.{test_of, never, Within, within_true, true_within}
 use Rattle.text.specs.Text.{decimal, signed, key_line}
 use Rattle.text.specs.Lines.{max_digits, line_at, end_at}
-use Rattle.text.specs.declared.Line.{Line}
-use Rattle.text.specs.declared.Line.TheVariants as L
+use Rattle.text.specs.Line.{Line}
+use Rattle.text.specs.Line as L
 use Rattle.text.proofs.Lines.{Answers, tells, refuses, line_answers}
 use Rattle.grammars.specs.Forms.{natural, integer, size, fits, in_form, plainly, form_at}
 use Rattle.grammars.specs.Grammars.{Grammar, the_end, a_line, on_fault, on_told, on_expected, step}

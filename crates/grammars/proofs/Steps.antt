@@ -9,8 +9,8 @@ use lib.IntN.{ℤ}
 use lib.ListN.{length, drop}
 use Rattle.basics.proofs.Tests.{test_of}
 use Rattle.text.specs.Lines.{begins, line_at}
-use Rattle.text.specs.declared.Line.{Line}
-use Rattle.text.specs.declared.Line.TheVariants as L
+use Rattle.text.specs.Line.{Line}
+use Rattle.text.specs.Line as L
 use Rattle.text.proofs.Lines.{Answers, tells, refuses, line_answers}
 use Rattle.grammars.specs.Forms.{Form, natural, integer, Told, number, no_number}
 use Rattle.grammars.specs.Forms.{plainly, negated, minus, highest, form_at}

@@ -3,8 +3,8 @@ use Rattle.std.specs.Prelude.{Bool, true, false, List, ◌++◌, ℕ, zero, suc,
 use Rattle.basics.specs.Basics.{pick, within}
 use Rattle.text.specs.Text.{bytes}
 use Rattle.text.specs.Lines.{max_digits, malformed, begins, line_at, refusal}
-use Rattle.text.specs.declared.Line.{Line}
-use Rattle.text.specs.declared.Line.TheVariants as L
+use Rattle.text.specs.Line.{Line}
+use Rattle.text.specs.Line as L
 
 -- a number in a range, without a sign; or any number, below 0 with a sign
 pub data Form : Type 0 where

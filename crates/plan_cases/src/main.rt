@@ -2,12 +2,11 @@
 // each, and the whole buffer is compared.
 #![tactic(auto)]
 
-ghost use Rattle.io.specs.Counts.{IsPrefixLen};
-
-use trials::{Answer, SPACE};
+use trial_calls::Program::{self, Planner, Reviewer};
+use trials::{Refusal, SPACE, Text};
 
 // The document's table up to the last beta, with a switch of 0, and a hold of 0 and no points in each row before it, and its plan.
-const EXAMPLE: [u8; 212] = *b"board=7
+const EXAMPLE: &[u8] = b"board=7
 tasks=3
 switch=0
 task=11
@@ -33,7 +32,7 @@ best=17
 alpha=3000
 ";
 
-const PLAN: [u8; 176] = *b"plan=1
+const PLAN: &[u8] = b"plan=1
 board=7
 tasks=3
 rank=1
@@ -57,7 +56,7 @@ margin=2000
 ";
 
 // Its rows under a switch of 1, with an order, and what the reviewer has to say of it.
-const SWITCHED: [u8; 263] = *b"board=7
+const SWITCHED: &[u8] = b"board=7
 tasks=3
 switch=1
 task=11
@@ -89,7 +88,7 @@ rank=11
 rank=13
 ";
 
-const SWITCHED_PLAN: [u8; 183] = *b"plan=1
+const SWITCHED_PLAN: &[u8] = b"plan=1
 board=7
 tasks=3
 rank=1
@@ -112,312 +111,239 @@ jitter=18
 margin=-22000
 ";
 
-fn print_verdict(expected: Answer, same: bool) {
-    if expected.number == 0 {
-        io::write_all(1, b": the plan, ");
-        io::print_decimal(1, expected.long as u64);
-        io::write_all(1, b" bytes: ");
-    } else {
-        io::write_all(1, b": refusal ");
-        io::print_decimal(1, expected.number as u64);
-        io::write_all(1, b", place ");
-        io::print_decimal(1, expected.place as u64);
-        io::write_all(1, b": ");
-    }
-    if same {
-        io::write_all(1, b"ok\n");
-    } else {
-        io::write_all(1, b"DIFFERS\n");
-    }
+// What has to be answered: a plan's text, or a refusal.
+type Expected = Result<&'static [u8], Refusal>;
+
+fn refusal(number: u8, place: u32) -> Expected {
+    Err(Refusal { number, place })
 }
 
 // The call on a text, against the answer and the bytes that it has to write.
-fn hold(name: &[u8], review: bool, text: &[u8], expected: Answer, plan: &[u8]) {
-    let mut wanted = [7u8; SPACE];
-    let mut got = [7u8; SPACE];
-    trials::put_bytes(&mut wanted, 0, plan);
-    let answer = trial_calls::call(review, text, &mut got);
-    let same = trials::same_answer(expected, &wanted, answer, &got);
-    io::write_all(1, name);
-    print_verdict(expected, same);
+fn case(name: &str, program: Program, text: &[u8], expected: Expected) {
+    let plan = expected.unwrap_or(b"");
+    let mut wanted = [7; SPACE];
+    let mut got = [7; SPACE];
+    let n = plan.len().min(SPACE);
+    wanted[..n].copy_from_slice(&plan[..n]);
+    let expected = expected.map(|plan| plan.len());
+    let same = program.call(text, &mut got) == expected && got == wanted;
+    let verdict = if same { "ok" } else { "DIFFERS" };
+    match expected {
+        Ok(long) => trials::print(format_args!("{name}: the plan, {long} bytes: {verdict}\n")),
+        Err(refusal) => trials::print(format_args!("{name}: {refusal}: {verdict}\n")),
+    }
 }
 
-fn plans(name: &[u8], review: bool, text: &[u8], plan: &[u8], long: u32) {
-    hold(
-        name,
-        review,
-        text,
-        Answer {
-            number: 0,
-            place: 0,
-            long,
-        },
-        plan,
-    );
-}
-
-fn refuses(name: &[u8], review: bool, text: &[u8], number: u8, place: u32) {
-    hold(
-        name,
-        review,
-        text,
-        Answer {
-            number,
-            place,
-            long: 0,
-        },
-        b"",
-    );
-}
-
-// The document's table with the rest of a text.
-fn put_example(out: &mut [u8], rest: &[u8]) -> usize
-    ensures { IsPrefixLen result out.new }
-{
-    let to = trials::put_bytes(out, 0, &EXAMPLE);
-    let n = trials::put_bytes(out, to, rest);
-    trials::within(n, out)
-}
-
-fn example_plans(name: &[u8], review: bool, rest: &[u8]) {
-    let mut text = [0u8; SPACE];
-    let n = put_example(&mut text, rest);
-    plans(name, review, &text[..n], &PLAN, 176);
-}
-
-fn example_refuses(name: &[u8], review: bool, rest: &[u8], number: u8, place: u32) {
-    let mut text = [0u8; SPACE];
-    let n = put_example(&mut text, rest);
-    refuses(name, review, &text[..n], number, place);
+// The same on the document's table with the rest of a text.
+fn example(name: &str, program: Program, rest: &[u8], expected: Expected) {
+    let text = Text::joined(EXAMPLE, rest);
+    case(name, program, text.as_bytes(), expected);
 }
 
 fn planner_cases() {
-    example_plans(
-        b"the document's example",
-        false,
+    example(
+        "the document's example",
+        Planner,
         b"beta=57000\nhold=0\npoints=0\n",
+        Ok(PLAN),
     );
-    example_refuses(
-        b"beta of 13 at 54999",
-        false,
+    example(
+        "beta of 13 at 54999",
+        Planner,
         b"beta=54999\nhold=0\npoints=0\n",
-        8,
-        0,
+        refusal(8, 0),
     );
-    example_refuses(
-        b"no line feed at the end",
-        false,
+    example(
+        "no line feed at the end",
+        Planner,
         b"beta=57000\nhold=0\npoints=0",
-        1,
-        27,
+        refusal(1, 27),
     );
-    example_refuses(
-        b"a line too many",
-        false,
+    example(
+        "a line too many",
+        Planner,
         b"beta=57000\nhold=0\npoints=0\nrank=12\n",
-        1,
-        28,
+        refusal(1, 28),
     );
 }
 
 fn reviewer_cases() {
-    example_plans(
-        b"order 12, 11, 13",
-        true,
+    example(
+        "order 12, 11, 13",
+        Reviewer,
         b"beta=57000\nhold=0\npoints=0\nrank=12\nrank=11\nrank=13\n",
+        Ok(PLAN),
     );
-    example_refuses(
-        b"order 11, 13, 12",
-        true,
+    example(
+        "order 11, 13, 12",
+        Reviewer,
         b"beta=57000\nhold=0\npoints=0\nrank=11\nrank=13\nrank=12\n",
-        7,
-        3,
+        refusal(7, 3),
     );
-    example_refuses(
-        b"rank of no task",
-        true,
+    example(
+        "rank of no task",
+        Reviewer,
         b"beta=57000\nhold=0\npoints=0\nrank=12\nrank=14\nrank=13\n",
-        6,
-        29,
+        refusal(6, 29),
     );
-    example_refuses(
-        b"rank named twice",
-        true,
+    example(
+        "rank named twice",
+        Reviewer,
         b"beta=57000\nhold=0\npoints=0\nrank=12\nrank=13\nrank=12\n",
-        6,
-        30,
+        refusal(6, 30),
     );
-    example_refuses(
-        b"ranks missing",
-        true,
+    example(
+        "ranks missing",
+        Reviewer,
         b"beta=57000\nhold=0\npoints=0\n",
-        1,
-        28,
+        refusal(1, 28),
     );
 }
 
 fn line_cases() {
-    refuses(b"empty input", false, b"", 1, 1);
-    refuses(b"empty input, reviewer", true, b"", 1, 1);
-    refuses(b"board=07", false, b"board=07\n", 2, 1);
-    refuses(b"tasks=17", false, b"board=7\ntasks=17\n", 3, 2);
+    case("empty input", Planner, b"", refusal(1, 1));
+    case("empty input, reviewer", Reviewer, b"", refusal(1, 1));
+    case("board=07", Planner, b"board=07\n", refusal(2, 1));
+    case("tasks=17", Planner, b"board=7\ntasks=17\n", refusal(3, 2));
 }
 
 fn row_plans() {
-    plans(
-        b"worst = period = 10",
-        false,
+    case(
+        "worst = period = 10",
+        Planner,
         b"board=7\ntasks=1\nswitch=0\ntask=5\nperiod=10\nworst=10\nbest=10\nalpha=1000\nbeta=10000\nhold=0\npoints=0\n",
-        b"plan=1\nboard=7\ntasks=1\nrank=1\ntask=5\nbest=10\nworst=10\njitter=0\nmargin=0\n",
-        72,
+        Ok(b"plan=1\nboard=7\ntasks=1\nrank=1\ntask=5\nbest=10\nworst=10\njitter=0\nmargin=0\n"),
     );
-    plans(
-        b"worst = period = 1000000",
-        false,
+    case(
+        "worst = period = 1000000",
+        Planner,
         b"board=7\ntasks=1\nswitch=0\ntask=5\nperiod=1000000\nworst=1000000\nbest=1\nalpha=1000\nbeta=1000000001\nhold=0\npoints=0\n",
-        b"plan=1\nboard=7\ntasks=1\nrank=1\ntask=5\nbest=1\nworst=1000000\njitter=999999\nmargin=1\n",
-        81,
+        Ok(
+            b"plan=1\nboard=7\ntasks=1\nrank=1\ntask=5\nbest=1\nworst=1000000\njitter=999999\nmargin=1\n",
+        ),
     );
 }
 
 fn row_refusals() {
-    refuses(
-        b"worst = period + 1 = 11",
-        false,
+    case(
+        "worst = period + 1 = 11",
+        Planner,
         b"board=7\ntasks=1\nswitch=0\ntask=5\nperiod=10\nworst=11\n",
-        4,
-        6,
+        refusal(4, 6),
     );
-    refuses(
-        b"worst = period + 1 = 1000000",
-        false,
+    case(
+        "worst = period + 1 = 1000000",
+        Planner,
         b"board=7\ntasks=1\nswitch=0\ntask=5\nperiod=999999\nworst=1000000\n",
-        4,
-        6,
+        refusal(4, 6),
     );
-    refuses(
-        b"best = worst + 1",
-        false,
+    case(
+        "best = worst + 1",
+        Planner,
         b"board=7\ntasks=1\nswitch=0\ntask=5\nperiod=10\nworst=9\nbest=10\n",
-        4,
-        7,
+        refusal(4, 7),
     );
-    refuses(
-        b"a task number used before",
-        false,
+    case(
+        "a task number used before",
+        Planner,
         b"board=7\ntasks=2\nswitch=0\ntask=5\nperiod=10\nworst=9\nbest=1\nalpha=1000\nbeta=0\nhold=0\npoints=0\ntask=5\n",
-        5,
-        12,
+        refusal(5, 12),
     );
 }
 
 // The same row up to its beta, with other holds.
 fn hold_cases() {
-    plans(
-        b"hold = worst = 10",
-        false,
+    case(
+        "hold = worst = 10",
+        Planner,
         b"board=7\ntasks=1\nswitch=0\ntask=5\nperiod=10\nworst=10\nbest=10\nalpha=1000\nbeta=10000\nhold=10\npoints=0\n",
-        b"plan=1\nboard=7\ntasks=1\nrank=1\ntask=5\nbest=10\nworst=10\njitter=0\nmargin=0\n",
-        72,
+        Ok(b"plan=1\nboard=7\ntasks=1\nrank=1\ntask=5\nbest=10\nworst=10\njitter=0\nmargin=0\n"),
     );
-    refuses(
-        b"hold = worst + 1",
-        false,
+    case(
+        "hold = worst + 1",
+        Planner,
         b"board=7\ntasks=1\nswitch=0\ntask=5\nperiod=10\nworst=10\nbest=10\nalpha=1000\nbeta=10000\nhold=11\npoints=0\n",
-        4,
-        10,
+        refusal(4, 10),
     );
-    refuses(
-        b"hold = 1000001",
-        false,
+    case(
+        "hold = 1000001",
+        Planner,
         b"board=7\ntasks=1\nswitch=0\ntask=5\nperiod=10\nworst=10\nbest=10\nalpha=1000\nbeta=10000\nhold=1000001\npoints=0\n",
-        3,
-        10,
+        refusal(3, 10),
     );
-    refuses(
-        b"no hold",
-        false,
+    case(
+        "no hold",
+        Planner,
         b"board=7\ntasks=1\nswitch=0\ntask=5\nperiod=10\nworst=10\nbest=10\nalpha=1000\nbeta=10000\n",
-        1,
-        10,
+        refusal(1, 10),
     );
 }
 
 // The same row under a switch.
 fn switch_cases() {
-    plans(
-        b"worst + switch = period = 10",
-        false,
+    case(
+        "worst + switch = period = 10",
+        Planner,
         b"board=7\ntasks=1\nswitch=3\ntask=5\nperiod=10\nworst=7\nbest=7\nalpha=1000\nbeta=10000\nhold=0\npoints=0\n",
-        b"plan=1\nboard=7\ntasks=1\nrank=1\ntask=5\nbest=7\nworst=10\njitter=3\nmargin=0\n",
-        71,
+        Ok(b"plan=1\nboard=7\ntasks=1\nrank=1\ntask=5\nbest=7\nworst=10\njitter=3\nmargin=0\n"),
     );
-    plans(
-        b"the document's rows under a switch of 1, reviewed",
-        true,
-        &SWITCHED,
-        &SWITCHED_PLAN,
-        183,
+    case(
+        "the document's rows under a switch of 1, reviewed",
+        Reviewer,
+        SWITCHED,
+        Ok(SWITCHED_PLAN),
     );
-    refuses(
-        b"worst + switch = period + 1",
-        false,
+    case(
+        "worst + switch = period + 1",
+        Planner,
         b"board=7\ntasks=1\nswitch=3\ntask=5\nperiod=10\nworst=8\n",
-        4,
-        6,
+        refusal(4, 6),
     );
-    refuses(
-        b"switch = 1001",
-        false,
+    case(
+        "switch = 1001",
+        Planner,
         b"board=7\ntasks=1\nswitch=1001\n",
-        3,
-        3,
+        refusal(3, 3),
     );
-    refuses(
-        b"no switch",
-        false,
+    case(
+        "no switch",
+        Planner,
         b"board=7\ntasks=1\ntask=5\nperiod=10\nworst=10\nbest=10\nalpha=1000\nbeta=10000\nhold=0\npoints=0\n",
-        1,
-        3,
+        refusal(1, 3),
     );
 }
 
 // One task whose line refuses it, with other curves.
 fn curve_cases() {
-    plans(
-        b"a curve that permits a third of a tick more",
-        false,
+    case(
+        "a curve that permits a third of a tick more",
+        Planner,
         b"board=7\ntasks=1\nswitch=0\ntask=5\nperiod=10\nworst=10\nbest=7\nalpha=1000\nbeta=0\nhold=0\npoints=2\ndelay=6\nallow=4\ndelay=9\nallow=3\n",
-        b"plan=1\nboard=7\ntasks=1\nrank=1\ntask=5\nbest=7\nworst=10\njitter=3\nmargin=666\n",
-        73,
+        Ok(b"plan=1\nboard=7\ntasks=1\nrank=1\ntask=5\nbest=7\nworst=10\njitter=3\nmargin=666\n"),
     );
-    plans(
-        b"the same a tick lower, reviewed",
-        true,
+    case(
+        "the same a tick lower, reviewed",
+        Reviewer,
         b"board=7\ntasks=1\nswitch=0\ntask=5\nperiod=10\nworst=10\nbest=7\nalpha=1000\nbeta=0\nhold=0\npoints=2\ndelay=6\nallow=3\ndelay=9\nallow=2\nrank=5\n",
-        b"plan=1\nboard=7\ntasks=1\nrank=1\ntask=5\nbest=7\nworst=10\njitter=3\nmargin=-334\n",
-        74,
+        Ok(b"plan=1\nboard=7\ntasks=1\nrank=1\ntask=5\nbest=7\nworst=10\njitter=3\nmargin=-334\n"),
     );
-    refuses(
-        b"E past the last delay",
-        false,
+    case(
+        "E past the last delay",
+        Planner,
         b"board=7\ntasks=1\nswitch=0\ntask=5\nperiod=10\nworst=10\nbest=7\nalpha=1000\nbeta=20000\nhold=0\npoints=1\ndelay=6\nallow=10\n",
-        8,
-        0,
+        refusal(8, 0),
     );
-    refuses(
-        b"a delay not above the one before it",
-        false,
+    case(
+        "a delay not above the one before it",
+        Planner,
         b"board=7\ntasks=1\nswitch=0\ntask=5\nperiod=10\nworst=10\nbest=7\nalpha=1000\nbeta=0\nhold=0\npoints=2\ndelay=6\nallow=4\ndelay=6\n",
-        11,
-        14,
+        refusal(11, 14),
     );
-    refuses(
-        b"an allow above the one before it",
-        false,
+    case(
+        "an allow above the one before it",
+        Planner,
         b"board=7\ntasks=1\nswitch=0\ntask=5\nperiod=10\nworst=10\nbest=7\nalpha=1000\nbeta=0\nhold=0\npoints=2\ndelay=6\nallow=4\ndelay=9\nallow=5\n",
-        11,
-        15,
+        refusal(11, 15),
     );
 }
 

@@ -1,13 +1,15 @@
 // The lines of a plan and of a refusal, put into a lent buffer.
 #![tactic(auto)]
 
-ghost use Rattle.std.specs.Prelude.{◌+◌, ◌≤◌, length};
+ghost use Rattle.std.specs.Prelude.{◌+◌, ◌≤◌, ◌⊎◌, length};
 ghost use Rattle.text.specs.Buffers.{Wrote};
 ghost use Rattle.text.specs.inside.Puts.{Put};
 ghost use Rattle.plans.specs.Plans.{rank_text, head_text, refusal_text};
+ghost use Rattle.plans.specs.Outcomes.{number, place};
+ghost use Rattle.plans.specs.inside.Prints.{refusal_room};
 
-use plans::Entry;
-use text::{put_line, put_signed_line};
+use plans::{Entry, Refusal};
+use text::put_line;
 
 // The lines of a rank.
 pub fn put_rank(out: &mut [u8], at: usize, rank: u64, e: Entry) -> usize
@@ -19,7 +21,7 @@ pub fn put_rank(out: &mut [u8], at: usize, rank: u64, e: Entry) -> usize
     let at = put_line(out, at, b"best=", e.best as u64);
     let at = put_line(out, at, b"worst=", e.worst as u64);
     let at = put_line(out, at, b"jitter=", e.jitter as u64);
-    put_signed_line(out, at, b"margin=", e.margin)
+    put_line(out, at, b"margin=", e.margin)
 }
 
 // The lines before the ranks.
@@ -27,17 +29,19 @@ pub fn put_head(out: &mut [u8], board: u16, count: usize) -> usize
     requires { length (head_text board count) ≤ length out.old }
     ensures { Put (head_text board count) 0 out.old out.new result }
 {
-    let at = put_line(out, 0, b"plan=", 1);
+    let at = put_line(out, 0, b"plan=", 1u64);
     let at = put_line(out, at, b"board=", board as u64);
     put_line(out, at, b"tasks=", count as u64)
 }
 
-// The three lines of a refusal.
-pub fn put_refusal(out: &mut [u8], number: u8, place: u32) -> usize
-    requires { length (refusal_text number place) ≤ length out.old }
-    ensures { Wrote (refusal_text number place) out.old out.new result }
+// The three lines of a refusal, with room for them or for those of every refusal.
+pub fn put_refusal(out: &mut [u8], refusal: Refusal) -> usize
+    requires { (length (refusal_text (number refusal) (place refusal)) ≤ length out.old) ⊎ (refusal_room ≤ length out.old) }
+    ensures { Wrote (refusal_text (number refusal) (place refusal)) out.old out.new result }
 {
-    let at = put_line(out, 0, b"plan=", 0);
+    let number = refusal.number();
+    let place = refusal.place();
+    let at = put_line(out, 0, b"plan=", 0u64);
     let at = put_line(out, at, b"refusal=", number as u64);
     put_line(out, at, b"line=", place as u64)
 }

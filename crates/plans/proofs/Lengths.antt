@@ -19,6 +19,7 @@ use Rattle.rows.proofs.Limits.{head_passes, tail_passes, append_passes}
 use Rattle.responses.specs.Figures.{rows_above, rows_below, is_late}
 use Rattle.plans.specs.declared.Entry.{Entry}
 use Rattle.plans.specs.Entries.{entry, entries_from, entries}
+use Rattle.plans.specs.inside.Prints.{refusal_room}
 use Rattle.plans.specs.Plans.{rank_text, rank_texts, head_text, plan_text, refusal_text, head_room, rank_room, room_for, most_ranks}
 use Rattle.plans.proofs.Entries.{MarginIn, InLimits, entries_length, entry_limits}
 
@@ -110,7 +111,7 @@ plan_fits board order h n ok l =
       length-append (head_text board (length es)) (joined (rank_texts 1 es)),
     )
 
-pub refusal_length : (number place : ℕ) → number < 10 ^ 3 → place < 10 ^ 10 → length (refusal_text number place) ≤ 35
+pub refusal_length : (number place : ℕ) → number < 10 ^ 3 → place < 10 ^ 10 → length (refusal_text number place) ≤ refusal_room
 unfolding refusal_text
 refusal_length number place n p =
     simp (length-append, line_length)

@@ -1,7 +1,8 @@
 -- What a call comes to, what it returns and leaves in its buffer, and what a program prints of it.
-use Rattle.std.specs.Prelude.{◌≡◌, true, false, List, ◌++◌, ℕ, zero, suc, leb, length, drop}
+use Rattle.std.specs.Prelude.{◌≡◌, true, false, List, ◌++◌, ℕ, zero, suc, leb, length, drop, Result, Ok, Err}
 use Rattle.rows.specs.Rows.{Row}
-use Rattle.plans.specs.declared.Answer.{Answer}
+use Rattle.plans.specs.declared.Refusal.{Refusal}
+use Rattle.plans.specs.declared.Refusal.TheVariants as R
 use Rattle.plans.specs.Entries.{entries, first_late}
 use Rattle.plans.specs.Plans.{plan_text, refusal_text}
 
@@ -22,9 +23,27 @@ plan_of room board order = fitted room (plan_text board (entries order))
 unfoldable pub if_in_time : ℕ → ℕ → List Row → Outcome
 if_in_time room board order = elim (first_late order) [ zero ↦ plan_of room board order | suc k ↦ refuses 7 (suc k) ]
 
-abbrev pub answer_of : Outcome → Answer
-answer_of (writes text) = record { number = 0; place = 0; long = length text }
-answer_of (refuses number place) = record { number = number; place = place; long = 0 }
+-- a refusal's number, as it is listed, and its place: the line, the rank, or 0
+abbrev pub number : Refusal → ℕ
+number (R.Line n line) = n
+number (R.Late rank) = 7
+number R.NoOrder = 8
+number R.NoRoom = 9
+number R.ManyPieces = 10
+
+abbrev pub place : Refusal → ℕ
+place (R.Line n line) = line
+place (R.Late rank) = rank
+place R.NoOrder = 0
+place R.NoRoom = 0
+place R.ManyPieces = 0
+
+-- what a call returns: how many bytes it wrote, or its refusal
+abbrev pub Returns : Outcome → Result ℕ Refusal → Type 0
+Returns (writes text) (Ok long) = long ≡ length text
+Returns (writes text) (Err refusal) = ⊥
+Returns (refuses n p) (Ok long) = ⊥
+Returns (refuses n p) (Err refusal) = (number refusal ≡ n) × (place refusal ≡ p)
 
 -- a buffer with a text at its start, every byte past it as it was
 abbrev pub over : List ℕ → List ℕ → List ℕ
@@ -36,8 +55,8 @@ after (writes text) buffer = over text buffer
 after (refuses number place) buffer = buffer
 
 -- a call's promise: what it returns, and the bytes of its buffer before and after it
-pub record Written (w : Outcome) (buffer buffer' : List ℕ) (r : Answer) : Type 0 where
-  pub returns : r ≡ answer_of w
+pub record Written (w : Outcome) (buffer buffer' : List ℕ) (r : Result ℕ Refusal) : Type 0 where
+  pub returns : Returns w r
   pub holds : buffer' ≡ after w buffer
 
 -- what a program prints

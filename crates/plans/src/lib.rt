@@ -3,7 +3,10 @@
 #![tactic(auto)]
 
 ghost use Rattle.std.specs.Prelude.{◌≡◌};
-ghost use Rattle.plans.specs.Outcomes.{refuses, answer_of};
+ghost use Rattle.plans.specs.Outcomes.{number, place};
+ghost use Rattle.plans.specs.declared.Refusal.TheVariants.{Line};
+
+use text::LineRefusal;
 
 // A rank's entry in a plan. Best and worst are response times.
 #[derive(Clone, Copy)]
@@ -15,22 +18,52 @@ pub struct Entry {
     pub margin: i64,
 }
 
-// What a call returns. Number: 0, or the refusal; place: its line or rank; long: bytes written.
-#[derive(Clone, Copy)]
-pub struct Answer {
-    pub number: u8,
-    pub place: u32,
-    pub long: u32,
+// Why a call writes nothing: a line of its text is refused, with the number of what is wrong with it; an order's first
+// late rank, counted from 1; no order of the tasks is stable; the buffer is shorter than the text; a crane's text has too
+// many pieces.
+#[derive(Clone, Copy, Debug, PartialEq, Eq)]
+pub enum Refusal {
+    Line { number: u8, line: u32 },
+    Late { rank: u32 },
+    NoOrder,
+    NoRoom,
+    ManyPieces,
 }
 
-impl Answer {
-    pub fn refused(number: u8, place: u32) -> Self
-        ensures { result ≡ answer_of (refuses number place) }
+impl Refusal {
+    // The number under which it is listed.
+    pub fn number(self) -> u8
+        ensures { result ≡ number self }
     {
-        Answer {
-            number,
-            place,
-            long: 0,
+        match self {
+            Refusal::Line { number, .. } => number,
+            Refusal::Late { .. } => 7,
+            Refusal::NoOrder => 8,
+            Refusal::NoRoom => 9,
+            Refusal::ManyPieces => 10,
+        }
+    }
+
+    // Its line or rank; 0 where it has neither.
+    pub fn place(self) -> u32
+        ensures { result ≡ place self }
+    {
+        match self {
+            Refusal::Line { line, .. } => line,
+            Refusal::Late { rank } => rank,
+            Refusal::NoOrder | Refusal::NoRoom | Refusal::ManyPieces => 0,
+        }
+    }
+}
+
+// A refused line refuses its text.
+impl From<LineRefusal> for Refusal {
+    ghost from_gives = { λ refused r. r ≡ Line refused.number refused.line };
+
+    fn from(refused: LineRefusal) -> Refusal {
+        Refusal::Line {
+            number: refused.number,
+            line: refused.line,
         }
     }
 }

@@ -2,78 +2,62 @@
 use mathlib.Core.Path.{◌≡◌, refl, sym, ap, ap₂, subst, ◌∙◌}
 use mathlib.Core.Bool.{true, ◌&&◌}
 use mathlib.Core.List.{List}
-use Prim.Native.Nat.{ℕ, ◌+◌, ◌≤◌}
-use native.Mathlib.Omega.{arith}
+use Prim.Native.Nat.{ℕ}
 use lib.Dec.{eqb}
-use lib.ListN.{length, get_or}
+use lib.ListN.{length}
 use Rattle.basics.specs.Basics.{distinct}
 use Rattle.basics.proofs.Tests.{and_right}
-use Rattle.rows.specs.Rows.{all_tasks, rows_for}
+use Rattle.rows.specs.Rows.{Row, all_tasks, rows_for}
 use Rattle.rows.specs.inside.Arrays.{ranking, ranked}
 use Rattle.rows.specs.inside.Numbers.{rows_of, TaskNumbers}
-use Rattle.rows.specs.Rows.{Row}
+use Rattle.rows.specs.inside.Lent.{table_of}
 use Rattle.rows.specs.declared.Order.{Order}
 use Rattle.rows.proofs.Tasks.{all_small}
 use Rattle.rows.proofs.Arrays.{ranked_are}
-use Rattle.readers.specs.declared.Reading.{Reading}
 use Rattle.tables.specs.TableLines.{TableRead, read_table}
 use Rattle.tables.specs.Claims.{Accepted}
-use Rattle.readers.specs.inside.Numbers.{row_start, behind}
-use Rattle.readers.specs.inside.Readings.{ReadAs}
+use Rattle.readers.specs.inside.Numbers.{board_in, behind}
+use Rattle.readers.specs.inside.Readings.{Held}
 use Rattle.readers.proofs.Tables.{ranks_counted}
 use Rattle.tables.proofs.Readings.{read}
 use Rattle.plans.specs.Outcomes.{if_in_time}
 use Rattle.demands.specs.Calls.{given_order, reviewed}
-use Rattle.demands.proofs.Texts.{Accepts}
 use Rattle.demands.proofs.Outcomes.{on_accepted}
-use Rattle.ranks.specs.inside.Tasks.{Tasked}
-use Rattle.ranks.proofs.Readings.{behind_head, few, rows_are, rows_held, rows_ranged}
+use Rattle.ranks.proofs.Readings.{behind_head, rows_are}
 
-module _ {text ns : List ℕ} {r : Reading} (a : ReadAs true text ns r) (ok : Accepts true text) where
+module _ {text ns : List ℕ} {n : ℕ} (t : Held true text ns n) where
   abbrev answer : TableRead
   answer = read_table true text
 
   sound : Accepted true answer
-  sound = (read true text).sound ok
+  sound = (read true text).sound t.ok
 
   -- as many ranks as rows
-  many : length answer.order ≡ r.count
-  many = ranks_counted true answer sound ∙ sym a.count_is
+  many : length answer.order ≡ n
+  many = ranks_counted true answer sound ∙ sym t.count_is
 
-  ranks_are : behind r.count r.count ns ≡ answer.order
-  ranks_are = ap (λ (k : ℕ). behind r.count k ns) (sym many) ∙ a.order_is ok
+  ranks_are : behind n n ns ≡ answer.order
+  ranks_are = ap (λ (k : ℕ). behind n k ns) (sym many) ∙ t.order_is
 
   all_there : all_tasks answer.order answer.rows ≡ true
   all_there =
       let counts = eqb (length answer.order) (length answer.rows) && distinct answer.order in
       and_right counts (all_tasks answer.order answer.rows) (sound.ranks_possible refl)
 
-  pub ranks_held : row_start r.count + r.count ≤ length ns
-  ranks_held = omega (arith, a.long ok, many)
-
-  pub ranks_small : TaskNumbers (behind r.count r.count ns)
+  pub ranks_small : TaskNumbers (behind n n ns)
   ranks_small =
       subst TaskNumbers (sym ranks_are) (all_small answer.order answer.rows all_there sound.rows_in_range)
 
-  module _ (order : Order) (is : order ≡ ranking (behind r.count r.count ns)) where
+  module _ (rows : List (List ℕ)) (lends : table_of rows ≡ rows_of n (behind_head ns)) {order : Order}
+      (is : order ≡ ranking (behind n n ns)) where
     order_is : order ≡ ranking answer.order
     order_is = is ∙ ap ranking ranks_are
 
-    pub tasks_are : ranked order ≡ answer.order
+    tasks_are : ranked order ≡ answer.order
     tasks_are = ap ranked order_is ∙ ranked_are answer.order
 
-    pub given_tasked : Tasked (behind_head ns) r.count order
-    given_tasked = record {
-      few = few a ok;
-      held = rows_held a ok;
-      is_in_range = rows_ranged a ok;
-      as_many = ap (λ (o : Order). o.count) order_is ∙ many;
-      there = ap₂ all_tasks tasks_are (rows_are a ok) ∙ all_there;
-    }
-
-    pub given_plan_lem : (room : ℕ)
-        → if_in_time room (get_or ns 0 0) (rows_for (ranked order) (rows_of r.count (behind_head ns)))
-        ≡ reviewed text room
-    given_plan_lem room =
-        ap₂ (λ (b : ℕ) (os : List Row). if_in_time room b os) (a.board_is ok) (ap₂ rows_for tasks_are (rows_are a ok))
-        ∙ sym (on_accepted answer (if_in_time room answer.board (given_order text)) ok)
+    pub given_plan : (room : ℕ)
+        → if_in_time room (board_in ns) (rows_for (ranked order) (table_of rows)) ≡ reviewed text room
+    given_plan room =
+        ap₂ (λ (b : ℕ) (os : List Row). if_in_time room b os) t.board_is (ap₂ rows_for tasks_are (rows_are t rows lends))
+        ∙ sym (on_accepted answer (if_in_time room answer.board (given_order text)) t.ok)

@@ -1,53 +1,64 @@
 -- What the calls plan: rows in an order of their tasks, at the positions of these tasks.
-use mathlib.Core.Path.{◌≡◌, sym, ap, subst, ◌∙◌}
-use mathlib.Core.List.{List, ◌++◌}
-use Prim.Native.Nat.{ℕ, ◌≤◌, ◌<◌}
+use mathlib.Core.Path.{◌≡◌, refl, sym, ap, ap₂, subst, ◌∙◌}
+use mathlib.Core.List.{List, [], ◌∷◌, ◌++◌, append-nil}
+use Prim.Native.Nat.{ℕ, suc, ◌≤◌}
 use native.Mathlib.Omega.{arith}
-use lib.ListN.{length, get_or, take, drop}
-use lib.Seq.{length-take-le, get_or-take}
-use Rattle.rows.specs.Rows.{in_range, all_rows, all_tasks, rows_for}
-use Rattle.rows.specs.Rows.{Row}
+use lib.ListN.{length, drop, length-map, length-take, drop_of_length-le}
+use Rattle.rows.specs.Rows.{max_tasks, in_range, all_rows, rows_for}
 use Rattle.rows.specs.declared.Order.{Order}
 use Rattle.rows.specs.inside.Arrays.{ranked}
-use Rattle.rows.specs.inside.Numbers.{rows_of, rows_in, positions_for, Below}
-use Rattle.rows.proofs.RowNumbers.{rows_length, rows_in_lem}
-use Rattle.rows.proofs.Tasks.{positions_below, positions_are, rows_for_positions, at_all_pass}
+use Rattle.rows.specs.inside.Numbers.{row_from, rows_at, positions_for, Below}
+use Rattle.rows.specs.inside.Lent.{table_of, lent_rows}
+use Rattle.rows.proofs.LentRows.{table_at}
+use Rattle.rows.proofs.Tasks.{positions_below, positions_length, positions_rows, at_all_pass}
 use Rattle.plan_orders.specs.inside.Ranks.{Ordered}
 use Rattle.ranks.specs.inside.Tasks.{Tasked}
 
-module _ {ns : List ℕ} {n : ℕ} {order : Order} (t : Tasked ns n order) (ps qs : List ℕ)
-    (tasks_held : n ≤ length order.tasks) (room : n ≤ length qs)
-    (is : qs ≡ positions_for (take n order.tasks) (rows_of n ns) ++ drop n ps) where
-  table : List Row
-  table = rows_of n ns
+-- rows at positions are those of the table
+pub at_positions : (rows : List (List ℕ)) (ps : List ℕ) → Below (length rows) ps
+    → lent_rows rows ps ≡ rows_at (table_of rows) ps
+at_positions rows [] h = refl
+at_positions rows (p ∷ ps) h =
+    ap₂ ◌∷◌ (sym (table_at rows p (h 0 (omega arith)))) (at_positions rows ps (λ k l. h (suc k) (omega arith)))
 
-  pub tasks_are : ranked order ≡ take n order.tasks
-  tasks_are = ap (λ (k : ℕ). take k order.tasks) t.as_many
+module _ (rows : List (List ℕ)) {order : Order} (t : Tasked (table_of rows) order) (ps : List ℕ) {qs : List ℕ}
+    (room : length ps ≤ length (ranked order))
+    (is : qs ≡ positions_for (ranked order) (table_of rows) ++ drop (length (ranked order)) ps) where
+  placed : qs ≡ positions_for (ranked order) (table_of rows)
+  placed =
+      let found = positions_for (ranked order) (table_of rows) in
+      is
+      ∙ ap (λ l. found ++ l) (drop_of_length-le ps {i = length (ranked order)} (omega (arith, room)))
+      ∙ append-nil found
 
-  below : Below n (take n qs)
-  below =
-      subst (Below n) (sym (positions_are order.tasks (rows_of n ns) n ps qs tasks_held is))
-      (subst (λ (k : ℕ). Below k (positions_for (take n order.tasks) (rows_of n ns))) (rows_length n ns)
-      (positions_below (take n order.tasks) (rows_of n ns)
-      (sym (ap (λ (ts : List ℕ). all_tasks ts (rows_of n ns)) tasks_are) ∙ t.there)))
+  below : Below (length (table_of rows)) qs
+  below = subst (Below (length (table_of rows))) (sym placed) (positions_below (ranked order) (table_of rows) t.there)
+
+  held : Below (length rows) qs
+  held k l = omega (arith, below k l, length-map rows row_from)
 
   -- the rows at the positions are those of the tasks
-  pub planned_rows : rows_in ns (take n qs) ≡ rows_for (ranked order) (rows_of n ns)
+  pub planned_rows : lent_rows rows qs ≡ rows_for (ranked order) (table_of rows)
   planned_rows =
-      rows_in_lem n ns (take n qs) below
-      ∙ rows_for_positions order.tasks (rows_of n ns) n ps qs tasks_held is
-      ∙ ap (λ (ts : List ℕ). rows_for ts (rows_of n ns)) (sym tasks_are)
+      at_positions rows qs held
+      ∙ ap (rows_at (table_of rows)) placed
+      ∙ positions_rows (ranked order) (table_of rows)
 
-  pub spot : (j : ℕ) → j < n → get_or qs j 0 < n
-  spot j h =
-      subst (λ (k : ℕ). k < n) (get_or-take n qs j 0 h) (below j (omega (arith, length-take-le n qs room)))
+  pub few_positions : length qs ≤ max_tasks
+  few_positions =
+      omega (
+        arith,
+        t.few,
+        t.as_many,
+        length-take order.count order.tasks,
+        positions_length (ranked order) (table_of rows),
+        ap length placed,
+      )
 
-  pub ordered : Ordered ns qs n
+  pub ordered : Ordered rows qs
   ordered = record {
-    few = omega (arith, t.few);
-    held = record { positions_held = room; rows_held = λ j h. omega (arith, spot j h, t.held) };
+    few = omega (arith, few_positions);
+    held = held;
     is_in_range =
-        ap (all_rows in_range) (rows_in_lem n ns (take n qs) below)
-        ∙ at_all_pass in_range (rows_of n ns) (take n qs)
-        (subst (λ (k : ℕ). Below k (take n qs)) (sym (rows_length n ns)) below) t.is_in_range;
+        ap (all_rows in_range) (at_positions rows qs held) ∙ at_all_pass in_range (table_of rows) qs below t.is_in_range;
   }

@@ -1,119 +1,119 @@
 // The public calls: a table's plan, the figures of an order chosen by hand, and what the programs print.
 #![tactic(auto)]
 
-ghost use Rattle.std.specs.Prelude.{◌≡◌, length};
+ghost use Rattle.std.specs.Prelude.{◌≡◌, ◌≤◌, length};
 ghost use Rattle.io.specs.Counts.{IsPrefixLen};
 ghost use Rattle.text.specs.Buffers.{Wrote};
 ghost use Rattle.rows.specs.Rows.{rows_for};
 ghost use Rattle.rows.specs.inside.Arrays.{ranked};
-ghost use Rattle.rows.specs.inside.Numbers.{rows_of};
-ghost use Rattle.readers.specs.inside.Numbers.{Room};
+ghost use Rattle.rows.specs.inside.Lent.{table_of};
+ghost use Rattle.readers.specs.inside.Numbers.{most_numbers, Room};
 ghost use Rattle.plans.specs.Outcomes.{if_in_time, Written};
 ghost use Rattle.demands.specs.Calls.{planner_prints, reviewer_prints};
 ghost use Rattle.demands.specs.Demands.{PlanSays, ReviewSays};
-ghost use Rattle.ranks.specs.inside.Tasks.{Tasked};
+ghost use Rattle.ranks.specs.inside.Tasks.{Tasked, RoomFor};
 
 pub use figures::row_figures;
 pub use plan_orders::{ROOM, buffer};
 use plan_orders::{plan_order, printed};
-pub use plans::Answer;
+pub use plans::Refusal;
 use readers::{
     BOARD, FEW_NUMBERS, HEAD, MANY_NUMBERS, MORE_NUMBERS, MOST_NUMBERS, SOME_NUMBERS, fits_in,
     read_table,
 };
-use rows::{FIELDS, MAX_TASKS, Order, order_at, positions_for};
+use rows::{FIELDS, MAX_TASKS, Order, RowNumbers, order_at, positions_for, rows_from};
 use search::choose;
 
-// The plan of n rows in an order of their tasks.
-fn plan_tasks(out: &mut [u8], board: u16, rows: &[u64], n: usize, order: Order) -> Answer
-    requires { Tasked rows.now n order }
+// The plan of a table's rows, in an order of their tasks.
+fn plan_tasks(
+    out: &mut [u8],
+    board: u16,
+    rows: &[RowNumbers],
+    order: Order,
+) -> Result<usize, Refusal>
+    requires { Tasked (table_of rows.now) order }
     ensures { Written (if_in_time (length out.old) board
-        (rows_for (ranked order) (rows_of n rows.now))) out.old out.new result }
+        (rows_for (ranked order) (table_of rows.now))) out.old out.new result }
 {
-    let tasks = order.tasks;
     let mut positions = [0usize; MAX_TASKS];
-    positions_for(&tasks, rows, n, &mut positions);
-    plan_order(out, board, rows, &positions, n)
+    let positions = &mut positions[..order.count];
+    positions_for(&order.tasks[..order.count], rows, positions);
+    plan_order(out, board, rows, positions)
 }
 
 // The planner, with room for the numbers of the text's lines.
-fn plan_text(text: &[u8], out: &mut [u8], numbers: &mut [u64]) -> Answer
+fn plan_text(text: &[u8], out: &mut [u8], numbers: &mut [u64]) -> Result<usize, Refusal>
     requires { Room text.now numbers.old }
     ensures { PlanSays text.now out.old out.new result }
 {
-    let reading = read_table(text, false, numbers);
-    let refused = reading.refused;
-    if refused != 0 {
-        return Answer::refused(refused, reading.line);
-    }
-    let n = reading.count;
-    let board = numbers[BOARD] as u16;
-    let rows = &numbers[HEAD..];
-    let choice = choose(rows, n);
-    if !choice.found {
-        return Answer::refused(8, 0);
-    }
-    let order = choice.order;
-    plan_tasks(out, board, rows, n, order)
+    let n = read_table(text, false, numbers)?;
+    let rows = rows_from(&numbers[HEAD..], n);
+    let order = choose(rows).ok_or(Refusal::NoOrder)?;
+    plan_tasks(out, numbers[BOARD] as u16, rows, order)
+}
+
+// The same with room for so many numbers.
+fn plan_in_room<const NUMBERS: usize>(text: &[u8], out: &mut [u8]) -> Result<usize, Refusal>
+    requires { RoomFor text.now NUMBERS }
+    ensures { PlanSays text.now out.old out.new result }
+{
+    let mut numbers = [0u64; NUMBERS];
+    plan_text(text, out, &mut numbers)
 }
 
 // The planner: the plan of a table's text, in the order that the rule chooses. A short text has few numbers, and room
 // for the most isn't filled for it.
-pub fn write_plan(text: &[u8], out: &mut [u8]) -> Answer
+pub fn write_plan(text: &[u8], out: &mut [u8]) -> Result<usize, Refusal>
     ensures { PlanSays text.now out.old out.new result }
 {
     if fits_in(text, SOME_NUMBERS) {
-        let mut some = [0u64; SOME_NUMBERS];
-        return plan_text(text, out, &mut some);
+        return plan_in_room::<SOME_NUMBERS>(text, out);
     }
     if fits_in(text, MORE_NUMBERS) {
-        let mut more = [0u64; MORE_NUMBERS];
-        return plan_text(text, out, &mut more);
+        return plan_in_room::<MORE_NUMBERS>(text, out);
     }
-    let mut numbers = [0u64; MOST_NUMBERS];
-    plan_text(text, out, &mut numbers)
+    plan_in_room::<MOST_NUMBERS>(text, out)
 }
 
 // The reviewer, with room for the numbers of the text's lines.
-fn review_text(text: &[u8], out: &mut [u8], numbers: &mut [u64]) -> Answer
+fn review_text(text: &[u8], out: &mut [u8], numbers: &mut [u64]) -> Result<usize, Refusal>
     requires { Room text.now numbers.old }
     ensures { ReviewSays text.now out.old out.new result }
 {
-    let reading = read_table(text, true, numbers);
-    let refused = reading.refused;
-    if refused != 0 {
-        return Answer::refused(refused, reading.line);
-    }
-    let n = reading.count;
-    let board = numbers[BOARD] as u16;
+    let n = read_table(text, true, numbers)?;
     let order = order_at(numbers, HEAD + FIELDS * n, n);
-    let rows = &numbers[HEAD..];
-    plan_tasks(out, board, rows, n, order)
+    let rows = rows_from(&numbers[HEAD..], n);
+    plan_tasks(out, numbers[BOARD] as u16, rows, order)
+}
+
+// The same with room for so many numbers. One function for both, with the call as a closure, would have a contract longer
+// than the two of them.
+fn review_in_room<const NUMBERS: usize>(text: &[u8], out: &mut [u8]) -> Result<usize, Refusal>
+    requires { RoomFor text.now NUMBERS }
+    ensures { ReviewSays text.now out.old out.new result }
+{
+    let mut numbers = [0u64; NUMBERS];
+    review_text(text, out, &mut numbers)
 }
 
 // The reviewer: the figures of the order that a text's rank lines give, with room in more lengths: it reads, and hardly
 // computes.
-pub fn review_order(text: &[u8], out: &mut [u8]) -> Answer
+pub fn review_order(text: &[u8], out: &mut [u8]) -> Result<usize, Refusal>
     ensures { ReviewSays text.now out.old out.new result }
 {
     if fits_in(text, FEW_NUMBERS) {
-        let mut few = [0u64; FEW_NUMBERS];
-        return review_text(text, out, &mut few);
+        return review_in_room::<FEW_NUMBERS>(text, out);
     }
     if fits_in(text, SOME_NUMBERS) {
-        let mut some = [0u64; SOME_NUMBERS];
-        return review_text(text, out, &mut some);
+        return review_in_room::<SOME_NUMBERS>(text, out);
     }
     if fits_in(text, MORE_NUMBERS) {
-        let mut more = [0u64; MORE_NUMBERS];
-        return review_text(text, out, &mut more);
+        return review_in_room::<MORE_NUMBERS>(text, out);
     }
     if fits_in(text, MANY_NUMBERS) {
-        let mut many = [0u64; MANY_NUMBERS];
-        return review_text(text, out, &mut many);
+        return review_in_room::<MANY_NUMBERS>(text, out);
     }
-    let mut numbers = [0u64; MOST_NUMBERS];
-    review_text(text, out, &mut numbers)
+    review_in_room::<MOST_NUMBERS>(text, out)
 }
 
 // What the planner's program prints for the text it took: the plan, or the three lines of its refusal.

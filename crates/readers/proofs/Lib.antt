@@ -1,4 +1,5 @@
 -- Laws of the code's way through a table's text.
+pub mod Tests
 pub mod LineNumbers
 pub mod Stands
 pub mod Steps

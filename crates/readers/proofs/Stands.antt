@@ -8,17 +8,16 @@ use Prim.Native.Nat.{ℕ, zero, suc, ◌+◌, ◌*◌, ◌≤◌, ◌<◌}
 use native.Mathlib.Omega.{arith}
 use lib.ListN.{length, get_or, take, drop, length-append, length-drop, drop_of_length-le, get_or-append}
 use lib.Seq.{append_snoc, take_at, get_or_at, get_or-take}
-use types.Run.{hit}
 use Rattle.basics.specs.Basics.{pick}
 use Rattle.basics.proofs.Tests.{test_of}
 use Rattle.text.specs.Text.{bytes}
 use Rattle.text.specs.Lines.{line_at}
-use Rattle.text.specs.declared.Line.{Line}
-use Rattle.text.specs.declared.Line.TheVariants as L
+use Rattle.text.specs.Line.{Line}
+use Rattle.text.specs.Line as L
 use Rattle.text.proofs.Lines.{line_long}
 use Rattle.grammars.specs.Grammars.{step}
 use Rattle.grammars.specs.inside.Answers.{tested, on_answer}
-use Rattle.grammars.proofs.Answers.{NoNumber, tested_number}
+use Rattle.grammars.proofs.Answers.{tested_number}
 use Rattle.grammars.proofs.Naturals.{number_within, no_number_at_end, step_line, step_end}
 use Rattle.curves.specs.Curves.{min_points, max_points}
 use Rattle.rows.specs.Rows.{min_task, max_task, min_switch, max_switch, min_tasks, max_tasks, points_at, first_point_at, lines_for}
@@ -38,12 +37,6 @@ use Rattle.readers.specs.inside.Stands.{stage_in}
 use Rattle.rows.proofs.RowNumbers.{rows_length, between_length, lines_same}
 use Rattle.tables.proofs.RowLines.{at_within, each_point, partial_next, whole_few}
 use Rattle.readers.proofs.LineNumbers.{board_stays, switch_stays, behind_grows, grows, row_made, rows_front}
-
--- a line's answer that is not a number, as its case
-pub no_number : (l : Line) → ((v next : ℕ) → l ≡ L.Number v next → ⊥) → NoNumber l
-no_number (L.Number v next) h = absurd (h v next refl)
-no_number L.End h = hit (1 ∷ 2 ∷ []) 1 tt
-no_number (L.Refused n k) h = hit (1 ∷ 2 ∷ []) 2 tt
 
 -- ---- the step from a stage that is shown
 module _ (ranked : Bool) (text : List ℕ) (at k : ℕ) (s : Stand) (ns : List ℕ) where

@@ -11,12 +11,13 @@ use lib.ListN.{length, take, drop, set, replicate, length-append, length-drop, l
 use lib.Seq.{append_snoc, length-take-le, take-suc-set, take-add, drop-set-lt, get_or-take, get_or-set_other}
 use Rattle.basics.proofs.Tests.{never}
 use Rattle.rows.specs.inside.Numbers.{line_count, field_count, switch_at}
-use Rattle.text.specs.declared.Line.{Line}
-use Rattle.text.specs.declared.Line.TheVariants as L
+use Rattle.std.specs.Prelude.{Ok, Err}
+use Rattle.text.specs.Line.{Line}
+use Rattle.text.specs.Lines.{told}
+use Rattle.text.specs.declared.LineRefusal.{LineRefusal}
+use Rattle.text.specs.declared.Number.{Number}
 use Rattle.grammars.specs.Grammars.{step}
 use Rattle.grammars.specs.inside.Answers.{tested, on_answer}
-use Rattle.grammars.proofs.Answers.{NoNumber}
-use Rattle.grammars.proofs.Loops.{ends_by}
 use Rattle.readers.specs.declared.progress.Part.{Part}
 use Rattle.readers.specs.declared.progress.Part.TheVariants as P
 use Rattle.readers.specs.declared.progress.Stand.{Stand}
@@ -25,8 +26,7 @@ use Rattle.tables.specs.TableLines.{Stage, after, table}
 use Rattle.readers.specs.inside.Numbers.{most_numbers, line_bytes, row_bytes, row_start, head_switch_at, switch_in}
 use Rattle.readers.specs.inside.Stands.{line_here, fault_in, stand_after, fewest_lines, most_lines, read_by, Counted}
 use Rattle.readers.specs.inside.Stands.{Going, ends_row, with_number, PutAt, stage_in, stage_of}
-use Rattle.readers.specs.inside.Stands.{Stands, progress, ended_by, reader, On, TakesLine}
-use Rattle.tables.proofs.Keys.{table_plain}
+use Rattle.readers.specs.inside.Stands.{Stands, progress, TakesLine}
 use Rattle.readers.proofs.Stands.{step_shown, grown, Follows, last_in, stand_follows, LineTaken, answer_taken}
 
 -- ---- so many numbers and lines at most, and bytes enough for each number
@@ -132,170 +132,175 @@ last_stands P.Row s ns v h e =
 last_stands P.Rank s ns v h e = never e
 last_stands P.End s ns v h e = never e
 
-module _ (p : Progress) (text : List ℕ) (at k : ℕ) (ns : List ℕ) (h : Stands text at p.stand k ns) (l : Line)
-    (is : l
-    ≡ tested (fault_in p.stand.part p.stand ns) (line_here p.stand.part p.stand.position text at k) k)
-  where
-    abbrev s : Stand
-    s = p.stand
+module _ (p : Progress) (text ns : List ℕ) (h : Stands text p.offset p.stand p.line ns) where
+  abbrev s : Stand
+  s = p.stand
 
-    abbrev here : Stage
-    here = stage_of s ns
+  abbrev at : ℕ
+  at = p.offset
 
-    step_is : (x : Line) → l ≡ x → step (table s.ranked) text here at k ≡ on_answer (table s.ranked) here k x
-    step_is x e =
-        step_shown s.ranked text at k s ns s.part h.long
-        ∙ ap (on_answer (table s.ranked) here k) (sym is ∙ e)
+  abbrev k : ℕ
+  k = p.line
 
-    -- ---- no number: the reading ends
-    pub takes_end : NoNumber l → (q : Progress) → q ≡ ended_by s l → TakesLine p text at k ns q ns
-    takes_end none q e =
-        rw e
-        (ends_by reader (On s.ranked text) (table s.ranked) (table_plain s.ranked) text here at k l none
-        (step_is l refl) (ended_by s l, ns) refl refl refl refl (h.counted, h.long))
+  abbrev here : Stage
+  here = stage_of s ns
 
-    -- ---- a number: the stage after it
-    module _ (v next : ℕ) (e : l ≡ L.Number v next) where
-      abbrev ws : List ℕ
-      ws = take (read_by s.part s) ns
+  -- what its line answers
+  abbrev answer : Line
+  answer = tested (fault_in s.part s ns) (line_here s.part s.position text at k) k
 
-      abbrev last : Bool
-      last = ends_row s.part s ns v
+  step_is : (x : Line) → x ≡ answer → step (table s.ranked) text here at k ≡ on_answer (table s.ranked) here k x
+  step_is x e = step_shown s.ranked text at k s ns s.part h.long ∙ ap (on_answer (table s.ranked) here k) (sym e)
 
-      abbrev there : Stand
-      there = stand_after s.part last s v
+  -- ---- no number: the text is refused
+  pub takes_none : (e : LineRefusal) → told (Err e) ≡ answer → TakesLine p text ns (Err e) ns
+  takes_none e is = step_is (told (Err e)) is
 
-      -- where its number is put, and where the switch of its row
-      abbrev here_at : ℕ
-      here_at = read_by s.part s
+  -- ---- a number: the stage after it
+  module _ (number : Number) (e : told (Ok number) ≡ answer) where
+    abbrev v : ℕ
+    v = number.value
 
-      abbrev switch : ℕ
-      switch = switch_of s
+    abbrev next : ℕ
+    next = number.next
 
-      read_so_far : length ws ≡ read_by s.part s
-      read_so_far = length-take-le (read_by s.part s) ns h.long
+    abbrev ws : List ℕ
+    ws = take (read_by s.part s) ns
 
-      line_taken : LineTaken s.part text at s.position v next
-      line_taken = answer_taken (fault_in s.part s ns) text at k v next s.part s h.counted (sym is ∙ e)
+    abbrev last : Bool
+    last = ends_row s.part s ns v
 
-      stands_last : last ≡ true → LastStands s.part s
-      stands_last = last_stands s.part s ns v h.counted
+    abbrev there : Stand
+    there = stand_after s.part last s v
 
-      follows : (gap : List ℕ) → length gap ≡ switch - suc here_at
-          → Follows s.ranked (after s.ranked here v) (suc (fewest_lines s.part s)) (suc (most_lines s.part s))
-          (length (grown last v gap ws)) there (grown last v gap ws)
-      follows gap long =
-          let same = last_is s.part s ns v in
-          rw same
-          (stand_follows s.part s.ranked s.count s.left s.position ws gap v read_so_far h.counted
-          h.going line_taken.taken
-          (λ t. omega (arith, long, (stands_last (same ∙ t)).fills)))
+    -- where its number is put, and where the switch of its row
+    abbrev here_at : ℕ
+    here_at = read_by s.part s
 
-      -- there is room for it: for the numbers of any table, or for one for so many bytes
-      room_there : (gap : List ℕ) → length gap ≡ switch - suc here_at → length (grown last v gap ws) ≤ length ns
-      room_there gap long =
-          let f = follows gap long in
-          elim h.room [
-            | inl all ↦ omega (arith, all, few_read there.part there f.counted, f.read_is)
-            | inr each ↦
-                omega (
-                  arith,
-                  each,
-                  h.bytes,
-                  h.fewest,
-                  line_taken.past,
-                  line_taken.inside,
-                  f.read_is,
-                  f.fewest,
-                  bytes_enough there.part there,
-                )
-          ]
+    abbrev switch : ℕ
+    switch = switch_of s
 
-      -- whatever is left standing
-      abbrev any : List ℕ
-      any = replicate (switch - suc here_at) 0
+    read_so_far : length ws ≡ read_by s.part s
+    read_so_far = length-take-le (read_by s.part s) ns h.long
 
-      any_long : length any ≡ switch - suc here_at
-      any_long = length-replicate (switch - suc here_at) 0
+    line_taken : LineTaken s.part text at s.position v next
+    line_taken = answer_taken (fault_in s.part s ns) text at k v next s.part s h.counted (sym e)
 
-      room_any : (b : Bool) → last ≡ b → length (grown b v any ws) ≤ length ns
-      room_any b same = subst (λ x. length (grown x v any ws) ≤ length ns) same (room_there any any_long)
+    stands_last : last ≡ true → LastStands s.part s
+    stands_last = last_stands s.part s ns v h.counted
 
-      put_at : (b : Bool) → last ≡ b → PutAt b here_at switch ns
-      put_at true e =
-          let l = room_any true e in
-          let here = stands_last e in
-          let long = length-append ws (v ∷ (any ++ (switch_in ws ∷ []))) in
-          let more = length-append any (switch_in ws ∷ []) in
-          let many = any_long in
-          record {
-            here = omega (arith, l, long, read_so_far);
-            behind = λ z.
-                (here.past, here.before, omega (arith, l, long, more, many, read_so_far, here.before));
-          }
-      put_at false e =
-          record {
-            here = omega (arith, room_any false e, length-append ws (v ∷ []), read_so_far);
-            behind = never;
-          }
+    follows : (gap : List ℕ) → length gap ≡ switch - suc here_at
+        → Follows s.ranked (after s.ranked here v) (suc (fewest_lines s.part s)) (suc (most_lines s.part s))
+        (length (grown last v gap ws)) there (grown last v gap ws)
+    follows gap long =
+        let same = last_is s.part s ns v in
+        rw same
+        (stand_follows s.part s.ranked s.count s.left s.position ws gap v read_so_far h.counted
+        h.going line_taken.taken
+        (λ t. omega (arith, long, (stands_last (same ∙ t)).fills)))
 
-      pub number_room : PutAt last here_at switch ns
-      number_room = put_at last refl
+    -- there is room for it: for the numbers of any table, or for one for so many bytes
+    room_there : (gap : List ℕ) → length gap ≡ switch - suc here_at → length (grown last v gap ws) ≤ length ns
+    room_there gap long =
+        let f = follows gap long in
+        elim h.room [
+          | inl all ↦ omega (arith, all, few_read there.part there f.counted, f.read_is)
+          | inr each ↦
+              omega (
+                arith,
+                each,
+                h.bytes,
+                h.fewest,
+                line_taken.past,
+                line_taken.inside,
+                f.read_is,
+                f.fewest,
+                bytes_enough there.part there,
+              )
+        ]
 
-      -- what is left standing in its row
-      abbrev gap : List ℕ
-      gap = gap_of here_at switch ns
+    -- whatever is left standing
+    abbrev any : List ℕ
+    any = replicate (switch - suc here_at) 0
 
-      gap_long : (b : Bool) → last ≡ b → (length gap ≡ switch - suc here_at) ⊎ (b ≡ false)
-      gap_long true e =
-          let room = number_room.behind e in
-          inl (length-take-le (switch - suc here_at) (drop (suc here_at) ns)
-          (omega (arith, length-drop (suc here_at) ns, room.2)))
-      gap_long false e = inr refl
+    any_long : length any ≡ switch - suc here_at
+    any_long = length-replicate (switch - suc here_at) 0
 
-      -- the stage behind it, with the numbers as they are then
-      shown : Follows s.ranked (after s.ranked here v) (suc (fewest_lines s.part s))
-          (suc (most_lines s.part s)) (length (grown last v gap ws)) there (grown last v gap ws)
-      shown = elim (gap_long last refl) [
-        | inl long ↦ follows gap long
-        | inr none ↦
-            let same : grown last v any ws ≡ grown last v gap ws = rw none in
-            subst (λ xs. Follows s.ranked (after s.ranked here v) (suc (fewest_lines s.part s))
-            (suc (most_lines s.part s)) (length xs) there xs) same
-            (follows any any_long)
-      ]
+    room_any : (b : Bool) → last ≡ b → length (grown b v any ws) ≤ length ns
+    room_any b same = subst (λ x. length (grown x v any ws) ≤ length ns) same (room_there any any_long)
 
-      fits : length (grown last v gap ws) ≤ length ns
-      fits = elim (gap_long last refl) [
-        | inl long ↦ room_there gap long
-        | inr none ↦
-            let same : grown last v any ws ≡ grown last v gap ws = rw none in
-            subst (λ xs. length xs ≤ length ns) same (room_there any any_long)
-      ]
+    put_at : (b : Bool) → last ≡ b → PutAt b here_at switch ns
+    put_at true e =
+        let l = room_any true e in
+        let here = stands_last e in
+        let long = length-append ws (v ∷ (any ++ (switch_in ws ∷ []))) in
+        let more = length-append any (switch_in ws ∷ []) in
+        let many = any_long in
+        record {
+          here = omega (arith, l, long, read_so_far);
+          behind = λ z.
+              (here.past, here.before, omega (arith, l, long, more, many, read_so_far, here.before));
+        }
+    put_at false e =
+        record {
+          here = omega (arith, room_any false e, length-append ws (v ∷ []), read_so_far);
+          behind = never;
+        }
 
-      pub takes_number : (t : Stand) → t ≡ there → (ms : List ℕ) → ms ≡ with_number last here_at switch v ns
-          → TakesLine p text at k ns (progress t false 0 (k + 1) next) ms
-      takes_number t same ms put =
-          let long = ap length put ∙ put_long last here_at switch v ns in
-          let behind : take (read_by there.part there) ms ≡ grown last v gap ws =
-          ap₂ take shown.read_is put ∙ put_grown last here_at switch v ns number_room in
-          rw (same, step_is (L.Number v next) e) (
-            refl,
+    pub number_room : PutAt last here_at switch ns
+    number_room = put_at last refl
+
+    -- what is left standing in its row
+    abbrev gap : List ℕ
+    gap = gap_of here_at switch ns
+
+    gap_long : (b : Bool) → last ≡ b → (length gap ≡ switch - suc here_at) ⊎ (b ≡ false)
+    gap_long true e =
+        let room = number_room.behind e in
+        inl (length-take-le (switch - suc here_at) (drop (suc here_at) ns)
+        (omega (arith, length-drop (suc here_at) ns, room.2)))
+    gap_long false e = inr refl
+
+    -- the stage behind it, with the numbers as they are then
+    shown : Follows s.ranked (after s.ranked here v) (suc (fewest_lines s.part s))
+        (suc (most_lines s.part s)) (length (grown last v gap ws)) there (grown last v gap ws)
+    shown = elim (gap_long last refl) [
+      | inl long ↦ follows gap long
+      | inr none ↦
+          let same : grown last v any ws ≡ grown last v gap ws = rw none in
+          subst (λ xs. Follows s.ranked (after s.ranked here v) (suc (fewest_lines s.part s))
+          (suc (most_lines s.part s)) (length xs) there xs) same
+          (follows any any_long)
+    ]
+
+    fits : length (grown last v gap ws) ≤ length ns
+    fits = elim (gap_long last refl) [
+      | inl long ↦ room_there gap long
+      | inr none ↦
+          let same : grown last v any ws ≡ grown last v gap ws = rw none in
+          subst (λ xs. length xs ≤ length ns) same (room_there any any_long)
+    ]
+
+    pub takes_number : (t : Stand) → t ≡ there → (ms : List ℕ) → ms ≡ with_number last here_at switch v ns
+        → TakesLine p text ns (Ok (progress t (k + 1) next)) ms
+    takes_number t same ms put =
+        let long = ap length put ∙ put_long last here_at switch v ns in
+        let behind : take (read_by there.part there) ms ≡ grown last v gap ws =
+        ap₂ take shown.read_is put ∙ put_grown last here_at switch v ns number_room in
+        rw (same, step_is (told (Ok number)) e) record {
+          shows = ap (stage_in there.part there) behind ∙ shown.shows;
+          stands = (
+            shown.asked,
             record {
-              shows = ap (stage_in there.part there) behind ∙ shown.shows;
-              stands = (
-                shown.asked,
-                record {
-                  room = rw long h.room;
-                  bytes = omega (arith, h.bytes, line_taken.past);
-                  long = omega (arith, long, fits, shown.read_is);
-                  fewest = omega (arith, h.fewest, shown.fewest);
-                  most = omega (arith, h.most, shown.most);
-                  counted = shown.counted;
-                  going = subst (Going there.part there) (sym behind) shown.going;
-                },
-              );
-              line = add-one k;
-              offset = refl;
+              room = rw long h.room;
+              bytes = omega (arith, h.bytes, line_taken.past);
+              long = omega (arith, long, fits, shown.read_is);
+              fewest = omega (arith, h.fewest, shown.fewest);
+              most = omega (arith, h.most, shown.most);
+              counted = shown.counted;
+              going = subst (Going there.part there) (sym behind) shown.going;
             },
-          )
+          );
+          line = add-one k;
+          offset = refl;
+        }

@@ -5,13 +5,12 @@ ghost use Rattle.std.specs.Prelude.{◌≡◌, ◌≤◌, leb, length};
 ghost use Rattle.readers.specs.inside.Numbers.{most_numbers, bytes_for, Room};
 ghost use Rattle.readers.specs.inside.Readings.{ReadAs};
 
-pub use progress::{Part, Progress, Stand, take_line};
-use reader::read_lines;
+pub use progress::{Part, Progress, Stand, next_line};
 use rows::{FIELDS, MAX_TASKS};
+use text::{LineRefusal, end_at};
 
 mod lines;
 mod progress;
-mod reader;
 
 // How many lines a table's head has, and where its board and its switch stand.
 pub const HEAD: usize = 3;
@@ -43,32 +42,26 @@ pub fn fits_in(text: &[u8], numbers: usize) -> bool
     text.len() <= ROW_BYTES * numbers / FIELDS
 }
 
-// What a text reads as: refusal 0 and how many rows the table has, its numbers standing where they were lent; or a
-// refusal's number and its line.
+// The text, and how far the reader has come in it.
 #[derive(Clone, Copy)]
-pub struct Reading {
-    pub refused: u8,
-    pub line: u32,
-    pub count: usize,
+struct Reader<'a> {
+    text: &'a [u8],
+    at: Progress,
 }
 
-// A table as the planner takes it, or with rank lines as the reviewer does: its numbers stand where they were lent, one
-// after another.
-pub fn read_table(text: &[u8], ranked: bool, numbers: &mut [u64]) -> Reading
+// A table as the planner takes it, or with rank lines as the reviewer does: how many rows it has, its numbers standing
+// where they were lent, one after another.
+pub fn read_table(text: &[u8], ranked: bool, numbers: &mut [u64]) -> Result<usize, LineRefusal>
     requires { Room text.now numbers.old }
     ensures { ReadAs ranked text.now numbers.new result }
 {
-    let read = read_lines(text, ranked, numbers);
-    if read.refused != 0 {
-        return Reading {
-            refused: read.refused,
-            line: read.line,
-            count: 0,
-        };
+    let mut reader = Reader {
+        text,
+        at: Progress::start(ranked),
+    };
+    while reader.at.stand.part != Part::End {
+        reader.at = next_line(reader.text, reader.at, numbers)?;
     }
-    Reading {
-        refused: 0,
-        line: 0,
-        count: read.stand.count,
-    }
+    end_at(reader.text, reader.at.offset, reader.at.line)?;
+    Ok(reader.at.stand.count)
 }

@@ -1,11 +1,14 @@
 // The line that is expected: its key, its range, and the test of its number beside the range.
-ghost use Rattle.std.specs.Prelude.{◌≡◌, ◌+◌, ◌≤◌, ◌<◌, length};
-ghost use Rattle.grammars.specs.inside.Answers.{tested};
-ghost use Rattle.rows.specs.Rows.{max_tasks, first_point_at, full_cost};
+ghost use Rattle.std.specs.Prelude.{◌≡◌, ◌+◌, ◌≤◌, ◌<◌, false, length, Ok};
+ghost use Rattle.basics.specs.Basics.{pick};
+ghost use Rattle.text.specs.Text.{bytes};
+ghost use Rattle.text.specs.Lines.{line_at, told};
+ghost use Rattle.grammars.specs.inside.Answers.{tested, unless};
+ghost use Rattle.rows.specs.Rows.{min_task, max_task, max_tasks, first_point_at};
 ghost use Rattle.rows.specs.inside.Numbers.{line_count};
-ghost use Rattle.tables.specs.TableLines.{at_most, later_delay, lower_allow, new_task, new_rank};
+ghost use Rattle.tables.specs.TableLines.{new_rank};
 ghost use Rattle.readers.specs.inside.Numbers.{row_start, rows_in, behind};
-ghost use Rattle.readers.specs.inside.Stands.{row_line_tested, line_here, fault_in, Stands};
+ghost use Rattle.readers.specs.inside.Stands.{is_end, row_line_tested, line_here, fault_in, Stands};
 
 use super::progress::{Part, Stand};
 use super::{HEAD, HEAD_SWITCH};
@@ -13,7 +16,7 @@ use rows::{
     ALPHA, BEST, BETA, FIELDS, FIRST_POINT, HOLD, MAX_TASKS, PERIOD, POINTS, Row, TASK, WORST,
     has_task, is_among,
 };
-use text::{Line, end_at, line_at};
+use text::{LineRefusal, Number, line_at};
 
 // The limits of a table beside those of its rows.
 const BOARD_MIN: u64 = 1;
@@ -25,7 +28,7 @@ const TASKS_MIN: u64 = 1;
 const TASKS_MAX: u64 = MAX_TASKS as u64;
 
 // Refusals of a number in its range: it is past another, a task's number was used before, a rank names no task of the
-// table or one that has been named, a point does not follow the one before it.
+// table or one that has been named, a point does not follow the one before it. Numbers, as in `text`.
 const EXCEEDING: u8 = 4;
 
 const REPEATED: u8 = 5;
@@ -34,89 +37,22 @@ const IMPOSSIBLE: u8 = 6;
 
 const DISORDERLY: u8 = 11;
 
-// A number past another is refused.
-fn at_most(limit: u64, answer: Line, line: u32) -> Line
-    ensures { result ≡ tested (at_most limit) answer line }
+// A line's number, unless it has a fault beside its range.
+fn unless(faulty: bool, refusal: u8, number: Number, line: u32) -> Result<Number, LineRefusal>
+    requires { 1 ≤ refusal }
+    ensures { told result ≡ unless (pick faulty refusal 0) (told (Ok number)) line }
 {
-    let Line::Number(value, _) = answer else {
-        return answer;
-    };
-    if limit < value {
-        return Line::Refused(EXCEEDING, line);
+    if faulty {
+        return Err(LineRefusal {
+            number: refusal,
+            line,
+        });
     }
-    answer
+    Ok(number)
 }
 
-// A worst time that does not fit its period with the switch is refused.
-fn fits_period(period: u64, switch: u64, answer: Line, line: u32) -> Line
-    ensures { result ≡ tested (λ v. at_most period (full_cost v switch)) answer line }
-{
-    let Line::Number(value, _) = answer else {
-        return answer;
-    };
-    if Row::fits(value, switch, period) {
-        return answer;
-    }
-    Line::Refused(EXCEEDING, line)
-}
-
-// A delay that is not above the one before it is refused.
-fn later_delay(before: u64, answer: Line, line: u32) -> Line
-    ensures { result ≡ tested (later_delay before) answer line }
-{
-    let Line::Number(value, _) = answer else {
-        return answer;
-    };
-    if before < value {
-        return answer;
-    }
-    Line::Refused(DISORDERLY, line)
-}
-
-// An allow that is above the one before it is refused.
-fn lower_allow(before: u64, answer: Line, line: u32) -> Line
-    ensures { result ≡ tested (lower_allow before) answer line }
-{
-    let Line::Number(value, _) = answer else {
-        return answer;
-    };
-    if value <= before {
-        return answer;
-    }
-    Line::Refused(DISORDERLY, line)
-}
-
-// A task of one of the first rows is refused.
-fn new_task(numbers: &[u64], count: usize, answer: Line, line: u32) -> Line
-    requires { (count ≤ max_tasks) × (row_start count ≤ length numbers.now) }
-    ensures { result ≡ tested (new_task (rows_in count numbers.now)) answer line }
-{
-    let Line::Number(value, _) = answer else {
-        return answer;
-    };
-    if has_task(numbers, HEAD, count, value) {
-        return Line::Refused(REPEATED, line);
-    }
-    answer
-}
-
-// A rank is to name one of the rows, and none of the ranks before it.
-fn new_rank(numbers: &[u64], count: usize, named: usize, answer: Line, line: u32) -> Line
-    requires { (count ≤ max_tasks) × (row_start count + named ≤ length numbers.now) }
-    ensures { result ≡ tested (new_rank (rows_in count numbers.now)
-        (behind count named numbers.now)) answer line }
-{
-    let Line::Number(value, _) = answer else {
-        return answer;
-    };
-    if has_task(numbers, HEAD, count, value) {
-        if is_among(numbers, HEAD + FIELDS * count, named, value) {
-            return Line::Refused(IMPOSSIBLE, line);
-        }
-        return answer;
-    }
-    Line::Refused(IMPOSSIBLE, line)
-}
+// Here and in `next_line` a `match` hands a refusal on, and not `?`: the places of what `?` hands on are filled with zeros
+// at every line, a fifth more instructions in all.
 
 // The line of a point, of its delay or of its allow by turns: its number is held against the one two lines before it, if
 // there is one.
@@ -127,32 +63,37 @@ fn point_line(
     count: usize,
     position: usize,
     numbers: &[u64],
-) -> Line
+) -> Result<Number, LineRefusal>
     requires first_point_at_le_position { (first_point_at ≤ position) × (position < line_count) × (count < max_tasks) }
     requires position_in_bounds { row_start count + position ≤ length numbers.now }
-    ensures { result ≡ row_line_tested count position numbers.now text.now at line }
+    ensures { told result ≡ row_line_tested count position numbers.now text.now at line }
 {
     let before = HEAD + FIELDS * count + position - 2;
     let turn = position % 2;
     match turn {
-        0 => {
-            let answer = line_at(text, at, line, b"delay=", Row::DELAY_MIN, Row::DELAY_MAX);
-            if position == FIRST_POINT {
-                return answer;
+        0 => match line_at(text, at, line, b"delay=", Row::DELAY_MIN, Row::DELAY_MAX) {
+            Ok(delay) => {
+                if position == FIRST_POINT {
+                    return Ok(delay);
+                }
+                unless(delay.value <= numbers[before], DISORDERLY, delay, line)
             }
-            later_delay(numbers[before], answer, line)
-        }
-        _ => {
-            let answer = line_at(text, at, line, b"allow=", Row::ALLOW_MIN, Row::ALLOW_MAX);
-            if position == FIRST_POINT + 1 {
-                return answer;
+            Err(refusal) => Err(refusal),
+        },
+        _ => match line_at(text, at, line, b"allow=", Row::ALLOW_MIN, Row::ALLOW_MAX) {
+            Ok(allow) => {
+                if position == FIRST_POINT + 1 {
+                    return Ok(allow);
+                }
+                unless(numbers[before] < allow.value, DISORDERLY, allow, line)
             }
-            lower_allow(numbers[before], answer, line)
-        }
+            Err(refusal) => Err(refusal),
+        },
     }
 }
 
-// The line at a position within a row.
+// The line at a position within a row. It is found by a `match`, here and by the part, and not by a table of closures: a
+// line's key, range and test are constants where they are read.
 fn row_line(
     text: &[u8],
     at: usize,
@@ -160,53 +101,89 @@ fn row_line(
     count: usize,
     position: usize,
     numbers: &[u64],
-) -> Line
+) -> Result<Number, LineRefusal>
     requires position_lt_line_count { (position < line_count) × (count < max_tasks) }
     requires position_in_bounds { row_start count + position ≤ length numbers.now }
-    ensures { result ≡ row_line_tested count position numbers.now text.now at line }
+    ensures { told result ≡ row_line_tested count position numbers.now text.now at line }
 {
     let start = HEAD + FIELDS * count;
     match position {
-        TASK => {
-            let answer = line_at(text, at, line, b"task=", Row::TASK_MIN, Row::TASK_MAX);
-            new_task(numbers, count, answer, line)
-        }
+        TASK => match line_at(text, at, line, b"task=", Row::TASK_MIN, Row::TASK_MAX) {
+            Ok(task) => unless(
+                has_task(numbers, HEAD, count, task.value),
+                REPEATED,
+                task,
+                line,
+            ),
+            refused => refused,
+        },
         PERIOD => line_at(text, at, line, b"period=", Row::TICKS_MIN, Row::TICKS_MAX),
-        WORST => {
-            let answer = line_at(text, at, line, b"worst=", Row::TICKS_MIN, Row::TICKS_MAX);
-            fits_period(numbers[start + PERIOD], numbers[HEAD_SWITCH], answer, line)
-        }
-        BEST => {
-            let answer = line_at(text, at, line, b"best=", Row::TICKS_MIN, Row::TICKS_MAX);
-            at_most(numbers[start + WORST], answer, line)
-        }
+        WORST => match line_at(text, at, line, b"worst=", Row::TICKS_MIN, Row::TICKS_MAX) {
+            Ok(worst) => {
+                let fits = Row::fits(worst.value, numbers[HEAD_SWITCH], numbers[start + PERIOD]);
+                unless(!fits, EXCEEDING, worst, line)
+            }
+            refused => refused,
+        },
+        BEST => match line_at(text, at, line, b"best=", Row::TICKS_MIN, Row::TICKS_MAX) {
+            Ok(best) => unless(numbers[start + WORST] < best.value, EXCEEDING, best, line),
+            refused => refused,
+        },
         ALPHA => line_at(text, at, line, b"alpha=", Row::ALPHA_MIN, Row::ALPHA_MAX),
         BETA => line_at(text, at, line, b"beta=", Row::BETA_MIN, Row::BETA_MAX),
-        HOLD => {
-            let answer = line_at(text, at, line, b"hold=", Row::HOLD_MIN, Row::HOLD_MAX);
-            at_most(numbers[start + WORST], answer, line)
-        }
+        HOLD => match line_at(text, at, line, b"hold=", Row::HOLD_MIN, Row::HOLD_MAX) {
+            Ok(hold) => unless(numbers[start + WORST] < hold.value, EXCEEDING, hold, line),
+            refused => refused,
+        },
         POINTS => line_at(text, at, line, b"points=", Row::POINTS_MIN, Row::POINTS_MAX),
         _ => point_line(text, at, line, count, position, numbers),
     }
 }
 
-// The line that is expected, at an offset.
-pub fn expected_line(text: &[u8], at: usize, line: u32, stand: Stand, numbers: &[u64]) -> Line
-    requires { Stands text.now at stand line numbers.now }
-    ensures { result ≡ tested (fault_in stand.part stand numbers.now)
+// The line of a rank, which is to name one of the rows, and none of the ranks before it.
+fn rank_line(
+    text: &[u8],
+    at: usize,
+    line: u32,
+    count: usize,
+    named: usize,
+    numbers: &[u64],
+) -> Result<Number, LineRefusal>
+    requires { (count ≤ max_tasks) × (row_start count + named ≤ length numbers.now) }
+    ensures { told result ≡ tested (new_rank (rows_in count numbers.now) (behind count named numbers.now))
+        (line_at (bytes "rank=") min_task max_task text.now at line) line }
+{
+    match line_at(text, at, line, b"rank=", Row::TASK_MIN, Row::TASK_MAX) {
+        Ok(rank) => {
+            let task = rank.value;
+            let possible = has_task(numbers, HEAD, count, task)
+                && !is_among(numbers, HEAD + FIELDS * count, named, task);
+            unless(!possible, IMPOSSIBLE, rank, line)
+        }
+        refused => refused,
+    }
+}
+
+// The line that is expected before the table's end, at an offset.
+pub fn expected_line(
+    text: &[u8],
+    at: usize,
+    line: u32,
+    stand: Stand,
+    numbers: &[u64],
+) -> Result<Number, LineRefusal>
+    requires stands { Stands text.now at stand line numbers.now }
+    requires before_end { is_end stand.part ≡ false }
+    ensures { told result ≡ tested (fault_in stand.part stand numbers.now)
         (line_here stand.part stand.position text.now at line) line }
 {
     let part = stand.part;
     match part {
         Part::Board => line_at(text, at, line, b"board=", BOARD_MIN, BOARD_MAX),
         Part::Tasks => line_at(text, at, line, b"tasks=", TASKS_MIN, TASKS_MAX),
-        Part::Switch => { line_at(text, at, line, b"switch=", Row::SWITCH_MIN, Row::SWITCH_MAX) }
+        Part::Switch => line_at(text, at, line, b"switch=", Row::SWITCH_MIN, Row::SWITCH_MAX),
         Part::Row => row_line(text, at, line, stand.count, stand.position, numbers),
-        Part::Rank => {
-            let answer = line_at(text, at, line, b"rank=", Row::TASK_MIN, Row::TASK_MAX);
-            new_rank(numbers, stand.count, stand.position, answer, line)
-        }
-        Part::End => end_at(text, at, line),
+        Part::Rank => rank_line(text, at, line, stand.count, stand.position, numbers),
+        Part::End => unreachable!(),
     }
 }

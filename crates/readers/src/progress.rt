@@ -1,20 +1,20 @@
 // How far the reading of a table has come, and what a line makes of it.
-ghost use Rattle.std.specs.Prelude.{◌≡◌, [], ◌∷◌, ◌++◌, ◌+◌, ◌≤◌, ◌<◌, length};
+ghost use Rattle.std.specs.Prelude.{◌≡◌, false, [], ◌∷◌, ◌++◌, ◌+◌, ◌≤◌, ◌<◌, length};
 ghost use Rattle.basics.specs.Basics.{pick};
 ghost use Rattle.rows.specs.Rows.{max_tasks};
 ghost use Rattle.rows.specs.inside.Numbers.{line_count, switch_at, between};
 ghost use Rattle.tables.specs.TableLines.{is_whole};
 ghost use Rattle.readers.specs.inside.Numbers.{row_start};
-ghost use Rattle.readers.specs.inside.Stands.{begun, ranks_next, rows_next, after_field, stand_after, Counted};
-ghost use Rattle.readers.specs.inside.Stands.{read_by, ends_row, PutAt, with_number, ended_by, Stands, TakesLine};
+ghost use Rattle.readers.specs.inside.Stands.{is_end, begun, ranks_next, rows_next, after_field, stand_after, Counted};
+ghost use Rattle.readers.specs.inside.Stands.{read_by, ends_row, PutAt, with_number, Stands, TakesLine};
 
 use super::lines::expected_line;
 use super::{HEAD, HEAD_SWITCH};
 use rows::{FIELDS, POINTS, SWITCH};
-use text::Line;
+use text::LineRefusal;
 
 // The line that is expected next: one of the head, of a row, a rank, or none.
-#[derive(Clone, Copy)]
+#[derive(Clone, Copy, PartialEq, Eq)]
 pub enum Part {
     Board,
     Tasks,
@@ -36,13 +36,10 @@ pub struct Stand {
     pub position: usize,
 }
 
-// Where the reading stands, with the line and the offset of the next line; or its end, with refusal 0, or with a
-// refusal and its line.
+// Where the reading stands, with the line and the offset of the next line.
 #[derive(Clone, Copy)]
 pub struct Progress {
     pub stand: Stand,
-    pub ended: bool,
-    pub refused: u8,
     pub line: u32,
     pub offset: usize,
 }
@@ -61,8 +58,6 @@ impl Progress {
         };
         Progress {
             stand,
-            ended: false,
-            refused: 0,
             line: 1,
             offset: 0,
         }
@@ -150,7 +145,7 @@ impl Stand {
         HEAD + FIELDS * self.count + SWITCH
     }
 
-    // How many numbers there are: where the next is put.
+    // How many numbers there are: where the next is put. By a `match` on the part, as all that depends on it (`lines.rt`).
     fn read(self) -> usize
         requires { Counted self.part self }
         ensures { result ≡ read_by self.part self }
@@ -160,6 +155,7 @@ impl Stand {
             Part::Board => 0,
             Part::Tasks => 1,
             Part::Switch => 2,
+            // An arm for each: with one for the three, a line takes a tenth longer.
             Part::Row => self.behind_head(),
             Part::Rank => self.behind_head(),
             Part::End => self.behind_head(),
@@ -173,12 +169,8 @@ impl Stand {
     {
         let part = self.part;
         match part {
-            Part::Board => false,
-            Part::Tasks => false,
-            Part::Switch => false,
             Part::Row => is_last(numbers, HEAD + FIELDS * self.count, self.position, value),
-            Part::Rank => false,
-            Part::End => false,
+            _ => false,
         }
     }
 
@@ -199,9 +191,10 @@ impl Stand {
         }
     }
 
-    // Behind a number.
+    // Behind a number, of a line before the table's end.
     fn after(self, value: u64, last: bool) -> Stand
-        requires { Counted self.part self }
+        requires counted { Counted self.part self }
+        requires before_end { is_end self.part ≡ false }
         ensures { result ≡ stand_after self.part last self value }
     {
         let part = self.part;
@@ -223,14 +216,7 @@ impl Stand {
             Part::Switch => rows_next(self.ranked, 0, self.left),
             Part::Row => self.after_field(last),
             Part::Rank => ranks_next(self.ranked, self.count, self.position + 1, self.left),
-            // Made anew: if it were handed on, all of it would be copied at every line.
-            Part::End => Stand {
-                part: Part::End,
-                ranked: self.ranked,
-                count: self.count,
-                left: self.left,
-                position: self.position,
-            },
+            Part::End => unreachable!(),
         }
     }
 }
@@ -246,50 +232,28 @@ fn put_number(numbers: &mut [u64], at: usize, switch: usize, value: u64, last: b
     }
 }
 
-// The reading ends here: with no number, a line is the end of the text, or refused.
-fn ended_by(stand: Stand, answer: Line) -> Progress
-    ensures { result ≡ ended_by stand answer }
-{
-    let mut refused = 0;
-    let mut line = 0;
-    if let Line::Refused(number, place) = answer {
-        refused = number;
-        line = place;
-    }
-    Progress {
-        stand,
-        ended: true,
-        refused,
-        line,
-        offset: 0,
-    }
-}
-
-// The reading past the line that is expected, whose number stands behind those before it; or its end.
-pub fn take_line(
+// The reading past the line that is expected, whose number stands behind those before it.
+pub fn next_line(
     text: &[u8],
-    offset: usize,
-    line: u32,
     before: Progress,
     numbers: &mut [u64],
-) -> Progress
-    requires { Stands text.now offset before.stand line numbers.old }
-    ensures { TakesLine before text.now offset line numbers.old result numbers.new }
+) -> Result<Progress, LineRefusal>
+    requires stands { Stands text.now before.offset before.stand before.line numbers.old }
+    requires before_end { is_end before.stand.part ≡ false }
+    ensures { TakesLine before text.now numbers.old result numbers.new }
 {
     let stand = before.stand;
-    let answer = expected_line(text, offset, line, stand, numbers);
-    let Line::Number(value, next) = answer else {
-        return ended_by(stand, answer);
+    let number = match expected_line(text, before.offset, before.line, stand, numbers) {
+        Ok(number) => number,
+        Err(refusal) => return Err(refusal),
     };
-    let last = stand.ends_row(value, numbers);
+    let last = stand.ends_row(number.value, numbers);
     let at = stand.read();
     let switch = stand.switch_index();
-    put_number(numbers, at, switch, value, last);
-    Progress {
-        stand: stand.after(value, last),
-        ended: false,
-        refused: 0,
-        line: line + 1,
-        offset: next,
-    }
+    put_number(numbers, at, switch, number.value, last);
+    Ok(Progress {
+        stand: stand.after(number.value, last),
+        line: before.line + 1,
+        offset: number.next,
+    })
 }

@@ -16,7 +16,7 @@ use lib.Signed.{le_z}
 use Rattle.rows.specs.Rows.{times_in_range, all_rows}
 use Rattle.rows.specs.Rows.{Row}
 use Rattle.rows.proofs.Limits.{times}
-use Rattle.responses.specs.declared.Figures.{Figures}
+use Rattle.std.specs.Prelude.{Ok}
 use Rattle.responses.specs.Extremes.{largest}
 use Rattle.responses.specs.Interference.{ceiling, interference, least_fixed, largest_fixed}
 use Rattle.basics.specs.Basics.{pick}
@@ -188,18 +188,13 @@ module _ (t : Row) (rs below : List Row) (own : t.hold ≤ 1) (none : NoneHolds 
         (sym (sub_sign t.beta (cost t rs)) ∙ ap (le_z (pos 0)) by_line)
 
 -- ---- what the call promises: 03's FiguresSay, with the task's range among the rest
-abbrev Say : Bool → Bool → ℕ → ℕ → ℕ → ℤ → Bool → Figures → Type 0
+abbrev Say : Bool → Bool → ℕ → ℕ → ℕ → ℤ → Bool → F.Answered → Type 0
 Say ok late w e j m s x =
-    let on = ok && not late in
-    (x.figured ≡ ok)
-    × (x.late ≡ (ok && late))
-    × (x.worst ≡ pick on w 0)
-    × (x.best ≡ pick on e 0)
-    × (x.jitter ≡ pick on j 0)
-    × (x.margin ≡ pick on m (pos 0))
-    × (x.stable ≡ (on && s))
+    x ≡ pick ok
+    (pick late F.late_figures (Ok record { worst = w; best = e; jitter = j; margin = m; stable = s }))
+    F.no_figures
 
-abbrev pub FiguresSay : Row → List Row → List Row → Figures → Type 0
+abbrev pub FiguresSay : Row → List Row → List Row → F.Answered → Type 0
 FiguresSay t rs below x =
     Say (F.in_limits t rs below) (is_late t rs) (latest t rs) (earliest t rs) (jitter t rs) (margin t rs) (is_stable t rs)
     x
@@ -208,11 +203,9 @@ FiguresSay t rs below x =
 said : (ok l l' : Bool) (w w' e e' : ℕ) (m m' : ℤ) (s : Bool)
     → (ok ≡ true → (l ≡ l') × (w ≡ w') × (e ≡ e') × (m ≡ m') × (s ≡ (not l' && le_z (pos 0) m')))
     → Say ok l w e (w - e) m s (pick ok (pick l' F.late_figures (F.figures_at w' e' m')) F.no_figures)
-said false l l' w w' e e' m m' s h = (refl, refl, refl, refl, refl, refl, refl)
-said true l true w w' e e' m m' s h = let g = h refl in rw g.0 (refl, refl, refl, refl, refl, refl, refl)
-said true l false w w' e e' m m' s h =
-    let g = h refl in
-    rw (g.0, g.1, g.2, g.3, g.4) (refl, refl, refl, refl, refl, refl, refl)
+said false l l' w w' e e' m m' s h = refl
+said true l true w w' e e' m m' s h = let g = h refl in rw g.0 refl
+said true l false w w' e e' m m' s h = let g = h refl in rw (g.0, g.1, g.2, g.3, g.4) refl
 
 pub figures_say : (t : Row) (rs below : List Row) → t.hold ≤ 1 → NoneHolds below → t.switch ≡ 0 → NoSwitch rs
     → length t.curve ≡ 0 → FiguresSay t rs below (F.figures_of t rs below)

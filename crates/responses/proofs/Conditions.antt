@@ -19,7 +19,8 @@ use Rattle.curves.proofs.Margins.{margined}
 use Rattle.rows.specs.Rows as R
 use Rattle.rows.specs.Rows.{Row, in_range}
 use Rattle.rows.proofs.Limits.{limits}
-use Rattle.responses.specs.Interference.{Load, interference}
+use Rattle.responses.specs.declared.Load.{Load}
+use Rattle.responses.specs.Interference.{interference}
 use Rattle.responses.specs.Figures.{worst_load, best_load, largest_hold, latest, earliest, is_late, margin}
 use Rattle.responses.specs.Figures.{line_margin, margin_by}
 use Rattle.responses.specs.Claims.{spent, ByLine, ByCurve, ByCondition, uncurved, OwnCurve}

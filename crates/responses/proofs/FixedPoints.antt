@@ -9,7 +9,8 @@ use native.Mathlib.Omega.{arith}
 use borrow.Author.Tests.{eqb-true, eq-eqb}
 use Rattle.basics.proofs.Tests.{test_of}
 use Rattle.responses.specs.Extremes.{first_from, smallest, largest}
-use Rattle.responses.specs.Interference.{Load, interference, is_fixed, least_fixed, largest_fixed}
+use Rattle.responses.specs.declared.Load.{Load}
+use Rattle.responses.specs.Interference.{interference, is_fixed, least_fixed, largest_fixed}
 use Rattle.responses.proofs.Sums.{interference_mono}
 
 -- ---- any test

@@ -16,8 +16,9 @@ use Rattle.basics.specs.Basics.{pick}
 use Rattle.basics.proofs.Tests.{test_of, and_left, and_right, le-or-lt}
 use Rattle.rows.proofs.Limits.{times, in_range_times, all_times}
 use Rattle.responses.specs.Interference.{least_fixed, largest_fixed}
+use Rattle.std.specs.Prelude.{Ok, Err}
 use Rattle.responses.specs.Figures.{worst_load, best_load, worst_in, best_in, blocking, latest, is_late, earliest}
-use Rattle.responses.specs.Figures.{is_stable, margin_at, margin, late_figures, figures_at, figures_under}
+use Rattle.responses.specs.Figures.{Answered, is_stable, margin_at, margin, late_figures, figures_at, figures_under}
 use Rattle.responses.specs.Figures.{least_hold, may_hold, max_others, in_limits}
 use Rattle.responses.specs.Claims.{Figured, plain_load, WithoutEither, Demand-2}
 use Rattle.responses.proofs.Sums.{rounds_up}
@@ -130,8 +131,12 @@ demand_2 = record {
 }
 
 -- ---- a row's figures as one answer
+abbrev pub stable_in : Answered → Bool
+stable_in (Ok figures) = figures.stable
+stable_in (Err none) = false
+
 module _ (t : Row) (above below : List Row) where
-  pub stable_is : (figures_under t above below).stable ≡ is_stable t above below
+  pub stable_is : stable_in (figures_under t above below) ≡ is_stable t above below
   stable_is = elim (test_of (is_late t above below)) [
     | inl e ↦ rw e
     | inr e ↦ rw e

@@ -16,12 +16,12 @@ use Rattle.basics.specs.Basics.{pick, larger}
 use Rattle.basics.proofs.Numbers.{larger_swap}
 use Rattle.rows.specs.Rows.{cost, in_range, all_rows, row_at}
 use Rattle.rows.specs.Rows.{Row}
-use Rattle.responses.specs.declared.Figures.{Figures}
 use Rattle.responses.specs.Extremes.{smallest, largest}
-use Rattle.responses.specs.Interference.{ceiling, Load, interference}
+use Rattle.responses.specs.declared.Load.{Load}
+use Rattle.responses.specs.Interference.{ceiling, interference}
 use Rattle.responses.specs.Figures.{worst_load, best_load, worst_in, best_in, blocking, latest, earliest}
 use Rattle.responses.specs.Figures.{largest_hold, may_hold, rows_above, rows_below, margin_at, late_figures, no_figures}
-use Rattle.responses.specs.Figures.{figures_at, figures_under, max_others, in_limits, figures_of}
+use Rattle.responses.specs.Figures.{Answered, figures_at, figures_under, max_others, in_limits, figures_of}
 use Rattle.responses.specs.Claims.{SameFigures, BySet, ByBlocking}
 use Rattle.responses.proofs.FixedPoints.{fixed_below, demand_mono, least_fixed_lem, least_least}
 
@@ -122,7 +122,7 @@ figures_permuted t p q =
     let few = ap₂ (λ (m n : ℕ). leb (m + n) max_others) (length_permuted p) (length_permuted q) in
     let rest = ap₂ ◌&&◌ (all_permuted in_range q) few in
     let limits = ap₂ (λ (a b : Bool). in_range t && (a && b)) (all_permuted in_range p) rest in
-    ap₂ (λ (b : Bool) (x : Figures). pick b x no_figures) limits (figures_same t (same_permuted p q))
+    ap₂ (λ (b : Bool) (x : Answered). pick b x no_figures) limits (figures_same t (same_permuted p q))
 
 -- ---- other rows below, with the same blocking time
 same_below : (above bs cs : List Row) → blocking bs ≡ blocking cs → Same above above bs cs
@@ -134,7 +134,7 @@ by_blocking t above below below' e = same_figures t (same_below above below belo
 pub figures_below : (t : Row) (above bs cs : List Row) → blocking bs ≡ blocking cs
     → in_limits t above bs ≡ in_limits t above cs → figures_of t above bs ≡ figures_of t above cs
 figures_below t above bs cs e limits =
-    ap₂ (λ (b : Bool) (x : Figures). pick b x no_figures) limits (figures_same t (same_below above bs cs e))
+    ap₂ (λ (b : Bool) (x : Answered). pick b x no_figures) limits (figures_same t (same_below above bs cs e))
 
 -- ---- more interference: a task that is not late under ys is not late under xs, and W is no larger
 pub latest_mono : (t : Row) (xs ys below : List Row) → 1 ≤ cost t → ((x : ℕ) → worst_in x xs ≤ worst_in x ys)

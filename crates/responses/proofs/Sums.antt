@@ -8,7 +8,8 @@ use native.Mathlib.Nat.{div-add-mod', mod-lt, lt_of_mul-lt-mul_right, mul_comm, 
 use native.Mathlib.Nat.{mul-add, add-mul, sub-zero}
 use native.Mathlib.Omega.{arith}
 use Rattle.basics.proofs.Tests.{le-or-lt}
-use Rattle.responses.specs.Interference.{ceiling, Load, interference}
+use Rattle.responses.specs.declared.Load.{Load}
+use Rattle.responses.specs.Interference.{ceiling, interference}
 use Rattle.responses.specs.Claims.{RoundsUp}
 
 -- ---- rounding up

@@ -16,7 +16,8 @@ use Rattle.rows.specs.Rows as R
 use Rattle.rows.specs.Rows.{cost, with_switch, in_range, times_in_range, all_rows}
 use Rattle.rows.specs.Rows.{Row}
 use Rattle.rows.proofs.Limits.{limits, times, in_range_times, head_passes, tail_passes}
-use Rattle.responses.specs.Interference.{ceiling, Load, interference, least_fixed, largest_fixed}
+use Rattle.responses.specs.declared.Load.{Load}
+use Rattle.responses.specs.Interference.{ceiling, interference, least_fixed, largest_fixed}
 use Rattle.responses.specs.Figures.{worst_load, best_load, worst_in, best_in, largest_hold, blocking, latest, is_late}
 use Rattle.responses.specs.Figures.{may_hold, earliest, margin_at, margin, is_stable}
 use Rattle.responses.specs.Claims.{switched_load, ByNumbers, plain_load, NoSwitch, WithoutSwitch}

@@ -10,12 +10,12 @@ use Rattle.curves.specs.Claims.{AtMost, Permits, Margined}
 use Rattle.rows.specs.Rows.{cost, row_at, with_switch, with_curve, OneSwitch, in_range, times_in_range, all_rows}
 use Rattle.rows.specs.Rows.{Row}
 use Rattle.rows.specs.Numbers.{field_count, rows_of, row_in}
-use Rattle.responses.specs.declared.Figures.{Figures}
-use Rattle.responses.specs.Interference.{Load, load, ceiling, least_fixed, largest_fixed}
+use Rattle.responses.specs.declared.Load.{Load}
+use Rattle.responses.specs.Interference.{load, ceiling, least_fixed, largest_fixed}
 use Rattle.responses.specs.Figures.{rows_above, rows_below}
 use Rattle.responses.specs.Figures.{worst_in, best_in, blocking, latest, is_late}
 use Rattle.responses.specs.Figures.{may_hold, earliest, jitter}
-use Rattle.responses.specs.Figures.{margin, is_stable, in_limits, no_figures, figures_of}
+use Rattle.responses.specs.Figures.{margin, is_stable, in_limits, Answered, no_figures, figures_of}
 
 -- k is a / p rounded up: the fewest periods that cover a
 pub record RoundsUp (a p k : ℕ) : Type 0 where
@@ -207,7 +207,7 @@ pub record Demand-2 : Type 0 where
   pub own_curve : OwnCurve
 
 -- ---- what a call that answers a row's figures promises
-pub record FiguresSay (t : Row) (above below : List Row) (x : Figures) : Type 0 where
+pub record FiguresSay (t : Row) (above below : List Row) (x : Answered) : Type 0 where
   pub answer : x ≡ figures_of t above below
   -- demand 2, of these very rows, each with its own switch
   pub by_formulas : in_limits t above below ≡ true → Figured t above below
@@ -226,7 +226,7 @@ pub record FiguresSay (t : Row) (above below : List Row) (x : Figures) : Type 0 
 
 -- and one that takes the rows of an order as numbers, highest first: the figures of row i of n; where the numbers hold
 -- no such row, none
-pub record RowFigures (ns : List ℕ) (n i : ℕ) (x : Figures) : Type 0 where
+pub record RowFigures (ns : List ℕ) (n i : ℕ) (x : Answered) : Type 0 where
   pub held :
       field_count * n ≤ length ns → i < n
       → FiguresSay (row_in ns i) (rows_above (rows_of n ns) i) (rows_below (rows_of n ns) i) x

@@ -1,5 +1,5 @@
 -- The figures of a task between the rows above it and the rows below it.
-use Rattle.std.specs.Prelude.{Bool, true, false, ◌&&◌, not, List, [], ◌∷◌, map, ℕ, suc, ◌+◌, ◌-◌, ◌*◌, eqb, leb, ℤ, pos, length, take, drop}
+use Rattle.std.specs.Prelude.{Bool, ◌&&◌, not, List, [], ◌∷◌, map, ℕ, suc, ◌+◌, ◌-◌, ◌*◌, eqb, leb, ℤ, pos, length, take, drop, Result, Ok, Err}
 use Rattle.std.proofs.Math.IntN.{sub_ℕ}
 use Rattle.std.specs.Int.Signed.{le_z}
 use Rattle.basics.specs.Basics.{pick, larger}
@@ -7,7 +7,10 @@ use Rattle.curves.specs.Curves.{Point, curve_margin}
 use Rattle.rows.specs.Rows.{max_tasks, cost, in_range, all_rows}
 use Rattle.rows.specs.Rows.{Row}
 use Rattle.responses.specs.declared.Figures.{Figures}
-use Rattle.responses.specs.Interference.{Load, load, interference, least_fixed, largest_fixed}
+use Rattle.responses.specs.declared.NoFigures.{NoFigures}
+use Rattle.responses.specs.declared.NoFigures.TheVariants as N
+use Rattle.responses.specs.declared.Load.{Load}
+use Rattle.responses.specs.Interference.{load, interference, least_fixed, largest_fixed}
 
 -- the rows above row i of an order and those below it, all highest first
 abbrev pub rows_above : List Row → ℕ → List Row
@@ -83,34 +86,19 @@ margin t above below = margin_at t (latest t above below) (earliest t above belo
 abbrev pub is_stable : Row → List Row → List Row → Bool
 is_stable t above below = not (is_late t above below) && le_z (pos 0) (margin t above below)
 
--- ---- a row's figures as one answer: of rows out of range or too many, nothing; of a late row, that alone
-abbrev pub no_figures : Figures
-no_figures = record {
-  figured = false;
-  late = false;
-  worst = 0;
-  best = 0;
-  jitter = 0;
-  margin = pos 0;
-  stable = false;
-}
+-- ---- a row's figures as one answer: of rows out of the limits or too many, none; of a late row, that alone
+abbrev pub Answered : Type 0
+Answered = Result Figures NoFigures
 
-abbrev pub late_figures : Figures
-late_figures = record {
-  figured = true;
-  late = true;
-  worst = 0;
-  best = 0;
-  jitter = 0;
-  margin = pos 0;
-  stable = false;
-}
+abbrev pub no_figures : Answered
+no_figures = Err N.OutOfLimits
+
+abbrev pub late_figures : Answered
+late_figures = Err N.Late
 
 -- the figures of responses w and e with margin m
-abbrev pub figures_at : ℕ → ℕ → ℤ → Figures
-figures_at w e m = record {
-  figured = true;
-  late = false;
+abbrev pub figures_at : ℕ → ℕ → ℤ → Answered
+figures_at w e m = Ok record {
   worst = w;
   best = e;
   jitter = w - e;
@@ -119,7 +107,7 @@ figures_at w e m = record {
 }
 
 -- the figures of a row in range between rows in range
-abbrev pub figures_under : Row → List Row → List Row → Figures
+abbrev pub figures_under : Row → List Row → List Row → Answered
 figures_under t above below =
     pick (is_late t above below) late_figures
     (figures_at (latest t above below) (earliest t above below) (margin t above below))
@@ -134,5 +122,5 @@ in_limits t above below =
     in_range t && (all_rows in_range above && (all_rows in_range below && leb (length above + length below) max_others))
 
 -- the answer for any rows
-abbrev pub figures_of : Row → List Row → List Row → Figures
+abbrev pub figures_of : Row → List Row → List Row → Answered
 figures_of t above below = pick (in_limits t above below) (figures_under t above below) no_figures

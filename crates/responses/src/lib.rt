@@ -2,14 +2,31 @@
 // `analysis`.
 #![tactic(auto)]
 
-// Figured: the rows are in the limits of a table. Of a late row nothing else is said.
-#[derive(Clone, Copy)]
+// A task by what counts of it in a window: its period, and the ticks that each of its jobs takes.
+#[derive(Clone, Copy, Debug, PartialEq, Eq)]
+pub struct Load {
+    pub period: u64,
+    pub cost: u64,
+}
+
+impl Load {
+    // No task, which takes nothing.
+    pub const NONE: Load = Load { period: 0, cost: 0 };
+}
+
+// The figures of a row that is in time: times in ticks, the margin in thousandths of a tick.
+#[derive(Clone, Copy, Debug, PartialEq, Eq)]
 pub struct Figures {
-    pub figured: bool,
-    pub late: bool,
     pub worst: u32,
     pub best: u32,
     pub jitter: u32,
     pub margin: i64,
     pub stable: bool,
+}
+
+// Why a row has no figures: the rows are not in the limits of a table, or it is late, of which nothing else is said.
+#[derive(Clone, Copy, Debug, PartialEq, Eq)]
+pub enum NoFigures {
+    OutOfLimits,
+    Late,
 }

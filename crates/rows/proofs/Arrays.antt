@@ -2,9 +2,8 @@
 use mathlib.Core.Path.{◌≡◌, sym, ap, ap₂, ◌∙◌}
 use mathlib.Core.List.{List, [], ◌∷◌, ◌++◌}
 use Prim.Native.Nat.{ℕ, zero, suc, ◌-◌, ◌<◌}
-use native.Mathlib.Omega.{arith}
 use native.Mathlib.Nat.{sub-zero, zero-sub, suc-sub-suc}
-use lib.ListN.{length, get_or, take, drop, set, replicate, length-append}
+use lib.ListN.{length, get_or, take, drop, set, replicate}
 use lib.Seq.{drop-cons, append_snoc, take-append_seam, set-append_seam}
 use Rattle.rows.specs.Rows.{max_tasks}
 use Rattle.rows.specs.inside.Arrays.{padded, ranking, ranked}
@@ -20,20 +19,6 @@ blank_left d (suc n) (suc k) = blank_left d n k ∙ ap (λ m. replicate m d) (sy
 
 pub ranked_are : (tasks : List ℕ) → ranked (ranking tasks) ≡ tasks
 ranked_are tasks = padded_front 0 tasks
-
-module _ {A : Type 0} (d x : A) (xs : List A) (h : length xs < max_tasks) where
-  abbrev left : ℕ
-  left = max_tasks - length (xs ++ (x ∷ []))
-
-  one_less : max_tasks - length xs ≡ suc left
-  one_less = omega (arith, length-append xs (x ∷ []))
-
-  -- one more after those at the front
-  pub padded_next : set (padded d xs) (length xs) x ≡ padded d (xs ++ (x ∷ []))
-  padded_next =
-      ap (λ n. set (xs ++ replicate n d) (length xs) x) one_less
-      ∙ set-append_seam xs d (replicate left d) x
-      ∙ sym (append_snoc xs x (replicate left d))
 
 -- one more written after those at the front of any array
 pub front_next : {A : Type 0} (d : A) (xs ys : List A) (k : ℕ) (x : A) → length xs ≡ k → k < length ys

@@ -4,3 +4,4 @@ pub mod Tasks
 pub mod RowNumbers
 pub mod Putting
 pub mod Arrays
+pub mod LentRows

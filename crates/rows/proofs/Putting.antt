@@ -8,14 +8,17 @@ use native.Mathlib.Decide.{ℕ_discrete}
 use native.Mathlib.Omega.{arith}
 use lib.ListN.{length, get_or, drop, set, length-set, length-map, get_or-map, get_or-append}
 use Rattle.std.proofs.lemmas.List.{get_or_default}
+use borrow.Author.Rules.{rules}
+use borrow.Rule.Slice.PartMut.{put_mid, mid_of}
+use Rattle.std.proofs.lemmas.List.{places}
 use lib.Seq.{get_or-drop, get_or-set_same, get_or-set_other}
 use Rattle.basics.proofs.Tests.{le-or-lt}
 use Rattle.curves.specs.Curves.{max_points}
 use Rattle.curves.proofs.PointNumbers.{points_length}
 use Rattle.rows.specs.declared.Row.{Row as Record}
-use Rattle.rows.specs.Rows.{Row, max_tasks, first_point_at, row_of, row_at}
+use Rattle.rows.specs.Rows.{Row, max_tasks, first_point_at, no_row, row_of, row_at}
 use Rattle.rows.specs.inside.Numbers.{line_count, switch_at, field_count, lines_from, row_in}
-use Rattle.rows.specs.inside.Records.{as_row, as_rows, no_record, numbers_room, CurvePut, FewPoints, RowPut, RowsPut}
+use Rattle.rows.specs.inside.Records.{as_row, as_rows, numbers_room, CurvePut, FewPoints, RowPut, RowsPut}
 use Rattle.rows.proofs.RowNumbers.{lines_same, line_in_lem, switch_in_lem, row_same, rows_are}
 
 -- ---- numbers written one after another, from index at + d on
@@ -48,24 +51,22 @@ written_there ns at d (v ∷ vs) (suc k) fits l =
     rw next (written_there (set ns (at + d) v) at (suc d) vs k
     (omega (arith, length-set ns (at + d) v)) (omega arith))
 
--- ---- a curve's numbers put one after another
-pub curve_none : (ns : List ℕ) (at : ℕ) (curve : List ℕ) → CurvePut ns at curve 0 ns
-curve_none ns at curve = record { there = λ room k h. absurd (omega arith); others = λ j out. refl; long = refl }
-
-pub curve_next : (ns : List ℕ) (at : ℕ) (curve : List ℕ) (n : ℕ) (zs : List ℕ)
-    → CurvePut ns at curve n zs → CurvePut ns at curve (n + 1) (set zs (at + n) (get_or curve n 0))
-curve_next ns at curve n zs put = record {
-  there = λ held k h. elim (ℕ_discrete k n) [
-    | yes e ↦ rw e (get_or-set_same zs (at + n) (get_or curve n 0) 0 (omega (arith, held, put.long)))
-    | no ne ↦
-        get_or-set_other zs (at + n) (at + k) (get_or curve n 0) 0 (λ e. ne (omega (arith, e)))
-        ∙ put.there (omega (arith, held)) k (omega (arith, h, ne))
-  ];
-  others = λ j out.
-      get_or-set_other zs (at + n) j (get_or curve n 0) 0 (out n (omega arith))
-      ∙ put.others j (λ k h. out k (omega (arith, h)));
-  long = length-set zs (at + n) (get_or curve n 0) ∙ put.long;
-}
+-- ---- a curve's numbers put together
+pub curve_put : (ns : List ℕ) (at : ℕ) (curve : List ℕ) (n k : ℕ) (now : List ℕ) → at + n ≤ length ns
+    → n ≡ k → length now ≡ length (mid_of at k ns) → now ≡ curve → CurvePut ns at curve n (put_mid at k ns now)
+curve_put ns at curve n k now fits e many same =
+    let front : length (mid_of at k ns) ≡ k = search (rules, places) in
+    let long : length now ≡ n = omega arith in record {
+      there = λ held k h. search (rules, places);
+      others = λ j out. elim (le-or-lt at j) [
+        | inl past ↦ elim (le-or-lt (at + n) j) [
+          | inl behind ↦ search (rules, places)
+          | inr here ↦ absurd (out (j - at) (omega arith) (omega arith))
+        ]
+        | inr before ↦ search (rules, places)
+      ];
+      long = search (rules, places);
+    }
 
 -- ---- a row put: its nine numbers, and then its curve's
 abbrev own_numbers : Record → List ℕ
@@ -158,14 +159,11 @@ pub record Passed (rows : List Row) (ns₀ : List ℕ) (i : ℕ) (ns : List ℕ)
   pub there : numbers_room ≤ length ns₀ → FewPoints rows → (k : ℕ) → k < i → k < max_tasks
       → row_in ns k ≡ row_at rows k
 
-pub none_passed : (rows : List Row) (ns : List ℕ) → Passed rows ns 0 ns
-none_passed rows ns = record { long = refl; there = λ room few k h. absurd (omega arith) }
-
 pub next_passed : (rs : List Record) (ns₀ : List ℕ) (i : ℕ) (ns zs : List ℕ) (d : Record) → i < length rs
     → Passed (as_rows rs) ns₀ i ns → RowPut ns i (as_row (get_or rs i d)) zs → Passed (as_rows rs) ns₀ (i + 1) zs
 next_passed rs ns₀ i ns zs d l p put =
     let same : as_row (get_or rs i d) ≡ row_at (as_rows rs) i =
-    ap as_row (get_or_default rs i d no_record l) ∙ sym (get_or-map as_row rs i no_record) in record {
+    sym (get_or-map as_row rs i d) ∙ get_or_default (as_rows rs) i (as_row d) no_row (omega (arith, l, length-map rs as_row)) in record {
       long = put.long ∙ p.long;
       there = λ room few. put_next ns zs (as_rows rs) i (omega (arith, room, p.long)) (p.there room few)
           (subst (λ t. RowPut ns i t zs) same put) (few i (omega (arith, l, length-map rs as_row)));

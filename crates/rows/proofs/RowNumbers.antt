@@ -11,8 +11,8 @@ use native.Mathlib.Omega.{arith}
 use lib.Dec.{eqb}
 use borrow.Author.Tests.{eq-eqb, ne_eqb, lt-leb}
 use lib.ListN.{length, get_or, take, drop, length-take, length-drop}
-use lib.ListN.{drop_of_length-le, get_or-append, get_or-eq_default}
-use lib.Seq.{take_all, drop-drop, drop-append-le, length-take-le, take-suc, get_or-take, get_or-drop, ext_get_or}
+use lib.ListN.{get_or-append, get_or-eq_default}
+use lib.Seq.{take_all, drop-drop, drop-append-le, length-take-le, get_or-take, get_or-drop, ext_get_or}
 use Rattle.rows.specs.Rows.{Row}
 use Rattle.curves.specs.Curves.{Point, max_points, orderly, well_formed, points_from}
 use Rattle.curves.proofs.PointNumbers.{points_length, points_same}
@@ -167,20 +167,6 @@ module _ (start : ℕ) (ns : List ℕ) where
   pub between_length : (n : ℕ) → start + n ≤ length ns → length (between start n ns) ≡ n
   between_length n h =
       let all = length-take-le (start + n) ns h in omega (arith, length-drop start (take (start + n) ns))
-
-  pub between_none : between start 0 ns ≡ []
-  between_none =
-      drop_of_length-le (take (start + 0) ns) {i = start} (omega (arith, length-take (start + 0) ns))
-
-  -- one more of them
-  pub between_next : (n : ℕ) → start + n < length ns
-      → between start (suc n) ns ≡ between start n ns ++ (get_or ns (start + n) 0 ∷ [])
-  between_next n h =
-      let one_more : start + suc n ≡ suc (start + n) = omega arith in
-      let front = length-take-le (start + n) ns (omega arith) in
-      ap (λ k. drop start (take k ns)) one_more
-      ∙ ap (drop start) (take-suc ns (start + n) 0 h)
-      ∙ drop-append-le start (take (start + n) ns) (get_or ns (start + n) 0 ∷ []) (omega (arith, front))
 
   pub between_at : (n i : ℕ) → i < n → get_or (between start n ns) i 0 ≡ get_or ns (start + i) 0
   between_at n i h =

@@ -1,4 +1,5 @@
 -- What functions promise each other: nothing here is needed to believe what the public calls promise.
 pub mod Arrays
+pub mod Lent
 pub mod Numbers
 pub mod Records

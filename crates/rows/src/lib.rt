@@ -3,17 +3,18 @@
 
 ghost use Rattle.std.specs.Prelude.{◌≡◌, ◌^◌, ◌<◌, leb};
 ghost use Rattle.rows.specs.Rows.{full_cost, numbers_in_range, row};
-ghost use Rattle.rows.specs.inside.Records.{no_record, recorded, checked};
+ghost use Rattle.rows.specs.inside.Records.{recorded, checked};
 
 use basics::within;
 use curves::{ALLOW_MAX, ALLOW_MIN, DELAY_MAX, DELAY_MIN, POINTS_MAX, POINTS_MIN, well_formed};
+pub use lent::{RowNumbers, cost, in_range, positions_for, rows_from};
 pub use numbers::{
     ALPHA, BEST, BETA, CURVE, FIELDS, FIRST_POINT, HOLD, NUMBERS, PERIOD, POINTS, SWITCH, TASK,
-    WORST, cost_at, has_task, hold_at, in_range_at, is_among, number_at, order_at, positions_for,
-    put_rows,
+    WORST, has_task, is_among, order_at, put_rows,
 };
 
-// numbers.rt: rows and orders as numbers.
+// numbers.rt: rows and orders as numbers. lent.rt: rows as they are lent.
+mod lent;
 mod numbers;
 
 // The most rows of a table. This and `max_tasks` in specs/Rows.antt are the two to change: every room follows from them.
@@ -36,14 +37,7 @@ pub struct Row {
     pub curve: [u64; CURVE],
 }
 
-// What the constructor answers: whether the numbers keep the limits, and the row that they make, or else no row.
-#[derive(Clone, Copy)]
-pub struct Checked {
-    pub in_range: bool,
-    pub row: Row,
-}
-
-// An order, highest rank first: at most MAX_TASKS task numbers and a count.
+// An order, highest rank first: at most MAX_TASKS task numbers and a count, since it goes by value and no heap is used.
 #[derive(Clone, Copy)]
 pub struct Order {
     pub tasks: [u16; MAX_TASKS],
@@ -136,17 +130,14 @@ impl Row {
         switch: u64,
         points: u64,
         curve: [u64; CURVE],
-    ) -> Checked
+    ) -> Option<Row>
         ensures { result ≡ checked (recorded task period worst best alpha beta hold switch points curve) }
     {
         let kept = Row::keeps(task, period, worst, best, alpha, beta, hold, switch);
         if !(kept & well_formed(&curve, points)) {
-            return Checked {
-                in_range: false,
-                row: no_row(),
-            };
+            return None;
         }
-        let row = Row {
+        Some(Row {
             task: task as u32,
             period: period as u32,
             worst: worst as u32,
@@ -157,11 +148,7 @@ impl Row {
             switch: switch as u32,
             points,
             curve,
-        };
-        Checked {
-            in_range: true,
-            row,
-        }
+        })
     }
 }
 
@@ -171,22 +158,4 @@ fn full_cost(worst: u64, switch: u64) -> u64
     ensures { result ≡ full_cost worst switch }
 {
     worst + switch
-}
-
-// What stands past the rows that count.
-fn no_row() -> Row
-    ensures { result ≡ no_record }
-{
-    Row {
-        task: 0,
-        period: 0,
-        worst: 0,
-        best: 0,
-        alpha: 0,
-        beta: 0,
-        hold: 0,
-        switch: 0,
-        points: 0,
-        curve: [0; CURVE],
-    }
 }

@@ -1,33 +1,40 @@
--- Rows lent as numbers: a set that the search is at is a set of the table, which has fewer rows than a byte has values,
--- and each row is held by the numbers and in range.
-use mathlib.Core.Path.{◌≡◌, sym, subst}
+-- Rows that are lent: a set that the search is at is a set of the table, which has fewer rows than a byte has values, and
+-- each row is in range.
+use mathlib.Core.Path.{◌≡◌, sym, ap, ◌∙◌, subst}
 use mathlib.Core.Bool.{true}
 use mathlib.Core.List.{List}
-use Prim.Native.Nat.{ℕ, suc, ◌*◌, ◌^◌, ◌≤◌, ◌<◌}
+use Prim.Native.Nat.{ℕ, ◌^◌, ◌≤◌, ◌<◌}
 use native.Mathlib.Omega.{arith}
 use lib.ListN.{length}
-use Rattle.rows.specs.Rows.{in_range, times_in_range}
-use Rattle.rows.specs.inside.Numbers.{field_count, rows_of, row_in}
-use Rattle.rows.proofs.Limits.{in_range_times}
-use Rattle.rows.proofs.RowNumbers.{rows_length, row_passes}
+use lib.Pow.{pow_mono}
+use Rattle.rows.specs.Rows.{max_buffer, max_tasks, in_range, times_in_range}
+use Rattle.rows.specs.inside.Numbers.{row_from}
+use Rattle.rows.specs.inside.Lent.{table_of, lent_row}
+use Rattle.rows.proofs.Limits.{in_range_times, at_passes}
+use Rattle.rows.proofs.LentRows.{table_at}
+use Rattle.analysis.proofs.Found.{map_long}
 use Rattle.search.specs.inside.Sets.{unknown}
 use Rattle.search.specs.inside.Search.{Lent}
 
-module _ {n : ℕ} {ns : List ℕ} (l : Lent n ns) where
-  pub small : length (rows_of n ns) < unknown
-  small = omega (arith, rows_length n ns, l.few)
+module _ {rows : List (List ℕ)} (l : Lent rows) where
+  pub small : length (table_of rows) < unknown
+  small = omega (arith, l.table.few)
 
-  pub a_set : (m : ℕ) → m < 2 ^ n → m < 2 ^ length (rows_of n ns)
-  a_set m h = subst (λ (k : ℕ). m < 2 ^ k) (sym (rows_length n ns)) h
+  pub a_set : (m : ℕ) → m < 2 ^ length rows → m < 2 ^ length (table_of rows)
+  a_set m h = subst (λ (k : ℕ). m < 2 ^ k) (sym (map_long row_from rows)) h
 
-  pub a_row : (i : ℕ) → i < n → i < length (rows_of n ns)
-  a_row i h = omega (arith, rows_length n ns)
+  pub a_row : (i : ℕ) → i < length rows → i < length (table_of rows)
+  a_row i h = omega (arith, map_long row_from rows)
 
-  pub row_held : (i : ℕ) → i < n → field_count * suc i ≤ length ns
-  row_held i h = omega (arith, l.held)
+  pub few_rows : length rows ≤ max_tasks
+  few_rows = omega (arith, map_long row_from rows, l.table.few)
 
-  pub ranged : (i : ℕ) → i < n → in_range (row_in ns i) ≡ true
-  ranged i h = row_passes in_range ns n i h l.table.is_in_range
+  pub ranged : (i : ℕ) → i < length rows → in_range (lent_row rows i) ≡ true
+  ranged i h = ap in_range (sym (table_at rows i h)) ∙ at_passes in_range (table_of rows) i l.table.is_in_range (a_row i h)
 
-  pub times_ranged : (i : ℕ) → i < n → times_in_range (row_in ns i) ≡ true
-  times_ranged i h = in_range_times (row_in ns i) (ranged i h)
+  pub times_ranged : (i : ℕ) → i < length rows → times_in_range (lent_row rows i) ≡ true
+  times_ranged i h = in_range_times (lent_row rows i) (ranged i h)
+
+-- a record of the sets of k rows has room for those of no more rows
+pub sets_held : {n k : ℕ} → n ≤ k → k ≤ max_tasks → (2 ^ n ≤ 2 ^ k) × (2 ^ k ≤ max_buffer)
+sets_held few most = (pow_mono few, pow_mono most)

@@ -2,15 +2,17 @@
 use mathlib.Core.Path.{◌≡◌, refl, ap, ap₂, sym, ◌∙◌, subst}
 use mathlib.Core.Bool.{Bool, true, false, ◌&&◌, not, and-false}
 use mathlib.Core.List.{List}
-use mathlib.Core.Option.{Option, none}
+use mathlib.Core.Option as Maths
+use mathlib.Core.Option.{none}
 use mathlib.Core.Logic.{inl, inr, ⊎_elim}
 use Prim.Native.Nat.{ℕ, ◌-◌, ◌/◌, ◌%◌, ◌^◌, ◌≤◌, ◌<◌}
 use native.Mathlib.Decide.{ℕ_discrete}
 use native.Mathlib.Omega.{arith}
+use Rattle.std.specs.Prelude as Code
+use Rattle.std.specs.Prelude.{Option, Some, None, unwrap_or}
 use borrow.Author.Tests.{eq-eqb, ne_eqb}
 use lib.Dec.{eqb}
 use lib.ListN.{get_or, set, length, length-set, replicate, length-replicate, get_or-replicate}
-use lib.Pow.{pow_mono}
 use lib.Seq.{get_or-set_same, get_or-set_other}
 use Rattle.rows.specs.Rows.{max_buffer}
 use Rattle.rows.specs.Rows.{Row}
@@ -19,18 +21,16 @@ use Rattle.search.specs.inside.Sets as S
 use Rattle.search.specs.inside.Sets.{has_bit, is_some, unknown, no_order}
 use Rattle.search.proofs.Scan.{at_empty}
 
--- a record of the sets of k rows in which every byte says that its set isn't known, for no more than k rows
-pub fresh : {n k : ℕ} → n ≤ k → 2 ^ k ≤ max_buffer → S.Fresh n (replicate (2 ^ k) unknown)
-fresh {n} {k} few short =
-    let fits : 2 ^ n ≤ 2 ^ k = pow_mono few in
-    record {
-      room = rw (length-replicate {A = ℕ} (2 ^ k) unknown) fits;
-      short = rw (length-replicate {A = ℕ} (2 ^ k) unknown) short;
-      none_known = λ m l. get_or-replicate {A = ℕ} (2 ^ k) m unknown 0 (omega (arith, fits));
-    }
+-- a record in which every byte says that its set isn't known
+pub fresh : {n long : ℕ} → 2 ^ n ≤ long → long ≤ max_buffer → S.Fresh n (replicate long unknown)
+fresh {n} {long} fits short = record {
+  room = rw (length-replicate {A = ℕ} long unknown) fits;
+  short = rw (length-replicate {A = ℕ} long unknown) short;
+  none_known = λ m l. get_or-replicate {A = ℕ} long m unknown 0 (omega (arith, fits));
+}
 
 module _ (test : Row → List Row → List Row → Bool) (table : List Row) where
-  abbrev order_at : ℕ → Option (List Row)
+  abbrev order_at : ℕ → Maths.Option (List Row)
   order_at = S.order_at test table
 
   -- ---- when a row goes lowest
@@ -44,7 +44,7 @@ module _ (test : Row → List Row → List Row → Bool) (table : List Row) wher
     pub goes_none : order_at (m - 2 ^ i) ≡ none → false ≡ S.goes test table m i
     goes_none h =
         let b = S.fits test table m i in
-        sym (ap (λ (o : Option (List Row)). has_bit m i && (b && is_some o)) h
+        sym (ap (λ (o : Maths.Option (List Row)). has_bit m i && (b && is_some o)) h
         ∙ ap (λ (c : Bool). has_bit m i && c) (and-false b) ∙ and-false (has_bit m i))
 
     pub goes_then :
@@ -105,12 +105,19 @@ module _ (test : Row → List Row → List Row → Bool) (table : List Row) wher
             ];
           }
 
-          pub settled_new : S.Settled test table m (set sets m v) (not (eqb v no_order))
-          settled_new = record {
+          written : (found : Bool) → found ≡ is_some (order_at m) → S.Settled test table m (set sets m v) found
+          written found is = record {
             recorded = put;
             there = λ h. rw (get_or-set_same sets m v 0 (omega (arith, rec.room))) s;
-            found_is = says_found m v s;
+            found_is = is;
           }
+
+      -- what was found of set m, written for it
+      pub settled_new : (m : ℕ) (found : Option ℕ) → m < 2 ^ length table → S.LowestFound test table m sets found
+          → S.Settled test table m (set sets m (unwrap_or found no_order)) (Code.is_some found)
+      settled_new m None l h =
+          written m no_order l (inl (refl, h)) (λ low. absurd (omega (arith, low.in_table))) false (sym (ap is_some h))
+      settled_new m (Some i) l h = written m i l (inr h.0) (λ low. h.1) true (sym (ap is_some h.0.order_is))
 
       pub settled_old :
           (m : ℕ) →

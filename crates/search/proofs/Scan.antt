@@ -145,6 +145,10 @@ pub some_of : (o : Option (List Row)) → is_some o ≡ true → (os : List Row)
 some_of none h = absurd (false≢true h)
 some_of (some os) h = (os, refl)
 
+pub none_of : (o : Option (List Row)) → is_some o ≡ false → o ≡ none
+none_of none h = refl
+none_of (some os) h = absurd (true≢false h)
+
 skipped :
     (b : Bool) (o : Option (List Row)) (r : Row) (next : Option (List Row)) →
     (b && is_some o) ≡ false →

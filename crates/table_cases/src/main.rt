@@ -10,7 +10,7 @@ ghost use Rattle.readers.specs.inside.Numbers.{Room, row_start};
 
 use readers::{FEW_NUMBERS, HEAD, MOST_NUMBERS, fits_in, read_table};
 use rows::{FIELDS, FIRST_POINT, POINTS, Row, SWITCH};
-use text::Line;
+use text::line_at;
 
 const STDIN: i32 = 0;
 
@@ -18,13 +18,6 @@ const STDOUT: i32 = 1;
 
 // The most bytes of a text.
 const MAX_TEXT: u64 = 65_536;
-
-// What a stored text is followed by: another at an offset, or nothing that can be read.
-#[derive(Clone, Copy)]
-enum After {
-    Offset(usize),
-    Nothing,
-}
 
 // A number after a space.
 fn print_next(n: u64) {
@@ -34,10 +27,10 @@ fn print_next(n: u64) {
 
 // The numbers from an index up to another.
 fn print_numbers(numbers: &[u64], start: usize, end: usize)
-    requires { end ≤ length numbers.now }
+    requires { (start ≤ end) × (end ≤ length numbers.now) }
 {
-    for i in start..end {
-        print_next(numbers[i]);
+    for n in &numbers[start..end] {
+        print_next(*n);
     }
 }
 
@@ -65,10 +58,8 @@ fn print_table(numbers: &[u64], rows: usize, ranks: usize)
     requires { row_start rows + ranks ≤ length numbers.now }
 {
     print_next(numbers[0]);
-    let mut i = 0;
-    while i < rows {
+    for i in 0..rows {
         print_row(numbers, HEAD + FIELDS * i);
-        i += 1;
     }
     let start = HEAD + FIELDS * rows;
     print_numbers(numbers, start, start + ranks);
@@ -85,12 +76,15 @@ fn rank_lines(ranked: bool, count: usize) -> usize
 fn print_read(text: &[u8], ranked: bool, numbers: &mut [u64])
     requires { Room text.now numbers.old }
 {
-    let reading = read_table(text, ranked, numbers);
-    io::print_decimal(STDOUT, reading.refused as u64);
-    print_next(reading.line as u64);
-    if reading.refused == 0 {
-        let ranks = rank_lines(ranked, reading.count);
-        print_table(numbers, reading.count, ranks);
+    match read_table(text, ranked, numbers) {
+        Ok(count) => {
+            io::write_all(STDOUT, b"0 0");
+            print_table(numbers, count, rank_lines(ranked, count));
+        }
+        Err(refusal) => {
+            io::print_decimal(STDOUT, refusal.number as u64);
+            print_next(refusal.line as u64);
+        }
     }
     io::write_all(STDOUT, b"\n");
 }
@@ -106,26 +100,14 @@ fn print_reading(text: &[u8], ranked: bool) {
     }
 }
 
-// The text at an offset of the input, after its length and whether rank lines are expected.
-fn read_stored(input: &[u8], offset: usize) -> After {
-    let answer = text::line_at(input, offset, 1, b"length=", 0, MAX_TEXT);
-    let Line::Number(length, second) = answer else {
-        return After::Nothing;
-    };
-    let answer = text::line_at(input, second, 2, b"ranked=", 0, 1);
-    let Line::Number(ranked, start) = answer else {
-        return After::Nothing;
-    };
-    let size = length as usize;
-    if input.len() < start {
-        return After::Nothing;
-    }
-    if input.len() - start < size {
-        return After::Nothing;
-    }
-    let end = start + size;
-    print_reading(&input[start..end], ranked == 1);
-    After::Offset(end)
+// The text at an offset of the input, after its length and whether rank lines are expected: the offset behind it.
+fn read_stored(input: &[u8], offset: usize) -> Option<usize> {
+    let length = line_at(input, offset, 1, b"length=", 0, MAX_TEXT).ok()?;
+    let ranked = line_at(input, length.next, 2, b"ranked=", 0, 1).ok()?;
+    let end = ranked.next.checked_add(length.value as usize)?;
+    let text = input.get(ranked.next..end)?;
+    print_reading(text, ranked.value == 1);
+    Some(end)
 }
 
 // Every text of the input; how many there are.
@@ -133,8 +115,7 @@ fn read_all(input: &[u8]) -> u64 {
     let mut offset = 0;
     let mut count: u64 = 0;
     while offset < input.len() {
-        let after = read_stored(input, offset);
-        let After::Offset(next) = after else {
+        let Some(next) = read_stored(input, offset) else {
             return count;
         };
         if next <= offset {

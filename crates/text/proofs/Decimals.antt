@@ -1,14 +1,14 @@
 -- A number in decimal is the number without its last digit, then that digit. So it reads back as its number, has no
 -- more digits than its size calls for, and is the only text that is read as it.
-use Rattle.std.proofs.Common.{◌≡◌, ℕ, zero, suc, ◌+◌, ◌-◌, ◌*◌, ◌/◌, ◌%◌, ◌^◌, ◌<◌, ◌≤◌, true, false, not, ◌&&◌, eqb, ltb, ◌⊎◌, List, [], ◌∷◌, ◌++◌, length, get_or, sym, refl, ap, ◌∙◌, ap₂, inl, inr, append_assoc, append-nil, arith, length-append, ltb-false, ltb-true, le-ltb, lt-ltb, ne_eqb, eqb-true, le-leb}
+use Rattle.std.proofs.Common.{◌≡◌, ℕ, zero, suc, ◌+◌, ◌-◌, ◌*◌, ◌/◌, ◌%◌, ◌^◌, ◌<◌, ◌≤◌, true, false, not, ◌&&◌, eqb, ltb, max, ◌⊎◌, List, [], ◌∷◌, ◌++◌, length, get_or, sym, refl, ap, ◌∙◌, ap₂, inl, inr, append_assoc, append-nil, arith, length-append, ltb-false, ltb-true, le-ltb, lt-ltb, ne_eqb, eqb-true, le-leb}
 use mathlib.Core.Bool.{and-false}
+use Rattle.std.proofs.lemmas.List.{nil_from_length}
 use native.Mathlib.Nat.{pow-succ', one-le-pow}
 use lib.ListN.{get_or-append}
 use borrow.Author.Tests.{eqb-false, not-true}
 use Rattle.basics.specs.Basics.{pick, within}
-use Rattle.basics.proofs.Tests.{test_of, and_left, and_right, within_true, true_within}
-use Rattle.text.specs.declared.Digits.{Digits}
-use Rattle.text.specs.declared.Digits.TheVariants.{Value, Malformed}
+use Rattle.basics.proofs.Tests.{test_of, le-or-lt, and_left, and_right, within_true, true_within}
+use Rattle.std.specs.Prelude.{Option, Some, None}
 use Rattle.text.specs.Text.{digit_zero, digit_nine, digits, decimal}
 use Rattle.text.specs.Lines.{max_digits, digits_from, well_formed, number_of}
 use Rattle.text.specs.Claims.{Numerals}
@@ -77,27 +77,27 @@ decimal_short = by_digits (λ v. (k : ℕ) → v < 10 ^ suc k → length (decima
         omega (arith, decimal_longer v h, ih k (omega (arith, pow-succ' 10 (suc k))))
 
 -- ---- it reads back
-read_on : (v : ℕ) (s : List ℕ) (n d : ℕ) → d < 10 → digits_from v s ≡ Value n
-    → digits_from v (s ++ ((digit_zero + d) ∷ [])) ≡ Value (10 * n + d)
+read_on : (v : ℕ) (s : List ℕ) (n d : ℕ) → d < 10 → digits_from v s ≡ Some n
+    → digits_from v (s ++ ((digit_zero + d) ∷ [])) ≡ Some (10 * n + d)
 read_on v [] n d h e =
     let same : v ≡ n = cc in
     rw (true_within digit_zero digit_nine (digit_zero + d) (omega arith) (omega arith), digits_from)
-    (ap Value (omega arith))
+    (ap Some (omega arith))
 read_on v (b ∷ s) n d h e =
     elim (test_of (within digit_zero digit_nine b)) [
       | inl t ↦ rw (t, digits_from) (read_on (10 * v + (b - digit_zero)) s n d h (rw (t, digits_from) at e))
       | inr t ↦
-          let z : Malformed ≡ Value n = rw (t, digits_from) at e in
+          let z : None ≡ Some n = rw (t, digits_from) at e in
           let o : ◌≡◌ {A = ℕ} 0 1 = cc in
           absurd (omega arith)
     ]
 
-pub decimal_reads : (v : ℕ) → digits_from 0 (decimal v) ≡ Value v
-decimal_reads = by_digits (λ v. digits_from 0 (decimal v) ≡ Value v)
-    (λ v h. rw (decimal_one v h) (read_on 0 [] 0 (v % 10) (omega arith) refl ∙ ap Value (omega arith)))
+pub decimal_reads : (v : ℕ) → digits_from 0 (decimal v) ≡ Some v
+decimal_reads = by_digits (λ v. digits_from 0 (decimal v) ≡ Some v)
+    (λ v h. rw (decimal_one v h) (read_on 0 [] 0 (v % 10) (omega arith) refl ∙ ap Some (omega arith)))
     (λ v h ih.
     rw (decimal_more v h)
-    (read_on 0 (decimal (v / 10)) (v / 10) (v % 10) (omega arith) ih ∙ ap Value (omega arith)))
+    (read_on 0 (decimal (v / 10)) (v / 10) (v % 10) (omega arith) ih ∙ ap Some (omega arith)))
 
 -- ---- no leading zero
 pub decimal_leads : (v : ℕ) → 1 ≤ v → get_or (decimal v) 0 0 ≡ digit_zero → ⊥
@@ -119,9 +119,9 @@ decimal_formed v h =
           )
     ]
 
-pub decimal_number : (v : ℕ) → v < 10 ^ max_digits → number_of (decimal v) ≡ Value v
+pub decimal_number : (v : ℕ) → v < 10 ^ max_digits → number_of (decimal v) ≡ Some v
 unfolding number_of
-decimal_number v h = ap (λ b. pick b (digits_from 0 (decimal v)) Malformed) (decimal_formed v h) ∙ decimal_reads v
+decimal_number v h = ap (λ b. pick b (digits_from 0 (decimal v)) None) (decimal_formed v h) ∙ decimal_reads v
 
 -- ---- nothing else is read as a number
 -- one digit more
@@ -133,7 +133,7 @@ decimal_next v d h l =
     decimal_more x (omega arith) ∙ ap₂ (λ n k. decimal n ++ ((digit_zero + k) ∷ [])) tens ones
 
 -- digits after those of v
-read_digits : (s : List ℕ) (v n : ℕ) → 1 ≤ v → digits_from v s ≡ Value n → decimal n ≡ decimal v ++ s
+read_digits : (s : List ℕ) (v n : ℕ) → 1 ≤ v → digits_from v s ≡ Some n → decimal n ≡ decimal v ++ s
 read_digits [] v n h e = let same : v ≡ n = cc in ap decimal (sym same) ∙ sym (append-nil (decimal v))
 read_digits (b ∷ s) v n h e =
     elim (test_of (within digit_zero digit_nine b)) [
@@ -149,13 +149,13 @@ read_digits (b ∷ s) v n h e =
           ∙ append_assoc (decimal v) ((digit_zero + d) ∷ []) s
           ∙ ap (λ x. decimal v ++ (x ∷ s)) byte
       | inr t ↦
-          let z : Malformed ≡ Value n = rw (t, digits_from) at e in
+          let z : None ≡ Some n = rw (t, digits_from) at e in
           let o : ◌≡◌ {A = ℕ} 0 1 = cc in
           absurd (omega arith)
     ]
 
 -- a number of at most k digits is below 10 to the power k
-decimal_below : (v k : ℕ) → length (decimal v) ≤ k → v < 10 ^ k
+pub decimal_below : (v k : ℕ) → length (decimal v) ≤ k → v < 10 ^ k
 decimal_below = by_digits (λ v. (k : ℕ) → length (decimal v) ≤ k → v < 10 ^ k)
     one
     more
@@ -172,8 +172,21 @@ decimal_below = by_digits (λ v. (k : ℕ) → length (decimal v) ≤ k → v < 
         let long = decimal_longer v h in
         omega (arith, ih k (omega arith), pow-succ' 10 k)
 
+-- so its digits are one more than the power of 10 that it reaches
+pub decimal_places : (v k : ℕ) → 10 ^ k ≤ max v 1 → max v 1 < 10 * 10 ^ k → k + 1 ≡ length (decimal v)
+decimal_places v k low high =
+    let short = decimal_short v k (omega (arith, pow-succ' 10 k)) in
+    elim (le-or-lt (length (decimal v)) k) [
+      | inl few ↦ absurd (none k few low)
+      | inr many ↦ omega (arith, many)
+    ]
+  where
+    none : (j : ℕ) → length (decimal v) ≤ j → 10 ^ j ≤ max v 1 → ⊥
+    none zero few l = omega (arith, decimal_some v)
+    none (suc j) few l = omega (arith, decimal_below v (suc j) few, pow-succ' 10 j, one-le-pow j 10 (omega arith))
+
 -- digits with no leading zero, or 0 itself
-spelled : (s : List ℕ) (v : ℕ) → well_formed s ≡ true → digits_from 0 s ≡ Value v → s ≡ decimal v
+spelled : (s : List ℕ) (v : ℕ) → well_formed s ≡ true → digits_from 0 s ≡ Some v → s ≡ decimal v
 spelled [] v f e = absurd (let z : false ≡ true = f in let o : ◌≡◌ {A = ℕ} 0 1 = cc in omega arith)
 spelled (b ∷ s) v f e =
     elim (test_of (within digit_zero digit_nine b)) [
@@ -182,12 +195,12 @@ spelled (b ∷ s) v f e =
           let low = w.low_le in
           let high = w.le_high in
           let d = b - digit_zero in
-          let on : digits_from (10 * 0 + d) s ≡ Value v = rw (t, digits_from) at e in
+          let on : digits_from (10 * 0 + d) s ≡ Some v = rw (t, digits_from) at e in
           elim (test_of (eqb b digit_zero)) [
             | inl z ↦ (
                 let zero_byte = eqb-true b digit_zero z in
                 let alone : length s ≡ 0 = lone z in
-                zero_alone zero_byte (no_bytes s alone) on)
+                zero_alone zero_byte (nil_from_length s alone) on)
             | inr n ↦ (
                 let some = eqb-false b digit_zero n in
                 let one : decimal (10 * 0 + d) ≡ b ∷ [] =
@@ -195,7 +208,7 @@ spelled (b ∷ s) v f e =
                 sym (read_digits s (10 * 0 + d) v (omega arith) on ∙ ap (λ l. l ++ s) one))
           ]
       | inr t ↦
-          let z : Malformed ≡ Value v = rw (t, digits_from) at e in
+          let z : None ≡ Some v = rw (t, digits_from) at e in
           let o : ◌≡◌ {A = ℕ} 0 1 = cc in
           absurd (omega arith)
     ]
@@ -207,29 +220,25 @@ spelled (b ∷ s) v f e =
         let short : ltb 1 (suc (length s)) ≡ false = rw z at no_lead in
         omega (arith, ltb-false 1 (suc (length s)) short)
 
-    no_bytes : (l : List ℕ) → length l ≡ 0 → l ≡ []
-    no_bytes [] h = refl
-    no_bytes (x ∷ l) h = absurd (omega arith)
-
-    zero_alone : b ≡ digit_zero → s ≡ [] → digits_from (10 * 0 + (b - digit_zero)) s ≡ Value v → b ∷ s ≡ decimal v
+    zero_alone : b ≡ digit_zero → s ≡ [] → digits_from (10 * 0 + (b - digit_zero)) s ≡ Some v → b ∷ s ≡ decimal v
     zero_alone z n on =
-        let same : Value (10 * 0 + (b - digit_zero)) ≡ Value v = rw n at on in
+        let same : Some (10 * 0 + (b - digit_zero)) ≡ Some v = rw n at on in
         let v_is : 10 * 0 + (b - digit_zero) ≡ v = cc in
         let v_zero : v ≡ 0 = omega arith in
         rw (z, n, v_zero) (sym (decimal_one 0 (omega arith)))
 
-pub number_decimal : (s : List ℕ) (v : ℕ) → number_of s ≡ Value v → (s ≡ decimal v) × (v < 10 ^ max_digits)
+pub number_decimal : (s : List ℕ) (v : ℕ) → number_of s ≡ Some v → (s ≡ decimal v) × (v < 10 ^ max_digits)
 unfolding number_of
 number_decimal s v e =
     elim (test_of (well_formed s)) [
       | inl f ↦
-          let reads : digits_from 0 s ≡ Value v = sym (ap (λ b. pick b (digits_from 0 s) Malformed) f) ∙ e in
+          let reads : digits_from 0 s ≡ Some v = sym (ap (λ b. pick b (digits_from 0 s) None) f) ∙ e in
           let is = spelled s v f reads in
           let few = within_true 1 max_digits (length s) (and_left (within 1 max_digits (length s)) _ f) in
           let long : length (decimal v) ≡ length s = ap length (sym is) in
           (is, decimal_below v max_digits (omega (arith, few.le_high)))
       | inr f ↦
-          let z : Malformed ≡ Value v = sym (ap (λ b. pick b (digits_from 0 s) Malformed) f) ∙ e in
+          let z : None ≡ Some v = sym (ap (λ b. pick b (digits_from 0 s) None) f) ∙ e in
           let o : ◌≡◌ {A = ℕ} 0 1 = cc in
           absurd (omega arith)
     ]
@@ -242,7 +251,7 @@ pub numeral_or_not : (s : List ℕ)
     → ((v : ℕ) × (s ≡ decimal v) × (v < 10 ^ max_digits)) ⊎ ((v : ℕ) → v < 10 ^ max_digits → s ≡ decimal v → ⊥)
 numeral_or_not s = go (number_of s) refl
   where
-    go : (d : Digits) → number_of s ≡ d
+    go : (d : Option ℕ) → number_of s ≡ d
         → ((v : ℕ) × (s ≡ decimal v) × (v < 10 ^ max_digits)) ⊎ ((v : ℕ) → v < 10 ^ max_digits → s ≡ decimal v → ⊥)
-    go (Value v) e = let n = number_decimal s v e in inl (v, n.0, n.1)
-    go Malformed e = inr (λ v few is. let z : ◌≡◌ {A = ℕ} 0 1 = cc (decimal_number v few) in omega arith)
+    go (Some v) e = let n = number_decimal s v e in inl (v, n.0, n.1)
+    go None e = inr (λ v few is. let z : ◌≡◌ {A = ℕ} 0 1 = cc (decimal_number v few) in omega arith)

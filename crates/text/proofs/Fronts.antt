@@ -1,43 +1,39 @@
 -- The digits at the front of a text: they have no line feed, so the first line begins with them; and it is a number
 -- only where it is nothing else.
 use Rattle.std.proofs.Common.{◌≡◌, ℕ, zero, suc, ◌+◌, ◌-◌, ◌*◌, ◌%◌, ◌^◌, ◌<◌, ◌≤◌, Bool, true, false, List, [], ◌∷◌, ◌++◌, length, get_or, take, drop, sym, refl, ap, ◌∙◌, inl, inr, append-nil, arith, length-append, length-take-le, get_or-take, take-suc, ne_eqb, le-leb}
+use Rattle.std.proofs.lemmas.List.{nil_from_length}
 use native.Mathlib.Nat.{pow-le-pow_right}
 use borrow.Author.Tests.{lt-leb}
 use Rattle.basics.specs.Basics.{pick, within}
 use Rattle.basics.proofs.Tests.{test_of, within_true, true_within, le-or-lt}
 use Rattle.text.specs.Text.{line_feed, digit_zero, digit_nine}
-use Rattle.text.specs.declared.Digits.{Digits}
-use Rattle.text.specs.declared.Digits.TheVariants.{Value, Malformed}
+use Rattle.std.specs.Prelude.{Option, Some, None}
 use Rattle.text.specs.declared.Front.{Front}
 use Rattle.text.specs.Lines.{max_digits, line_of, digits_from, well_formed, number_of}
 use Rattle.text.specs.inside.Fronts.{Passed, Fronts}
 use Rattle.text.proofs.Scans.{line_ends, line_goes_on, number_empty, number_long, number_leads, number_starts}
 use Rattle.text.proofs.Scans.{number_single}
 
-no_number : {A : Type 0} {w : ℕ} → Malformed ≡ Value w → A
+no_number : {A : Type 0} {w : ℕ} → None ≡ Some w → A
 no_number e = absurd (let z : ◌≡◌ {A = ℕ} 0 1 = cc in omega arith)
 
-malformed : (s : List ℕ) → digits_from 0 s ≡ Malformed → number_of s ≡ Malformed
+malformed : (s : List ℕ) → digits_from 0 s ≡ None → number_of s ≡ None
 unfolding number_of
-malformed s e = ap (λ (d : Digits). pick (well_formed s) d Malformed) e ∙ either (well_formed s)
+malformed s e = ap (λ (d : Option ℕ). pick (well_formed s) d None) e ∙ either (well_formed s)
   where
-    either : (b : Bool) → pick b Malformed Malformed ≡ Malformed
+    either : (b : Bool) → pick {A = Option ℕ} b None None ≡ None
     either true = refl
     either false = refl
 
-empty : (xs : List ℕ) → length xs ≡ 0 → xs ≡ []
-empty [] h = refl
-empty (x ∷ xs) h = absurd (omega arith)
-
 -- ---- digits and what follows them
-pub digits_append : (v w : ℕ) (xs ys : List ℕ) → digits_from v xs ≡ Value w → digits_from v (xs ++ ys) ≡ digits_from w ys
+pub digits_append : (v w : ℕ) (xs ys : List ℕ) → digits_from v xs ≡ Some w → digits_from v (xs ++ ys) ≡ digits_from w ys
 digits_append v w [] ys e = let is : v ≡ w = cc in ap (λ (u : ℕ). digits_from u ys) is
 digits_append v w (x ∷ xs) ys e = elim (test_of (within digit_zero digit_nine x)) [
   | inl t ↦ rw (t, digits_from) (digits_append (10 * v + (x - digit_zero)) w xs ys (rw (t, digits_from) at e))
   | inr t ↦ no_number (rw (t, digits_from) at e)
 ]
 
-pub digits_line : (k v w : ℕ) (s : List ℕ) → digits_from v (take k s) ≡ Value w
+pub digits_line : (k v w : ℕ) (s : List ℕ) → digits_from v (take k s) ≡ Some w
     → line_of s ≡ take k s ++ line_of (drop k s)
 digits_line zero v w s e = refl
 digits_line (suc k) v w [] e = refl
@@ -64,13 +60,13 @@ no_digit b d e h l = elim (le-or-lt (2 ^ 64 - digit_zero) d) [
 ]
 
 -- one digit more
-pub digits-next : (s : List ℕ) (i w d : ℕ) → i < length s → digits_from 0 (take i s) ≡ Value w
-    → get_or s i 0 ≡ digit_zero + d → d ≤ 9 → digits_from 0 (take (suc i) s) ≡ Value (10 * w + d)
+pub digits-next : (s : List ℕ) (i w d : ℕ) → i < length s → digits_from 0 (take i s) ≡ Some w
+    → get_or s i 0 ≡ digit_zero + d → d ≤ 9 → digits_from 0 (take (suc i) s) ≡ Some (10 * w + d)
 digits-next s i w d h e is l =
     ap (digits_from 0) (take-suc s i 0 h)
     ∙ digits_append 0 w (take i s) (get_or s i 0 ∷ []) e
     ∙ rw (is, true_within digit_zero digit_nine (digit_zero + d) (omega arith) (omega arith), digits_from)
-    (ap Value (omega arith))
+    (ap Some (omega arith))
 
 -- so the number behind it is held, as long as there are no more digits than a number has
 pub passed_next : {s : List ℕ} {i v : ℕ} (p : Passed s i v) (d w : ℕ) → i < length s → get_or s i 0 ≡ digit_zero + d
@@ -108,7 +104,7 @@ module _ {s : List ℕ} {r : Front} (f : Fronts s r) where
 
   -- a line that goes on behind them is no number
   pub no_feed_there : (r.size < length s → get_or s r.size 0 ≡ line_feed → ⊥) → length (line_of s) < length s
-      → number_of (line_of s) ≡ Malformed
+      → number_of (line_of s) ≡ None
   no_feed_there n h =
       let k = r.size in
       let inside : k < length s = omega (arith, line_long) in
@@ -121,22 +117,22 @@ module _ {s : List ℕ} {r : Front} (f : Fronts s r) where
       ∙ rw (f.stopped inside, digits_from))
 
   module _ (whole : length (line_of s) ≡ r.size) where
-    pub too_long : max_digits < r.size → number_of (line_of s) ≡ Malformed
+    pub too_long : max_digits < r.size → number_of (line_of s) ≡ None
     too_long h = number_long (line_of s) (omega (arith, whole))
 
     line_is : line_of s ≡ take r.size s
     line_is =
         let none : line_of (drop r.size s) ≡ [] =
-        empty (line_of (drop r.size s)) (omega (arith, whole, line_long)) in
+        nil_from_length (line_of (drop r.size s)) (omega (arith, whole, line_long)) in
         front_line ∙ ap (λ (l : List ℕ). take r.size s ++ l) none ∙ append-nil (take r.size s)
 
-    pub no_digits : r.size < 1 → number_of (line_of s) ≡ Malformed
+    pub no_digits : r.size < 1 → number_of (line_of s) ≡ None
     no_digits h = number_empty (line_of s) (omega (arith, whole))
 
     first-is : 1 ≤ r.size → get_or (line_of s) 0 0 ≡ get_or s 0 0
     first-is h = ap (λ (l : List ℕ). get_or l 0 0) line_is ∙ get_or-take r.size s 0 0 (omega arith)
 
-    pub leading_zero : get_or s 0 0 ≡ digit_zero → 1 < r.size → number_of (line_of s) ≡ Malformed
+    pub leading_zero : get_or s 0 0 ≡ digit_zero → 1 < r.size → number_of (line_of s) ≡ None
     leading_zero e h = elim (le-or-lt r.size max_digits) [
       | inl few ↦
           number_leads (line_of s) (omega (arith, whole)) (omega (arith, whole)) (first-is (omega arith) ∙ e)
@@ -144,14 +140,14 @@ module _ {s : List ℕ} {r : Front} (f : Fronts s r) where
       | inr many ↦ too_long many
     ]
 
-    pub single_digit : 1 ≤ r.size → r.size ≤ 1 → number_of (line_of s) ≡ Value r.value
+    pub single_digit : 1 ≤ r.size → r.size ≤ 1 → number_of (line_of s) ≡ Some r.value
     single_digit h l =
         number_single (line_of s) (omega (arith, whole)) (omega (arith, whole)) (omega (arith, whole))
-        ∙ ap (digits_from 0) line_is ∙ f.passed.digits ∙ ap Value (sym (f.passed.held (omega arith)))
+        ∙ ap (digits_from 0) line_is ∙ f.passed.digits ∙ ap Some (sym (f.passed.held (omega arith)))
 
     pub other_digit : 1 ≤ r.size → r.size ≤ max_digits → (get_or s 0 0 ≡ digit_zero → ⊥)
-        → number_of (line_of s) ≡ Value r.value
+        → number_of (line_of s) ≡ Some r.value
     other_digit h few n =
         number_starts (line_of s) (omega (arith, whole)) (omega (arith, whole))
         (λ e. n (sym (first-is h) ∙ e))
-        ∙ ap (digits_from 0) line_is ∙ f.passed.digits ∙ ap Value (sym (f.passed.held (omega arith)))
+        ∙ ap (digits_from 0) line_is ∙ f.passed.digits ∙ ap Some (sym (f.passed.held (omega arith)))

@@ -5,3 +5,4 @@ pub mod Spelling
 pub mod Puts
 pub mod Scans
 pub mod Fronts
+pub mod Behind

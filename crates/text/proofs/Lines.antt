@@ -6,10 +6,9 @@ use lib.Seq.{drop-append_seam}
 use Rattle.basics.specs.Basics.{pick, within, is_in}
 use Rattle.basics.proofs.Tests.{test_of, true_not_false, false_of, and_left, and_right, and_both, or_neither}
 use Rattle.basics.proofs.Tests.{never, eqb_swap, in_append}
-use Rattle.text.specs.declared.Digits.{Digits}
-use Rattle.text.specs.declared.Digits.TheVariants.{Value, Malformed}
-use Rattle.text.specs.declared.Line.{Line}
-use Rattle.text.specs.declared.Line.TheVariants as L
+use Rattle.std.specs.Prelude.{Option, Some, None}
+use Rattle.text.specs.Line.{Line}
+use Rattle.text.specs.Line as L
 use Rattle.text.specs.Text.{line_feed, digit_zero, decimal, key_line}
 use Rattle.text.specs.Lines.{max_digits, line_of, begins, number_of, ranged, line_at}
 use Rattle.text.proofs.Decimals.{last, decimal_one, decimal_more, by_digits, decimal_number, number_decimal}
@@ -141,12 +140,12 @@ module _ (key : List ℕ) (no_feed : is_in line_feed key ≡ false) where
         | inr e ↦ nothing (λ value rest is. true_not_false (keyed key s) (ap (keyed key) is ∙ keyed_line value rest) e)
       ]
     where
-      told : (d : Digits) → number_of (value_in key s) ≡ d → s ≡ key_line key (value_in key s) ++ rest_after s
+      told : (d : Option ℕ) → number_of (value_in key s) ≡ d → s ≡ key_line key (value_in key s) ++ rest_after s
           → is_in line_feed (value_in key s) ≡ false → Says key s
-      told (Value v) d is h =
+      told (Some v) d is h =
           let n = number_decimal (value_in key s) v d in
           number v (rest_after s) (is ∙ ap (λ x. key_line key x ++ rest_after s) n.0) n.1
-      told Malformed d is h =
+      told None d is h =
           no_number (value_in key s) (rest_after s) is h
           (λ v b e. let z : ◌≡◌ {A = ℕ} 0 1 = cc (decimal_number v b) in omega arith)
 
@@ -177,9 +176,9 @@ module _ (key : List ℕ) (no_feed : is_in line_feed key ≡ false) where
           line_holds h
           ∙ ap (λ d. ranged d low high k (at + length (key_line key value))) (unread (number_of value) refl)
         where
-          unread : (d : Digits) → number_of value ≡ d → number_of value ≡ Malformed
-          unread (Value v) e = let n = number_decimal value v e in absurd (none v n.1 n.0)
-          unread Malformed e = e
+          unread : (d : Option ℕ) → number_of value ≡ d → number_of value ≡ None
+          unread (Some v) e = let n = number_decimal value v e in absurd (none v n.1 n.0)
+          unread None e = e
 
     module _ (v : ℕ) (rest : List ℕ) (is : drop at text ≡ key_line key (decimal v) ++ rest)
         (few : v < 10 ^ max_digits) where
@@ -228,7 +227,7 @@ module _ (key : List ℕ) (no_feed : is_in line_feed key ≡ false) where
             let value-is : value ≡ line_of s = l ∙ ap line_of tail_is in
             omega (arith, line_ended other after, ap length tail_is, ap length value-is))
 
-        pub ended_ranged : begins key rest ≡ true → length value < length tail → (d : Digits) → number_of value ≡ d
+        pub ended_ranged : begins key rest ≡ true → length value < length tail → (d : Option ℕ) → number_of value ≡ d
             → line_at key low high text at k ≡ ranged d low high k (at + suc (length key + length value))
         ended_ranged b h d n =
             let after = rest_after tail in
@@ -261,14 +260,14 @@ line_answers key low high text at k =
       | inr e ↦ rw e (refuses 0)
     ]
   where
-    ranged_answers : (d : Digits) (next : ℕ) → at < next → next ≤ length text
+    ranged_answers : (d : Option ℕ) (next : ℕ) → at < next → next ≤ length text
         → Answers low high text at k (ranged d low high k next)
-    ranged_answers Malformed next h l = refuses 1
-    ranged_answers (Value v) next h l =
+    ranged_answers None next h l = refuses 1
+    ranged_answers (Some v) next h l =
         elim (test_of (within low high v)) [ inl e ↦ rw e (tells v next e h l) | inr e ↦ rw e (refuses 2) ]
 
 -- ---- a line that answers a number has its key, a digit and a line feed at least, and they stand in the text
-numeral_some : (s : List ℕ) (v : ℕ) → number_of s ≡ Value v → 1 ≤ length s
+numeral_some : (s : List ℕ) (v : ℕ) → number_of s ≡ Some v → 1 ≤ length s
 unfolding number_of
 numeral_some [] v e = let z : ◌≡◌ {A = ℕ} 0 1 = cc in absurd (omega arith)
 numeral_some (b ∷ s) v e = omega arith
@@ -301,11 +300,11 @@ module _ (key : List ℕ) (low high : ℕ) (text : List ℕ) (at k v next : ℕ)
             absurd (omega arith)
       ]
     where
-      told_next : (d : Digits) → number_of value ≡ d
+      told_next : (d : Option ℕ) → number_of value ≡ d
           → ranged d low high k (at + suc (length here)) ≡ L.Number v next
           → (at + suc (length here) ≡ next) × (1 ≤ length value)
-      told_next Malformed n h = let z : ◌≡◌ {A = ℕ} 0 1 = cc in absurd (omega arith)
-      told_next (Value u) n h =
+      told_next None n h = let z : ◌≡◌ {A = ℕ} 0 1 = cc in absurd (omega arith)
+      told_next (Some u) n h =
           let some = numeral_some value u n in
           elim (test_of (within low high u)) [
             | inl w ↦

@@ -81,6 +81,12 @@ module _
           same = same ∙ g.same;
         }
 
+-- the same between its two facts, so that a row of calls reads from left to right
+infixl 20 ◌▷◌
+pub ◌▷◌ : {all : List (List ℕ)} {t : List ℕ} {ts : List (List ℕ)} {at : ℕ} {o : List ℕ} {m : ℕ} {o₁ o₂ : List ℕ} {n : ℕ}
+    → Going all (t ∷ ts) at o m o₁ → Put t m o₁ o₂ n → Going all ts at o n o₂
+◌▷◌ g p = next g p
+
 pub ends : {all : List (List ℕ)} {at m : ℕ} {o o₁ : List ℕ} → Going all [] at o m o₁ → Put (joined all) at o o₁ m
 ends {m = m} {o₁ = o₁} g = g.ending record { ends = sym (add-zero m); holds = sym (nothing_is m o₁) }
 

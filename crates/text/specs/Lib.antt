@@ -1,5 +1,6 @@
 -- Text as bytes: numbers and lines, written and read; inside, a text put at an offset.
 pub mod Text
+pub mod Line
 pub mod Lines
 pub mod Buffers
 pub mod Claims

@@ -1,11 +1,11 @@
 -- One line of a text: a key, a number and a line feed, and what its reading answers.
-use Rattle.std.specs.Prelude.{ℕ, suc, ◌+◌, ◌-◌, ◌*◌, Bool, true, false, not, ◌&&◌, List, [], ◌∷◌, length, drop, ◌==◌, nat_lt, slice_index}
+use Rattle.std.specs.Prelude.{ℕ, suc, ◌+◌, ◌-◌, ◌*◌, Bool, true, false, not, ◌&&◌, List, [], ◌∷◌, length, drop, ◌==◌, nat_lt, slice_index, Option, Some, None, Result, Ok, Err}
 use Rattle.basics.specs.Basics.{pick, within}
 use Rattle.text.specs.Text.{line_feed, digit_zero, digit_nine}
-use Rattle.text.specs.declared.Digits.{Digits}
-use Rattle.text.specs.declared.Digits.TheVariants.{Value, Malformed}
-use Rattle.text.specs.declared.Line.{Line}
-use Rattle.text.specs.declared.Line.TheVariants as L
+use Rattle.text.specs.declared.LineRefusal.{LineRefusal}
+use Rattle.text.specs.declared.Number.{Number}
+use Rattle.text.specs.Line.{Line}
+use Rattle.text.specs.Line as L
 
 -- a number's digits: 1 to 12
 abbrev pub max_digits : ℕ
@@ -23,17 +23,17 @@ begins (x ∷ key) [] = false
 begins (x ∷ key) (y ∷ s) = x == y && begins key s
 
 -- decimal digits after those that make v
-abbrev pub digits_from : ℕ → List ℕ → Digits
-digits_from v [] = Value v
+abbrev pub digits_from : ℕ → List ℕ → Option ℕ
+digits_from v [] = Some v
 digits_from v (b ∷ s) =
-    elim (within digit_zero digit_nine b) [ true ↦ digits_from (10 * v + (b - digit_zero)) s | false ↦ Malformed ]
+    elim (within digit_zero digit_nine b) [ true ↦ digits_from (10 * v + (b - digit_zero)) s | false ↦ None ]
 
 -- 1 to 12 digits, no leading zero unless the number is 0 itself
 abbrev pub well_formed : List ℕ → Bool
 well_formed s = within 1 max_digits (length s) && not (slice_index s 0 == digit_zero && nat_lt 1 (length s))
 
-unfoldable pub number_of : List ℕ → Digits
-number_of s = pick (well_formed s) (digits_from 0 s) Malformed
+unfoldable pub number_of : List ℕ → Option ℕ
+number_of s = pick (well_formed s) (digits_from 0 s) None
 
 -- the refusals that every line may meet: there is no such line, no number in it, or none in its range
 abbrev pub missing : ℕ
@@ -46,9 +46,9 @@ abbrev pub out_of_range : ℕ
 out_of_range = 3
 
 -- a number in its range, with the offset after its line
-abbrev pub ranged : Digits → ℕ → ℕ → ℕ → ℕ → Line
-ranged Malformed low high k next = L.Refused malformed k
-ranged (Value v) low high k next = pick (within low high v) (L.Number v next) (L.Refused out_of_range k)
+abbrev pub ranged : Option ℕ → ℕ → ℕ → ℕ → ℕ → Line
+ranged None low high k next = L.Refused malformed k
+ranged (Some v) low high k next = pick (within low high v) (L.Number v next) (L.Refused out_of_range k)
 
 -- the line k that begins at an offset of a text
 unfoldable pub line_at : List ℕ → ℕ → ℕ → List ℕ → ℕ → ℕ → Line
@@ -75,3 +75,17 @@ abbrev pub place : Line → ℕ
 place (L.Number v next) = 0
 place L.End = 0
 place (L.Refused n k) = k
+
+-- ---- a call's result as such an answer
+abbrev pub refused : LineRefusal → Line
+refused r = L.Refused r.number r.line
+
+-- of a line with a number
+abbrev pub told : Result Number LineRefusal → Line
+told (Ok n) = L.Number n.value n.next
+told (Err r) = refused r
+
+-- of the end
+abbrev pub told_end : Result (Unit {0}) LineRefusal → Line
+told_end (Ok u) = L.End
+told_end (Err r) = refused r

@@ -1,5 +1,5 @@
 // Text out: each writer puts its text at an offset of a lent buffer and says where the text ends.
-ghost use Rattle.std.specs.Prelude.{◌≡◌, ◌+◌, ◌<◌, ◌≤◌, length, unsigned_abs};
+ghost use Rattle.std.specs.Prelude.{◌≡◌, ℕ, ◌+◌, ◌<◌, ◌≤◌, List, length};
 ghost use Rattle.text.specs.Text.{digit_zero, decimal, signed, key_line};
 ghost use Rattle.text.specs.inside.Puts.{Put};
 
@@ -7,25 +7,16 @@ pub fn put_bytes(out: &mut [u8], at: usize, text: &[u8]) -> usize
     requires { at + length text.now ≤ length out.old }
     ensures { Put text.now at out.old out.new result }
 {
-    let mut i = 0;
-    while i < text.len() {
-        out[at + i] = text[i];
-        i += 1;
-    }
-    at + i
+    let end = at + text.len();
+    out[at..end].copy_from_slice(text);
+    end
 }
 
 // How many digits a number has.
 fn places(n: u64) -> usize
     ensures { result ≡ length (decimal n) }
 {
-    let mut k = 1;
-    let mut rest = n;
-    while 9 < rest {
-        rest = rest / 10;
-        k += 1;
-    }
-    k
+    n.max(1).ilog10() as usize + 1
 }
 
 // The byte of a digit.
@@ -36,55 +27,50 @@ fn digit(d: u64) -> u8
     b'0' + d as u8
 }
 
-// The digits are put from the last to the first.
-pub fn put_number(out: &mut [u8], at: usize, n: u64) -> usize
-    requires { at + length (decimal n) ≤ length out.old }
-    ensures { Put (decimal n) at out.old out.new result }
-{
-    let end = at + places(n);
-    let mut i = end - 1;
-    let mut rest = n;
-    while 9 < rest {
-        out[i] = digit(rest % 10);
-        rest = rest / 10;
-        i -= 1;
+// A number that is written as a text: digits, and a sign before them below 0.
+pub trait Written: Copy {
+    ghost spelled: { Self → List ℕ };
+
+    // Puts the number's text at an offset.
+    fn put(self, out: &mut [u8], at: usize) -> usize
+        requires { at + length (spelled self) ≤ length out.old }
+        ensures { Put (spelled self) at out.old out.new result };
+}
+
+impl Written for u64 {
+    ghost spelled = { decimal };
+
+    // The digits are put from the last to the first.
+    fn put(self, out: &mut [u8], at: usize) -> usize {
+        let end = at + places(self);
+        let mut rest = self;
+        for i in (at + 1..end).rev() {
+            out[i] = digit(rest % 10);
+            rest = rest / 10;
+        }
+        out[at] = digit(rest);
+        end
     }
-    out[i] = digit(rest);
-    end
 }
 
-// The size of a number, the lowest i64 too.
-fn magnitude(z: i64) -> u64
-    ensures { result ≡ unsigned_abs z }
-{
-    if z < 0 { -(z + 1) as u64 + 1 } else { z as u64 }
-}
+impl Written for i64 {
+    ghost spelled = { signed };
 
-pub fn put_signed(out: &mut [u8], at: usize, z: i64) -> usize
-    requires { at + length (signed z) ≤ length out.old }
-    ensures { Put (signed z) at out.old out.new result }
-{
-    if z < 0 {
-        let at = put_bytes(out, at, b"-");
-        return put_number(out, at, magnitude(z));
+    fn put(self, out: &mut [u8], at: usize) -> usize {
+        let at = if self < 0 {
+            put_bytes(out, at, b"-")
+        } else {
+            at
+        };
+        self.unsigned_abs().put(out, at)
     }
-    put_number(out, at, magnitude(z))
 }
 
-pub fn put_line(out: &mut [u8], at: usize, key: &[u8], n: u64) -> usize
-    requires { at + length (key_line key.now (decimal n)) ≤ length out.old }
-    ensures { Put (key_line key.now (decimal n)) at out.old out.new result }
+pub fn put_line<N: Written>(out: &mut [u8], at: usize, key: &[u8], n: N) -> usize
+    requires { at + length (key_line key.now (N.spelled n)) ≤ length out.old }
+    ensures { Put (key_line key.now (N.spelled n)) at out.old out.new result }
 {
     let at = put_bytes(out, at, key);
-    let at = put_number(out, at, n);
-    put_bytes(out, at, b"\n")
-}
-
-pub fn put_signed_line(out: &mut [u8], at: usize, key: &[u8], z: i64) -> usize
-    requires { at + length (key_line key.now (signed z)) ≤ length out.old }
-    ensures { Put (key_line key.now (signed z)) at out.old out.new result }
-{
-    let at = put_bytes(out, at, key);
-    let at = put_signed(out, at, z);
+    let at = n.put(out, at);
     put_bytes(out, at, b"\n")
 }

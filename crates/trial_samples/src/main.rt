@@ -1,7 +1,9 @@
 // The brute force by itself: document 01's own figures, and what the generator makes.
 #![tactic(auto)]
 
-use trials::{Row, Table};
+use trials::{Dice, Question, Row, Spread, Table};
+
+const TABLES: u32 = 2400;
 
 // Document 01's example with betas of one's own.
 fn example(first: u32, second: u32, third: u32) -> Table {
@@ -29,11 +31,7 @@ fn example(first: u32, second: u32, third: u32) -> Table {
         alpha: 3000,
         beta: third,
     };
-    Table {
-        board: 7,
-        count: 3,
-        rows: [a, b, c, c, c, c],
-    }
+    Table::new(7, &[a, b, c])
 }
 
 // Its one task of 10, 10, 10.
@@ -46,53 +44,30 @@ fn alone(beta: u32) -> Table {
         alpha: 1000,
         beta,
     };
-    Table {
-        board: 7,
-        count: 1,
-        rows: [a; trials::ROWS],
-    }
+    Table::new(7, &[a])
 }
 
 // Prints what the planner has to answer.
 fn show(table: Table) {
-    let mut out = [0u8; trials::SPACE];
-    let answer = trials::answered(trials::to_planner(table), &mut out);
-    trials::print_count(answer.number as u64, b"is answered");
-    let n = trials::within(answer.long as usize, &out);
-    io::write_all(1, &out[..n]);
+    let mut out = [0; trials::SPACE];
+    match Question::to_planner(table).answered(&mut out) {
+        Ok(long) => {
+            trials::print_count(0, "is answered");
+            io::write_all(1, &out[..long]);
+        }
+        Err(refusal) => trials::print_count(u64::from(refusal.number), "is answered"),
+    }
 }
 
 // How generated tables are spread.
-#[derive(Clone, Copy)]
-struct Spread {
-    ordered: u64,
-    several: u64,
-    edge: u64,
-}
-
-impl Spread {
-    fn with(self, table: Table) -> Self {
-        let question = trials::to_planner(table);
-        let verdict = question.verdict();
-        Spread {
-            ordered: trials::more(self.ordered, question.orders > 0),
-            several: trials::more(self.several, question.orders > 1),
-            edge: trials::more(self.edge, verdict.stable & verdict.edge),
-        }
+fn generated() -> Spread {
+    let mut dice = Dice::new();
+    let mut spread = Spread::default();
+    for _ in 0..TABLES {
+        let table = trials::any_table(&mut dice);
+        spread.count(&table, trials::first_stable(&table));
     }
-
-    fn of(tables: u32) -> Self {
-        let mut seed = trials::SEED;
-        let mut spread = Spread {
-            ordered: 0,
-            several: 0,
-            edge: 0,
-        };
-        for _ in 0..tables {
-            spread = spread.with(trials::any_table(&mut seed));
-        }
-        spread
-    }
+    spread
 }
 
 fn main() {
@@ -103,9 +78,9 @@ fn main() {
     show(example(7999, 7999, 57000));
     show(alone(10000));
     show(alone(9999));
-    let spread = Spread::of(2400);
-    trials::print_count(2400, b"tables");
-    trials::print_count(spread.ordered, b"with a stable order");
-    trials::print_count(spread.several, b"with several");
-    trials::print_count(spread.edge, b"with a margin of 0 in the plan");
+    let spread = generated();
+    trials::print_count(u64::from(TABLES), "tables");
+    trials::print_count(spread.ordered, "with a stable order");
+    trials::print_count(spread.several, "with several");
+    trials::print_count(spread.edge, "with a margin of 0 in the plan");
 }

@@ -1,28 +1,38 @@
 // Numbers by chance, the same at each run: Marsaglia's xorshift on 64 bits.
-ghost use Rattle.std.specs.Prelude.{◌<◌, ◌≤◌};
+ghost use Rattle.std.specs.Prelude.{◌≤◌};
 
-pub const SEED: u64 = 0x2545_F491_4F6C_DD1D;
-
-fn next(state: u64) -> u64 {
-    let a = state ^ (state << 13);
-    let b = a ^ (a >> 7);
-    b ^ (b << 17)
+#[derive(Drop)]
+pub struct Dice {
+    state: u64,
 }
 
-// The remainder, with what its callers need of it.
-pub fn below(x: u64, n: u64) -> u64
-    requires { 0 < n }
-    ensures { result < n }
-{
-    x % n
-}
+impl Dice {
+    pub fn new() -> Self {
+        Dice {
+            state: 0x2545_F491_4F6C_DD1D,
+        }
+    }
 
-// A number from low to high.
-pub fn between(seed: &mut u64, low: u16, high: u16) -> u16
-    requires { low ≤ high }
-    ensures { (low ≤ result) × (result ≤ high) }
-{
-    let x = next(*seed);
-    *seed = x;
-    low + below(x >> 20, (high - low) as u64 + 1) as u16
+    fn next(&mut self) -> u64 {
+        self.state ^= self.state << 13;
+        self.state ^= self.state >> 7;
+        self.state ^= self.state << 17;
+        self.state
+    }
+
+    // A number from low to high.
+    pub fn between(&mut self, low: u16, high: u16) -> u16
+        requires { low ≤ high }
+        ensures { (low ≤ result) × (result ≤ high) }
+    {
+        let size = u64::from(high - low) + 1;
+        low + ((self.next() >> 20) % size) as u16
+    }
+
+    // True once in so many times.
+    pub fn once_in(&mut self, times: u16) -> bool
+        requires { 1 ≤ times }
+    {
+        self.between(0, times - 1) == 0
+    }
 }

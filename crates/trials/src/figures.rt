@@ -1,133 +1,90 @@
-// The figures of document 01 by plain scanning. Rows stand highest rank first; those above rank k are the first k.
-ghost use Rattle.std.specs.Prelude.{◌*◌, ◌<◌, ◌≤◌};
+// The figures of document 01 by plain scanning.
+ghost use Rattle.std.specs.Prelude.{◌<◌, ◌≤◌, length, IfSome};
 
-use crate::generator::{ROWS, Row};
+use crate::tables::Row;
 
-#[derive(Clone, Copy)]
+#[derive(Clone, Copy, Default)]
 pub struct Figures {
-    pub late: bool,
-    pub worst: u64,
-    pub best: u64,
-    pub jitter: u64,
+    pub worst: u16,
+    pub best: u16,
+    pub jitter: u16,
     // 1,000 × best + alpha × jitter: the beta at which the margin is 0.
     pub line: u64,
-    // Beta less the line: its size, and whether it is below 0.
-    pub margin: u64,
-    pub negative: bool,
+    // Beta less the line.
+    pub margin: i64,
 }
 
-// x / period rounded up. No period is 0: the test spares every caller a proof of that.
-fn ceiling(x: u64, period: u64) -> u64
-    requires { (1 ≤ x) × (x ≤ 65536) × (period ≤ 65535) }
-    ensures { (1 ≤ result) × (result ≤ 131071) }
-{
-    if period == 0 {
-        return 1;
+impl Row {
+    // Its jobs that begin in a window. No period is 0: the `max` spares every caller a proof of that.
+    fn jobs(&self, window: u16) -> u16 {
+        window.div_ceil(self.period.max(1))
     }
-    (x + (period - 1)) / period
-}
 
-// A product whose factors are at most 65,536 + 65,535 and 65,535: the longest window and period in 16 bits.
-fn times(n: u64, each: u16) -> u64
-    requires { n ≤ 131071 }
-    ensures { result ≤ 131071 * 65535 }
-{
-    n * each as u64
-}
+    // The most ticks that it takes from a window of a rank below: by its worst.
+    fn most(&self, window: u16) -> u32 {
+        u32::from(self.jobs(window)) * u32::from(self.worst)
+    }
 
-// The ticks that a row above takes from a window: by its worst, or by its best with one job less.
-fn taken(row: Row, window: u64, best: bool) -> u64
-    requires { (1 ≤ window) × (window ≤ 65536) }
-    ensures { result ≤ 131071 * 65535 }
-{
-    let jobs = ceiling(window, row.period as u64);
-    if best {
-        times(jobs - 1, row.best)
-    } else {
-        times(jobs, row.worst)
+    // The least: by its best with one job less.
+    fn least(&self, window: u16) -> u32 {
+        u32::from(self.jobs(window).saturating_sub(1)) * u32::from(self.best)
     }
 }
 
-// The ticks that the first k rows take from a window.
-fn taken_above(rows: [Row; ROWS], k: usize, window: u64, best: bool) -> u64
-    requires { (k ≤ 6) × (1 ≤ window) × (window ≤ 65536) }
-    ensures { result ≤ 6 * (131071 * 65535) }
-{
-    let mut sum: u64 = 0;
-    for i in 0..k {
-        sum += taken(rows[i], window, best);
-    }
-    sum
+// A row with the rows above it.
+#[derive(Clone, Copy)]
+pub struct Rank<'a> {
+    pub row: Row,
+    pub above: &'a [Row],
+    ghost few: { length above.now ≤ 6 },
 }
 
-// The smallest window up to the period that rank k and those above fill exactly; 0 for none.
-fn latest(rows: [Row; ROWS], k: usize) -> u64
-    requires { k < 6 }
-    ensures { result ≤ 65535 }
-{
-    let row = rows[k];
-    let period = row.period as u64;
-    let worst = row.worst as u64;
-    let mut w: u64 = 1;
-    while w <= period {
-        if w == worst + taken_above(rows, k, w, false) {
-            return w;
+impl<'a> Rank<'a> {
+    // Of rows that stand highest rank first the one at k.
+    pub fn of(rows: &'a [Row], k: usize) -> Self
+        requires few { length rows.now ≤ 6 }
+        requires inside { k < length rows.now }
+    {
+        Rank {
+            row: rows[k],
+            above: &rows[..k],
         }
-        w += 1;
     }
-    0
-}
 
-// The largest from a number downwards, by their best; 0 for none.
-fn earliest(rows: [Row; ROWS], k: usize, from: u64) -> u64
-    requires { (k < 6) × (from ≤ 65535) }
-    ensures { result ≤ from }
-{
-    let row = rows[k];
-    let best = row.best as u64;
-    let mut e = from;
-    while e > 0 {
-        if e == best + taken_above(rows, k, e, true) {
-            return e;
-        }
-        e -= 1;
+    // Whether ticks of its own and those that each row above takes fill a window exactly.
+    fn fills<F: Fn(&Row, u16) -> u32>(&self, window: u16, own: u16, taken: F) -> bool
+        requires { F.IsAlwaysCallable taken }
+    {
+        let above: u64 = self.above.iter().map(|r| u64::from(taken(r, window))).sum();
+        u64::from(window) == above.saturating_add(u64::from(own))
     }
-    0
-}
 
-// All figures of rank k, counted from 0.
-pub fn figures_at(rows: [Row; ROWS], k: usize) -> Figures
-    requires { k < 6 }
-{
-    let row = rows[k];
-    let beta = row.beta as u64;
-    let worst = latest(rows, k);
-    if worst == 0 {
-        return Figures {
-            late: true,
-            worst: 0,
-            best: 0,
-            jitter: 0,
-            line: 0,
-            margin: 0,
-            negative: false,
-        };
+    // The smallest window up to the period that the row and those above it fill.
+    fn latest(&self) -> Option<u16> {
+        (1..=self.row.period).find(|w| self.fills(*w, self.row.worst, Row::most))
     }
-    let best = earliest(rows, k, worst);
-    let jitter = worst - best;
-    let line = 1000 * best + times(jitter, row.alpha);
-    let margin = if beta < line {
-        line - beta
-    } else {
-        beta - line
-    };
-    Figures {
-        late: false,
-        worst,
-        best,
-        jitter,
-        line,
-        margin,
-        negative: beta < line,
+
+    // The largest from a number downwards, by their best.
+    fn earliest(&self, from: u16) -> Option<u16>
+        ensures { IfSome result (λ e. e ≤ from) }
+    {
+        (1..=from)
+            .rev()
+            .find(|e| self.fills(*e, self.row.best, Row::least))
+    }
+
+    // The figures, if the row is in time.
+    pub fn figures(&self) -> Option<Figures> {
+        let worst = self.latest()?;
+        let best = self.earliest(worst).unwrap_or(0);
+        let jitter = worst - best;
+        let line = 1000 * u64::from(best) + u64::from(self.row.alpha) * u64::from(jitter);
+        Some(Figures {
+            worst,
+            best,
+            jitter,
+            line,
+            margin: i64::from(self.row.beta) - line as i64,
+        })
     }
 }

@@ -1,59 +1,30 @@
 // Small tables by chance.
-ghost use Rattle.std.specs.Prelude.{◌≤◌};
+ghost use Rattle.std.specs.Prelude.{◌≤◌, length};
 
-use crate::dice::between;
-use crate::figures::{Figures, figures_at};
-use crate::permutations::{Order, arranged};
-
-// The most rows of a generated table.
-pub const ROWS: usize = 6;
-
-// A table's row, its times short enough that no sum here can overflow.
-#[derive(Clone, Copy)]
-pub struct Row {
-    pub task: u16,
-    pub period: u16,
-    pub worst: u16,
-    pub best: u16,
-    pub alpha: u16,
-    pub beta: u32,
-}
-
-#[derive(Clone, Copy)]
-pub struct Table {
-    pub board: u16,
-    pub count: usize,
-    pub rows: [Row; ROWS],
-}
-
-impl Table {
-    // The count, which is never above ROWS: said here once, so that nobody has to carry it.
-    pub fn rows_held(self) -> usize
-        ensures { result ≤ 6 }
-    {
-        let n = self.count;
-        if n < ROWS { n } else { ROWS }
-    }
-}
+use crate::dice::Dice;
+use crate::figures::Rank;
+use crate::permutations::Order;
+use crate::tables::{ROWS, Row, Table};
 
 // A best of its worst, or any up to it.
-fn any_best(seed: &mut u64, worst: u16) -> u16
+fn any_best(dice: &mut Dice, worst: u16) -> u16
     requires { 1 ≤ worst }
 {
-    if between(seed, 0, 1) == 0 {
-        return worst;
+    if dice.once_in(2) {
+        worst
+    } else {
+        dice.between(1, worst)
     }
-    between(seed, 1, worst)
 }
 
 // A row whose worst is about a share of its period at most; task and beta come later.
-fn any_row(seed: &mut u64, longest: u16, share: u16) -> Row
+fn any_row(dice: &mut Dice, longest: u16, share: u16) -> Row
     requires { (2 ≤ longest) × (1 ≤ share) }
 {
-    let period = between(seed, 2, longest);
-    let worst = between(seed, 1, 1 + (period - 1) / share);
-    let best = any_best(seed, worst);
-    let alpha = between(seed, 1000, 5000);
+    let period = dice.between(2, longest);
+    let worst = dice.between(1, 1 + (period - 1) / share);
+    let best = any_best(dice, worst);
+    let alpha = dice.between(1000, 5000);
     Row {
         task: 1,
         period,
@@ -65,92 +36,82 @@ fn any_row(seed: &mut u64, longest: u16, share: u16) -> Row
 }
 
 // Rows by chance with task numbers of their own; in one table of eight they are otherwise alike.
-fn any_rows(seed: &mut u64, longest: u16, share: u16) -> [Row; ROWS]
+fn any_rows(dice: &mut Dice, longest: u16, share: u16) -> [Row; ROWS]
     requires { (2 ≤ longest) × (1 ≤ share) }
 {
-    let alike = between(seed, 0, 7) == 0;
-    let first = between(seed, 1, 65529);
-    let step = between(seed, 1, 6);
-    let mut row = any_row(seed, longest, share);
+    let alike = dice.once_in(8);
+    let first = dice.between(1, 65529);
+    let step = dice.between(1, 6);
+    let mut row = any_row(dice, longest, share);
     let mut rows = [row; ROWS];
     // Six steps around a circle of seven meet no point twice.
-    let mut point = between(seed, 0, 6);
-    for i in 0..ROWS {
+    let mut point = dice.between(0, 6);
+    for place in rows.iter_mut() {
         if !alike {
-            row = any_row(seed, longest, share);
+            row = any_row(dice, longest, share);
         }
         row.task = first + point;
-        rows[i] = row;
+        *place = row;
         point = (point + step) % 7;
     }
     rows
 }
 
-// A generated beta is far below 2^32: the remainder spares a proof of it.
-fn as_beta(x: u64) -> u32 {
-    (x % 0x1_0000_0000) as u32
-}
-
-// A beta above the figures' line by at most `loose`, or one short of the line; any small one for a late row.
-fn any_beta(seed: &mut u64, f: Figures, short: bool, loose: u16) -> u32 {
-    if f.late {
-        return between(seed, 0, 60000) as u32;
-    }
-    let slack = between(seed, 0, loose) as u64;
-    if short {
-        as_beta(std::num::wrapping_sub_u64(f.line, 1))
+// A beta above the line by at most `loose`, or one short of the line; any small one for a late row, which has no line.
+fn any_beta(dice: &mut Dice, line: Option<u64>, short: bool, loose: u16) -> u32 {
+    let Some(line) = line else {
+        return u32::from(dice.between(0, 60000));
+    };
+    let slack = u64::from(dice.between(0, loose));
+    let beta = if short {
+        line.saturating_sub(1)
     } else {
-        as_beta(std::num::wrapping_add_u64(f.line, slack))
-    }
+        line.saturating_add(slack)
+    };
+    u32::try_from(beta).unwrap_or(u32::MAX)
 }
 
 // In half of the tables every beta stands at a line.
-fn any_loose(seed: &mut u64) -> u16 {
-    match between(seed, 0, 3) {
+fn any_loose(dice: &mut Dice) -> u16 {
+    match dice.between(0, 3) {
         0 => 9000,
         1 => 60000,
         _ => 0,
     }
 }
 
-// Betas that make the rows' own sequence a stable order, or miss that by one thousandth at one rank.
-fn lined(bare: [Row; ROWS], n: usize, seed: &mut u64) -> [Row; ROWS]
-    requires { n ≤ 6 }
+// Sets betas that make the rows' own sequence a stable order, or miss that by one thousandth at one rank.
+fn line_up(rows: &mut [Row], dice: &mut Dice)
+    requires { length rows.old ≤ 6 }
 {
-    let short = between(seed, 0, 11) as usize;
-    let loose = any_loose(seed);
-    let mut rows = bare;
-    for k in 0..n {
-        let mut row = rows[k];
-        row.beta = any_beta(seed, figures_at(rows, k), k == short, loose);
-        rows[k] = row;
+    let short = usize::from(dice.between(0, 11));
+    let loose = any_loose(dice);
+    for k in 0..rows.len() {
+        let line = Rank::of(rows, k).figures().map(|f| f.line);
+        rows[k].beta = any_beta(dice, line, k == short, loose);
     }
-    rows
 }
 
 // A few of the smaller tables have long periods.
-fn any_longest(seed: &mut u64, count: u16) -> u16
+fn any_longest(dice: &mut Dice, count: u16) -> u16
     ensures { 2 ≤ result }
 {
-    if count <= 3 {
-        if between(seed, 0, 7) == 0 {
-            return 2000;
-        }
+    if count <= 3 && dice.once_in(8) {
+        2000
+    } else {
+        60
     }
-    60
 }
 
 // A table of 1 to 6 tasks, in random sequence.
-pub fn any_table(seed: &mut u64) -> Table {
-    let count = between(seed, 1, 6);
-    let longest = any_longest(seed, count);
-    let share = between(seed, (count + 1) / 2, count + 2);
-    let n = count as usize;
-    let rows = lined(any_rows(seed, longest, share), n, seed);
-    let table = Table {
-        board: between(seed, 1, 65535),
-        count: n,
-        rows,
-    };
-    arranged(table, Order::at(n, between(seed, 0, 719) as u64))
+pub fn any_table(dice: &mut Dice) -> Table {
+    let count = dice.between(1, 6);
+    let longest = any_longest(dice, count);
+    let share = dice.between((count + 1) / 2, count + 2);
+    let mut rows = any_rows(dice, longest, share);
+    let n = usize::from(count);
+    let rows = &mut rows[..n];
+    line_up(rows, dice);
+    let table = Table::new(dice.between(1, 65535), rows);
+    table.arranged(&Order::at(n, u64::from(dice.between(0, 719))))
 }

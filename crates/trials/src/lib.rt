@@ -9,15 +9,14 @@ mod generator;
 mod permutations;
 mod questions;
 mod runs;
+mod tables;
 mod texts;
 
-pub use counts::{Tally, more, print_count};
-pub use dice::{SEED, between};
-pub use generator::{ROWS, Row, Table, any_table};
-pub use permutations::{Order, Verdict, arranged, judged};
-pub use questions::{
-    Answer, Question, SPACE, answered, print_question, put_question, same_answer, to_planner,
-    to_reviewer,
-};
-pub use runs::{Finishes, run};
-pub use texts::{put_bytes, within};
+pub use counts::{Spread, Tally, count_if, print_count};
+pub use dice::Dice;
+pub use generator::any_table;
+pub use permutations::{Found, Order, first_stable};
+pub use questions::{Answer, Question, Refusal};
+pub use runs::{Finishes, Lengths, run};
+pub use tables::{Late, Margins, ROWS, Row, Table};
+pub use texts::{SPACE, Text, print};

@@ -1,136 +1,101 @@
 // What is asked of the planner and the reviewer, and what each has to answer.
 ghost use Rattle.io.specs.Counts.{IsPrefixLen};
+ghost use Rattle.std.specs.Prelude.{IfOk};
 
-use crate::generator::Table;
-use crate::permutations::{Order, Verdict, arranged, first_stable, judged};
-use crate::texts::{put_bytes, put_plan, put_ranks, put_table};
+use crate::permutations::{Found, Order, first_stable};
+use crate::tables::{Late, Table};
+use crate::texts::{Plan, Ranks, Text};
+use std::fmt;
 
-// Bytes enough for every text of a generated table.
-pub const SPACE: usize = 1024;
-
-// Of the reviewer: a table and an order. Of the planner: a table, and what trying every order has found.
 #[derive(Clone, Copy)]
-pub struct Question {
-    pub review: bool,
-    pub table: Table,
-    pub orders: u64,
-    pub order: Order,
+pub enum Question {
+    // Of the planner: a table, and what trying every order has found.
+    Plan(Table, Option<Found>),
+    // Of the reviewer: a table and an order.
+    Review(Table, Order),
 }
 
-// What a call answers: 0 or a refusal's number, its place, and the bytes written.
-#[derive(Clone, Copy)]
-pub struct Answer {
+// A refusal's number, and its place.
+#[derive(Clone, Copy, PartialEq, Eq)]
+pub struct Refusal {
     pub number: u8,
     pub place: u32,
-    pub long: u32,
 }
 
-// What the planner is asked: every order is tried here.
-pub fn to_planner(table: Table) -> Question {
-    let found = first_stable(table);
-    let order = found.order;
-    Question {
-        review: false,
-        table,
-        orders: found.orders,
-        order,
+impl fmt::Display for Refusal {
+    fn fmt<W: fmt::Write>(&self, f: &mut fmt::Formatter<W>) -> fmt::Result {
+        write!(f, "refusal {}, place {}", self.number, self.place)
     }
 }
 
-// What the reviewer is asked.
-pub fn to_reviewer(table: Table, order: Order) -> Question {
-    Question {
-        review: true,
-        table,
-        orders: 0,
-        order,
+// How many bytes a call writes, or why none.
+pub type Answer = Result<usize, Refusal>;
+
+impl From<Late> for Refusal {
+    fn from(late: Late) -> Refusal {
+        Refusal {
+            number: 7,
+            place: late.rank,
+        }
     }
 }
+
+const NO_ORDER: Refusal = Refusal {
+    number: 8,
+    place: 0,
+};
+
+const NO_ROOM: Refusal = Refusal {
+    number: 9,
+    place: 0,
+};
 
 impl Question {
-    // The table's rows in the order's sequence.
-    pub fn ranked(self) -> Table {
-        let table = self.table;
-        let order = self.order;
-        arranged(table, order)
+    // What the planner is asked: every order is tried here.
+    pub fn to_planner(table: Table) -> Self {
+        let found = first_stable(&table);
+        Question::Plan(table, found)
     }
 
-    pub fn verdict(self) -> Verdict {
-        judged(self.ranked())
-    }
-}
-
-fn refused(number: u8, place: u32) -> Answer {
-    Answer {
-        number,
-        place,
-        long: 0,
-    }
-}
-
-// The text that is handed to the call.
-pub fn put_question(out: &mut [u8], question: Question) -> usize
-    ensures { IsPrefixLen result out.new }
-{
-    let table = question.table;
-    let n = put_table(out, table);
-    if question.review {
-        put_ranks(out, n, question.ranked())
-    } else {
-        n
-    }
-}
-
-// Writes the text to standard output.
-pub fn print_question(question: Question) {
-    let mut text = [0u8; SPACE];
-    let n = put_question(&mut text, question);
-    io::write_all(1, &text[..n]);
-}
-
-// The plan in the buffer, or refusal 9 where the buffer is shorter.
-fn written(ranked: Table, out: &mut [u8]) -> Answer {
-    let mut text = [0u8; SPACE];
-    let n = put_plan(&mut text, ranked);
-    if n > out.len() {
-        return refused(9, 0);
-    }
-    put_bytes(out, 0, &text[..n]);
-    Answer {
-        number: 0,
-        place: 0,
-        long: n as u32,
-    }
-}
-
-// What has to be answered, and written into the buffer.
-pub fn answered(question: Question, out: &mut [u8]) -> Answer {
-    if question.review {
-        let late = question.verdict().late;
-        if late > 0 {
-            return refused(7, late);
+    // The table's rows in the sequence of the order that is asked for, if there is one.
+    pub fn ranked(&self) -> Option<Table> {
+        match self {
+            Question::Plan(table, found) => {
+                let found = (*found)?;
+                Some(table.arranged(&found.first))
+            }
+            Question::Review(table, order) => Some(table.arranged(order)),
         }
-    } else if question.orders == 0 {
-        return refused(8, 0);
     }
-    written(question.ranked(), out)
+
+    // The text that is handed to the call.
+    pub fn text(&self) -> Text {
+        Text::of(self)
+    }
+
+    // What has to be answered, and written into the buffer.
+    pub fn answered(&self, out: &mut [u8]) -> Answer
+        ensures { IfOk result (λ n. IsPrefixLen n out.new) }
+    {
+        let ranked = self.ranked().ok_or(NO_ORDER)?;
+        ranked.judged()?;
+        let text = Text::of(Plan(ranked));
+        let bytes = text.as_bytes();
+        let n = bytes.len();
+        let written = out.get_mut(..n).ok_or(NO_ROOM)?;
+        written.copy_from_slice(bytes);
+        Ok(n)
+    }
 }
 
-fn same_bytes(a: &[u8], b: &[u8]) -> bool {
-    if a.len() != b.len() {
-        return false;
-    }
-    let mut i = 0;
-    while i < a.len() {
-        if a[i] != b[i] {
-            return false;
+impl fmt::Display for Question {
+    fn fmt<W: fmt::Write>(&self, f: &mut fmt::Formatter<W>) -> fmt::Result {
+        match self {
+            Question::Plan(table, _) => write!(f, "{table}"),
+            Question::Review(table, order) => {
+                let ranks = Ranks(table.arranged(order));
+                write!(f, "{table}{ranks}")
+            }
         }
-        i += 1;
     }
-    true
-}
-
-// Whether two answers are the same, with every byte of their buffers.
-pub fn same_answer<'a>(a: Answer, wanted: &'a [u8], b: Answer, got: &'a [u8]) -> bool {
-    (a.number == b.number) & (a.place == b.place) & (a.long == b.long) & same_bytes(wanted, got)
 }

@@ -1,140 +1,133 @@
-// Tables and plans as text, written into a lent buffer from an offset on. Each function answers the next offset; what
-// has no room is dropped, and a text cut short would be seen as a difference.
-ghost use Rattle.io.specs.Counts.{IsPrefixLen};
+// Tables and plans as text, in fixed memory.
+ghost use Rattle.std.specs.Prelude.{◌≤◌, length};
 
-use crate::dice::below;
-use crate::figures::{Figures, figures_at};
-use crate::generator::{Row, Table};
+use crate::figures::{Figures, Rank};
+use crate::tables::{Row, Table};
+use std::fmt::{self, Write};
 
-// A byte.
-fn put(out: &mut [u8], at: usize, b: u8) -> usize {
-    if at < out.len() {
-        out[at] = b;
-        at + 1
-    } else {
-        at
+// Bytes enough for every text of a generated table.
+pub const SPACE: usize = 1024;
+
+// A text, at most SPACE long: there is no heap. What has no room is dropped, and a text cut short would be seen as a difference.
+#[derive(Clone, Copy)]
+pub struct Text {
+    bytes: [u8; SPACE],
+    len: usize,
+    ghost fits: { len ≤ 1024 },
+}
+
+impl Text {
+    fn new() -> Self {
+        Text {
+            bytes: [0; SPACE],
+            len: 0,
+        }
+    }
+
+    // A value's text.
+    pub(crate) fn of<D: fmt::Display + Drop>(value: D) -> Self {
+        let mut text = Text::new();
+        let _ = write!(text, "{value}");
+        text
+    }
+
+    // Two texts, one after the other.
+    pub fn joined(first: &[u8], second: &[u8]) -> Self {
+        let mut text = Text::new();
+        text.append(first);
+        text.append(second);
+        text
+    }
+
+    pub fn as_bytes(&self) -> &[u8] {
+        &self.bytes[..self.len]
+    }
+
+    fn append(&mut self, more: &[u8]) {
+        let room = &mut self.bytes[self.len..];
+        let n = more.len().min(room.len());
+        room[..n].copy_from_slice(&more[..n]);
+        self.len += n;
     }
 }
 
-pub fn put_bytes(out: &mut [u8], at: usize, bytes: &[u8]) -> usize {
-    let mut to = at;
-    let mut i = 0;
-    while i < bytes.len() {
-        to = put(out, to, bytes[i]);
-        i += 1;
+// Prints a value's text.
+pub fn print<D: fmt::Display + Drop>(value: D) {
+    io::write_all(1, Text::of(value).as_bytes());
+}
+
+impl fmt::Write for Text {
+    fn write_str(&mut self, s: &str) -> fmt::Result {
+        self.append(s.as_bytes());
+        Ok(())
     }
-    to
 }
 
-fn put_number(out: &mut [u8], at: usize, n: u64) -> usize {
-    let mut unit: u64 = 1;
-    while unit <= n / 10 {
-        unit *= 10;
+// With what a row has beside document 01's lines: no hold and no points.
+impl fmt::Display for Row {
+    fn fmt<W: fmt::Write>(&self, f: &mut fmt::Formatter<W>) -> fmt::Result {
+        write!(
+            f,
+            "task={}\nperiod={}\nworst={}\n",
+            self.task, self.period, self.worst
+        )?;
+        write!(
+            f,
+            "best={}\nalpha={}\nbeta={}\n",
+            self.best, self.alpha, self.beta
+        )?;
+        write!(f, "hold=0\npoints=0\n")
     }
-    let mut to = at;
-    while unit > 0 {
-        to = put(out, to, 48 + below(n / unit, 10) as u8);
-        unit /= 10;
+}
+
+// A switch costs nothing.
+impl fmt::Display for Table {
+    fn fmt<W: fmt::Write>(&self, f: &mut fmt::Formatter<W>) -> fmt::Result {
+        let rows = self.rows();
+        write!(f, "board={}\ntasks={}\nswitch=0\n", self.board, rows.len())?;
+        for row in rows {
+            write!(f, "{row}")?;
+        }
+        Ok(())
     }
-    to
 }
 
-// A key with its `=`, a number, and a line feed.
-fn put_line(out: &mut [u8], at: usize, key: &[u8], n: u64) -> usize {
-    let to = put_bytes(out, at, key);
-    let to = put_number(out, to, n);
-    put(out, to, b'\n')
-}
+// The reviewer's lines: the tasks of rows that stand highest rank first.
+#[derive(Drop)]
+pub struct Ranks(pub Table);
 
-fn put_times(out: &mut [u8], at: usize, row: Row) -> usize {
-    let to = put_line(out, at, b"period=", row.period as u64);
-    let to = put_line(out, to, b"worst=", row.worst as u64);
-    put_line(out, to, b"best=", row.best as u64)
-}
-
-// What a row has beside document 01's lines: no hold and no points.
-fn put_neutral(out: &mut [u8], at: usize) -> usize {
-    let to = put_line(out, at, b"hold=", 0);
-    put_line(out, to, b"points=", 0)
-}
-
-fn put_row(out: &mut [u8], at: usize, row: Row) -> usize {
-    let to = put_line(out, at, b"task=", row.task as u64);
-    let to = put_times(out, to, row);
-    let to = put_line(out, to, b"alpha=", row.alpha as u64);
-    let to = put_line(out, to, b"beta=", row.beta as u64);
-    put_neutral(out, to)
-}
-
-// The offset, and never past the end: so that `&out[..n]` needs no more.
-pub fn within(at: usize, out: &[u8]) -> usize
-    ensures { IsPrefixLen result out.now }
-{
-    if at < out.len() { at } else { out.len() }
-}
-
-// The two lines that a table and a plan share.
-fn put_head(out: &mut [u8], at: usize, table: Table) -> usize {
-    let to = put_line(out, at, b"board=", table.board as u64);
-    put_line(out, to, b"tasks=", table.rows_held() as u64)
-}
-
-// The lines before a table's rows: a switch costs nothing.
-fn put_table_head(out: &mut [u8], at: usize, table: Table) -> usize {
-    let to = put_head(out, at, table);
-    put_line(out, to, b"switch=", 0)
-}
-
-// A table's text.
-pub fn put_table(out: &mut [u8], table: Table) -> usize
-    ensures { IsPrefixLen result out.new }
-{
-    let mut to = put_table_head(out, 0, table);
-    for i in 0..table.rows_held() {
-        to = put_row(out, to, table.rows[i]);
+impl fmt::Display for Ranks {
+    fn fmt<W: fmt::Write>(&self, f: &mut fmt::Formatter<W>) -> fmt::Result {
+        for row in self.0.rows() {
+            write!(f, "rank={}\n", row.task)?;
+        }
+        Ok(())
     }
-    within(to, out)
 }
 
-// The reviewer's lines: the tasks of a table in an order's sequence.
-pub fn put_ranks(out: &mut [u8], at: usize, ranked: Table) -> usize
-    ensures { IsPrefixLen result out.new }
-{
-    let mut to = at;
-    for k in 0..ranked.rows_held() {
-        let row = ranked.rows[k];
-        to = put_line(out, to, b"rank=", row.task as u64);
-    }
-    within(to, out)
-}
-
-fn put_responses(out: &mut [u8], at: usize, f: Figures) -> usize {
-    let to = put_line(out, at, b"best=", f.best);
-    let to = put_line(out, to, b"worst=", f.worst);
-    put_line(out, to, b"jitter=", f.jitter)
-}
-
-fn put_entry(out: &mut [u8], at: usize, rank: u64, task: u16, f: Figures) -> usize {
-    let to = put_line(out, at, b"rank=", rank);
-    let to = put_line(out, to, b"task=", task as u64);
-    let to = put_responses(out, to, f);
-    if f.negative {
-        put_line(out, to, b"margin=-", f.margin)
-    } else {
-        put_line(out, to, b"margin=", f.margin)
+impl fmt::Display for Figures {
+    fn fmt<W: fmt::Write>(&self, f: &mut fmt::Formatter<W>) -> fmt::Result {
+        write!(
+            f,
+            "best={}\nworst={}\njitter={}\nmargin={}\n",
+            self.best, self.worst, self.jitter, self.margin
+        )
     }
 }
 
 // The plan of rows that stand highest rank first.
-pub fn put_plan(out: &mut [u8], ranked: Table) -> usize
-    ensures { IsPrefixLen result out.new }
-{
-    let rows = ranked.rows;
-    let mut to = put_line(out, 0, b"plan=", 1);
-    to = put_head(out, to, ranked);
-    for k in 0..ranked.rows_held() {
-        let row = rows[k];
-        to = put_entry(out, to, k as u64 + 1, row.task, figures_at(rows, k));
+#[derive(Drop)]
+pub struct Plan(pub Table);
+
+impl fmt::Display for Plan {
+    fn fmt<W: fmt::Write>(&self, f: &mut fmt::Formatter<W>) -> fmt::Result {
+        let rows = self.0.rows();
+        write!(f, "plan=1\nboard={}\ntasks={}\n", self.0.board, rows.len())?;
+        for k in 0..rows.len() {
+            let rank = Rank::of(rows, k);
+            let figures = rank.figures().unwrap_or_default();
+            write!(f, "rank={}\ntask={}\n{figures}", k + 1, rank.row.task)?;
+        }
+        Ok(())
     }
-    within(to, out)
 }

@@ -5,21 +5,15 @@
 
 ghost use Rattle.std.specs.Prelude.{◌≡◌, true, ◌≤◌};
 ghost use Rattle.rows.specs.Rows.{max_ticks, max_switch};
-ghost use Rattle.fixed_points.specs.inside.Loads.{base_max, Columns};
+ghost use Rattle.fixed_points.specs.inside.Loads.{base_max, Loads};
 ghost use Rattle.value_cases.specs.Loads.{in_range};
 
 use analysis::blocking_time;
 use fixed_points::{first_value, least_fixed, next_value, try_values};
+use responses::Load;
 use rows::Row;
 
 const STDOUT: i32 = 1;
-
-// A task by what counts for W: its period, and the most ticks that a job of it takes.
-#[derive(Clone, Copy)]
-pub struct Load {
-    pub period: u64,
-    pub cost: u64,
-}
 
 fn in_range(task: Load) -> bool
     ensures { result ≡ in_range task }
@@ -28,29 +22,28 @@ fn in_range(task: Load) -> bool
 }
 
 // The first value and those after so many steps.
-fn print_values(base: u64, limit: u64, periods: &[u64], costs: &[u64], n: usize, steps: u64)
-    requires { (1 ≤ base) × (base ≤ base_max) × (limit ≤ max_ticks) × Columns n periods.now costs.now }
+fn print_values(base: u64, limit: u64, tasks: &[Load], steps: u64)
+    requires { (1 ≤ base) × (base ≤ base_max) × (limit ≤ max_ticks) × Loads tasks.now }
 {
-    let mut value = first_value(base, periods, costs, n);
+    let mut value = first_value(base, tasks);
     io::print_decimal(STDOUT, value);
     for _ in 0..steps {
-        value = next_value(base, limit, periods, costs, n, value);
+        value = next_value(base, limit, tasks, value);
         io::write_all(STDOUT, b" ");
         io::print_decimal(STDOUT, value);
     }
 }
 
 // The values up to the last that the search tries, and what is found.
-fn print_search(base: u64, limit: u64, periods: &[u64], costs: &[u64], n: usize)
-    requires { (1 ≤ base) × (base ≤ base_max) × (limit ≤ max_ticks) × Columns n periods.now costs.now }
+fn print_search(base: u64, limit: u64, tasks: &[Load])
+    requires { (1 ≤ base) × (base ≤ base_max) × (limit ≤ max_ticks) × Loads tasks.now }
 {
-    let tried = try_values(base, limit, periods, costs, n);
-    print_values(base, limit, periods, costs, n, tried.steps);
-    let worst = least_fixed(base, limit, periods, costs, n);
-    if worst == 0 {
+    let tried = try_values(base, limit, tasks);
+    print_values(base, limit, tasks, tried.steps);
+    let Some(worst) = least_fixed(base, limit, tasks) else {
         io::write_all(STDOUT, b", late\n");
         return;
-    }
+    };
     io::write_all(STDOUT, b", worst=");
     io::print_decimal(STDOUT, worst);
     io::write_all(STDOUT, b"\n");
@@ -61,10 +54,9 @@ fn print_between(task: Load, hold: u64, first: Load, second: Load, n: usize)
     requires { (in_range task ≡ true) × (in_range first ≡ true) × (in_range second ≡ true)
         × (hold ≤ max_ticks) × (n ≤ 2) }
 {
-    let periods = [first.period, second.period];
-    let costs = [first.cost, second.cost];
+    let tasks = [first, second];
     let own = task.cost + blocking_time(hold);
-    print_search(own, task.period, &periods, &costs, n);
+    print_search(own, task.period, &tasks[..n]);
 }
 
 // A line of its own for a task. Nothing is printed of tasks out of range.

@@ -1,6 +1,6 @@
 -- What is promised of every text to watch, of any outcome and in document 02's words: which texts are accepted, which
 -- jobs are printed, and that demand 3 holds of the run that is watched. Only one outcome meets it.
-use Rattle.std.specs.Prelude.{◌≡◌, Bool, true, List, [], ◌∷◌, ◌++◌, ◌↔◌, ℕ, suc, ◌+◌, ◌^◌, ◌≤◌, ◌<◌, length, get_or}
+use Rattle.std.specs.Prelude.{◌≡◌, Bool, true, List, [], ◌∷◌, ◌++◌, ◌↔◌, ℕ, suc, ◌+◌, ◌^◌, ◌≤◌, ◌<◌, length, get_or, Result}
 use Rattle.basics.specs.Basics.{is_in}
 use Rattle.text.specs.Lines.{max_digits}
 use Rattle.grammars.specs.Forms.{Form}
@@ -14,7 +14,7 @@ use Rattle.tables.specs.TableLines.{Stage, at_board, at_field, at-end, expected,
 use Rattle.tables.specs.Claims.{Tells, ranked_refusals, line_of}
 use Rattle.boards.specs.Boards.{Done, is_done}
 use Rattle.boards.specs.Claims.{LastsInRange, AfterFirstReleases, NoneLate}
-use Rattle.plans.specs.declared.Answer.{Answer}
+use Rattle.plans.specs.declared.Refusal.{Refusal}
 use Rattle.plans.specs.Outcomes.{Outcome, writes, refuses, Written}
 use Rattle.demands.specs.Demands.{entry_at, Promised, Given, FirstLate}
 use Rattle.watch_demands.specs.Jobs.{index_of, length_of, rank_with, Indexed}
@@ -163,7 +163,7 @@ pub record WatchDemands (text : List ℕ) (room : ℕ) (w : Outcome) : Type 0 wh
       → RunOf order (offset_of rows tasks releases) lengths room ticks w
 
 -- what the public call promises, of the bytes of its buffer before and after it and of what it returns
-pub record WatchSays (text buffer buffer' : List ℕ) (r : Answer) : Type 0 where
+pub record WatchSays (text buffer buffer' : List ℕ) (r : Result ℕ Refusal) : Type 0 where
   pub answer : Written (watched text (length buffer)) buffer buffer' r
   pub demands : WatchDemands text (length buffer) (watched text (length buffer))
   pub no_other : (w : Outcome) → WatchDemands text (length buffer) w → w ≡ watched text (length buffer)

@@ -1,112 +1,107 @@
-// A tick of the board. Of each rank it keeps three numbers: the release of its oldest unfinished job, whether or not
-// that has come, the ticks that this job still needs, and its slot among the lengths. So a release needs no code, and
-// several pending jobs of one rank are no case of their own.
-ghost use Rattle.std.specs.Prelude.{◌≡◌, ◌≤◌, length, get_or};
-ghost use Rattle.watch_runs.specs.inside.States.{TurnIs, Begins, Steady, Steps};
+// A tick of the board. Of each rank it keeps the oldest unfinished job, whether or not its release has come. So a release
+// needs no code, and several pending jobs of one rank are no case of their own.
+ghost use Rattle.std.specs.Prelude.{◌≡◌, length};
+ghost use Rattle.watch_runs.specs.inside.States.{TurnIs, length_in, Begins, Steady, Steps};
 
 use super::owners::{next_slot, seek};
 
-// What a tick comes to: the rank and the release of the job that it finishes, if it finishes one.
+// A rank: its task, its first release, its period, and the most ticks that a job of it takes.
 #[derive(Clone, Copy)]
-pub struct Ticked {
-    pub finished: bool,
+pub struct Rank {
+    pub task: u64,
+    pub offset: u64,
+    pub period: u64,
+    pub cost: u64,
+}
+
+impl Rank {
+    // What stands where no rank is known yet.
+    pub const NONE: Rank = Rank {
+        task: 0,
+        offset: 0,
+        period: 0,
+        cost: 0,
+    };
+}
+
+// What a run knows: its ranks, the highest first, and the lengths of the first jobs, with the rank of each. The ranks are
+// found before the lengths are read, and stand in an array of their own.
+#[derive(Clone, Copy)]
+pub struct Board<'a> {
+    pub ranks: &'a [Rank],
+    pub owners: &'a [usize],
+    pub lengths: &'a [u64],
+}
+
+// A rank's oldest unfinished job: its release, the ticks that it still needs, and its slot among the lengths.
+#[derive(Clone, Copy)]
+pub struct Pending {
+    pub start: u64,
+    pub left: u64,
+    pub slot: Option<usize>,
+}
+
+impl Pending {
+    // What stands where no job is known yet.
+    pub const NONE: Pending = Pending {
+        start: 0,
+        left: 0,
+        slot: None,
+    };
+}
+
+// The rank and the release of a job that a tick finishes.
+#[derive(Clone, Copy)]
+pub struct Finish {
     pub rank: usize,
     pub release: u64,
 }
 
-// The first of n ranks with a job to run at tick t; n where there is none.
-fn turn_of(t: u64, starts: &[u64], n: usize) -> usize
-    requires { n ≤ length starts.now }
-    ensures { TurnIs t n starts.now result }
+// The first rank with a job to run at tick t.
+fn turn_of(t: u64, pending: &[Pending]) -> Option<usize>
+    ensures { TurnIs t pending.now result }
 {
-    let mut j = 0;
-    while j < n {
-        if starts[j] <= t {
-            return j;
-        }
-        j += 1;
-    }
-    j
+    pending.iter().position(|job| job.start <= t)
 }
 
-// The length in a slot; past the list, the cost.
-fn length_at(lengths: &[u64], slot: usize, cost: u64) -> u64
-    ensures { result ≡ get_or lengths.now slot cost }
+// The length in a slot; with no slot, the cost.
+fn length_at(lengths: &[u64], slot: Option<usize>, cost: u64) -> u64
+    ensures { result ≡ length_in lengths.now cost slot }
 {
-    if slot < lengths.len() {
-        return lengths[slot];
-    }
-    cost
+    slot.and_then(|m| lengths.get(m)).copied().unwrap_or(cost)
 }
 
-// The slot and the length of each rank's first job.
-pub fn begin(
-    lefts: &mut [u64],
-    slots: &mut [usize],
-    costs: &[u64],
-    owners: &[usize],
-    lengths: &[u64],
-    n: usize,
-)
-    requires { (n ≤ length lefts.old) × (n ≤ length slots.old) × (n ≤ length costs.now) }
-    ensures { Begins n costs.now owners.now lengths.now
-        lefts.new slots.new }
+// The first job of each rank.
+pub fn begin(pending: &mut [Pending], board: &Board)
+    requires { length pending.old ≡ length board.now.ranks.now }
+    ensures { Begins board.now pending.new }
 {
-    let mut j = 0;
-    while j < n {
-        let slot = seek(owners, 0, j);
-        let length = length_at(lengths, slot, costs[j]);
-        slots[j] = slot;
-        lefts[j] = length;
-        j += 1;
-    }
-}
-
-// A tick of the first n ranks: the job whose turn it is has one tick less to go, or it ends and its rank's next job
-// takes its place in the three numbers.
-pub fn step(
-    t: u64,
-    n: usize,
-    starts: &mut [u64],
-    lefts: &mut [u64],
-    slots: &mut [usize],
-    periods: &[u64],
-    costs: &[u64],
-    owners: &[usize],
-    lengths: &[u64],
-) -> Ticked
-    requires { Steady t n starts.old lefts.old slots.old periods.now costs.now owners.now }
-    ensures { Steps t n periods.now costs.now owners.now lengths.now
-        starts.old lefts.old slots.old
-        starts.new lefts.new slots.new result }
-{
-    let j = turn_of(t, starts, n);
-    if n <= j {
-        return Ticked {
-            finished: false,
-            rank: 0,
-            release: 0,
+    for (j, job) in pending.iter_mut().enumerate() {
+        let rank = board.ranks[j];
+        let slot = seek(board.owners, 0, j);
+        *job = Pending {
+            start: rank.offset,
+            left: length_at(board.lengths, slot, rank.cost),
+            slot,
         };
     }
-    let left = lefts[j];
-    if 1 < left {
-        lefts[j] = left - 1;
-        return Ticked {
-            finished: false,
-            rank: 0,
-            release: 0,
-        };
+}
+
+// A tick: the job whose turn it is has one tick less to go, or it ends and its rank's next job takes its place.
+pub fn step(t: u64, pending: &mut [Pending], board: &Board) -> Option<Finish>
+    requires { Steady t pending.old board.now }
+    ensures { Steps t board.now pending.old pending.new result }
+{
+    let rank = turn_of(t, pending)?;
+    let job = &mut pending[rank];
+    if 1 < job.left {
+        job.left -= 1;
+        return None;
     }
-    let release = starts[j];
-    let next = release + periods[j];
-    let slot = next_slot(owners, slots[j], j);
-    let length = length_at(lengths, slot, costs[j]);
-    starts[j] = next;
-    slots[j] = slot;
-    lefts[j] = length;
-    Ticked {
-        finished: true,
-        rank: j,
-        release,
-    }
+    let release = job.start;
+    let slot = next_slot(board.owners, job.slot, rank);
+    job.start += board.ranks[rank].period;
+    job.left = length_at(board.lengths, slot, board.ranks[rank].cost);
+    job.slot = slot;
+    Some(Finish { rank, release })
 }

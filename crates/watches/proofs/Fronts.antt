@@ -1,34 +1,39 @@
 -- The table at the front of a text, line by line: a line that the table's reader takes is the text's own step, where a
 -- hold has been seen to be 0; and behind its last line stands a table that the reviewer takes.
 use mathlib.Core.Path.{◌≡◌, refl, sym, ap, ap₂, subst, ◌∙◌}
-use mathlib.Core.Bool.{Bool, true, false, ◌||◌}
+use mathlib.Core.Bool.{Bool, true, false}
 use mathlib.Core.List.{List, []}
 use mathlib.Core.Logic.{inl, inr}
-use Prim.Native.Nat.{ℕ, zero, suc, ◌+◌, ◌-◌, ◌≤◌}
+use Prim.Native.Nat.{ℕ, zero, suc, ◌+◌, ◌≤◌, ◌<◌}
 use native.Mathlib.Omega.{arith}
 use lib.Dec.{eqb}
 use lib.IntN.{ℤ, pos}
 use lib.ListN.{length, take, drop, length-drop}
 use lib.Seq.{length-take-le}
 use borrow.Author.Tests.{eqb-true, eq-eqb}
-use Rattle.basics.specs.Basics.{pick, within, is_in}
-use Rattle.basics.proofs.Tests.{test_of, never, true_not_false, within_true, true_within}
+use Rattle.basics.specs.Basics.{within, is_in}
+use Rattle.basics.proofs.Tests.{test_of, true_not_false, within_true, true_within}
 use Rattle.text.specs.Text.{bytes, line_feed}
 use Rattle.text.specs.Lines.{line_at}
 use Rattle.text.proofs.Lines as T
-use Rattle.text.specs.declared.Line.{Line}
-use Rattle.text.specs.declared.Line.TheVariants as L
+use Rattle.std.specs.Prelude.{Result, Ok, Err, MatchResult}
+use Rattle.text.specs.Line.{Line}
+use Rattle.text.specs.Line as L
+use Rattle.text.specs.Lines.{told}
+use Rattle.text.specs.declared.LineRefusal.{LineRefusal}
+use Rattle.text.specs.declared.Number.{Number}
 use Rattle.grammars.specs.Forms.{Form, natural, Told, number, no_number, plainly, form_at}
-use Rattle.grammars.specs.Grammars.{a_line, Verdict, accepted, refused}
+use Rattle.grammars.specs.Grammars.{a_line, refused, Step}
 use Rattle.grammars.specs.Grammars.{stops, on_fault, on_told, on_expected, step}
 use Rattle.grammars.specs.Grammars.{read, read_from}
 use Rattle.grammars.specs.Reasons.{Reaches, begin}
 use Rattle.grammars.specs.Sequences.{first, second, onward}
-use Rattle.grammars.specs.inside.Readers.{Takes, Ends}
+use Rattle.grammars.specs.inside.Readers.{Takes, Refuses}
+use Rattle.grammars.proofs.Steps.{not_both}
 use Rattle.grammars.specs.inside.Answers.{tested, on_answer}
 use Rattle.grammars.proofs.Naturals.{step_line}
 use Rattle.grammars.proofs.Loops as Loops
-use Rattle.rows.specs.Rows.{min_hold, max_hold, hold_at}
+use Rattle.rows.specs.Rows.{min_hold, max_hold, hold_at, row_at}
 use Rattle.tables.specs.TableLines.{Stage, at-end, expected, table, row_line_at}
 use Rattle.tables.specs.TableLines.{TableRead}
 use Rattle.readers.specs.declared.progress.Part.{Part}
@@ -36,16 +41,16 @@ use Rattle.readers.specs.declared.progress.Part.TheVariants as P
 use Rattle.readers.specs.declared.progress.Stand.{Stand}
 use Rattle.readers.specs.declared.progress.Progress.{Progress}
 use Rattle.readers.specs.inside.Numbers.{Room, row_start}
-use Rattle.readers.specs.inside.Stands.{begun, read_by, stage_in, stage_of, reader, On, TakesLine}
+use Rattle.readers.specs.inside.Stands.{is_end, begun, read_by, stage_in, stage_of, reader, On, TakesLine}
 use Rattle.tables.proofs.Readings as Tables
-use Rattle.readers.proofs.Tables.{end_in, shown_end, in_numbers}
+use Rattle.readers.proofs.Tables.{end_in, shown_end, in_numbers, few, ranks_held, ranks_small}
 use Rattle.readers.proofs.Turns as Turns
 use Rattle.readers.proofs.Steps.{line_small}
 use Rattle.watch_demands.specs.WatchLines.{no_hold, unheld_line, unheld, releases_stage, run_begins}
 use Rattle.watch_demands.specs.WatchLines.{WatchStage, watch_text, watch_start}
 use Rattle.watch_demands.proofs.Texts.{watch_plain, table_front, tells_table, no_holds}
 use Rattle.watches.specs.inside.Stages.{AtReleases}
-use Rattle.watches.specs.inside.Fronts.{is_end, at_hold, is_over, front, OnFront, TakesUnheld, ReadsFront}
+use Rattle.watches.specs.inside.Fronts.{at_hold, front, OnFront, TakesUnheld}
 use Rattle.grammars.proofs.Reached.{step_reaches}
 
 -- ---- a line of the table, and the text's
@@ -61,18 +66,16 @@ module _ (text : List ℕ) (s : Stage) (at k : ℕ) (x : Progress × List ℕ) w
     by_fault : (z : ℤ) (next n : ℕ) → step watch_text text (first s) at k ≡ on_fault watch_text (first s) z next k n
         → Takes reader (On true text) (on_fault (table true) s z next k n) x
         → Takes front (OnFront text) (on_fault watch_text (first s) z next k n) x
-    by_fault z next zero e (on, w) =
+    by_fault z next zero e w =
         let t = onward unheld run_begins (unheld.after s z) in
         let there = step_reaches watch_text watch_plain watch_start text (first s) at k reached t next (suc k) e in
-        let shows = ap (onward unheld run_begins) w.shows in (
-          on,
-          record {
-            shows = shows;
-            stands = (w.stands, rw (w.line, w.offset, shows) there);
-            line = w.line;
-            offset = w.offset;
-          },
-        )
+        let shows = ap (onward unheld run_begins) w.shows in
+        record {
+          shows = shows;
+          stands = (w.stands, rw (w.line, w.offset, shows) there);
+          line = w.line;
+          offset = w.offset;
+        }
     by_fault z next (suc n) e t = t
 
     by_told : (a : Told) → step watch_text text (first s) at k ≡ on_told watch_text (first s) k a
@@ -86,6 +89,28 @@ module _ (text : List ℕ) (s : Stage) (at k : ℕ) (x : Progress × List ℕ) w
     takes_alike a mine theirs t =
         subst (λ y. Takes front (OnFront text) y x) (sym mine)
         (by_told a mine (subst (λ y. Takes reader (On true text) y x) theirs t))
+
+-- and what is refused there is refused here
+module _ (text : List ℕ) (s : Stage) (at k : ℕ) (e : LineRefusal) where
+  stopped_by : (z : ℤ) (next n : ℕ) → Refuses (on_fault (table true) s z next k n) e
+      → Refuses (on_fault watch_text (first s) z next k n) e
+  stopped_by z next zero is = not_both (sym is)
+  stopped_by z next (suc n) is =
+      let number_is : suc n ≡ e.number = cc in
+      let line_is : k ≡ e.line = cc in
+      ap₂ (λ m j. stops (refused m j)) number_is line_is
+
+  stopped_at : (a : Told) → Refuses (on_told (table true) s k a) e → Refuses (on_told watch_text (first s) k a) e
+  stopped_at (number z next) is = stopped_by z next ((table true).fault s z) is
+  stopped_at (no_number n) is =
+      let number_is : n ≡ e.number = cc in
+      let line_is : k ≡ e.line = cc in
+      ap₂ (λ m j. stops (refused m j)) number_is line_is
+
+  pub refuses_alike : (a : Told) → step watch_text text (first s) at k ≡ on_told watch_text (first s) k a
+      → step (table true) text s at k ≡ on_told (table true) s k a
+      → Refuses (step (table true) text s at k) e → Refuses (step watch_text text (first s) at k) e
+  refuses_alike a mine theirs is = mine ∙ stopped_at a (sym theirs ∙ is)
 
 -- ---- a number from 0 to 0 is one of every wider range
 other : {A : Type 0} {n k v next : ℕ} → L.Refused n k ≡ L.Number v next → A
@@ -156,169 +181,137 @@ module _ (text : List ℕ) (p : Progress) (ns : List ℕ) (on : OnFront text (p,
     at_first l =
         subst (λ w. Reaches watch_text watch_start text p.line w (drop p.offset text)) (first_still l) on.1
 
-    to_mine : {b : Bool} → Line-here stage b → (x : Progress × List ℕ) → Mine text stage p.offset p.line x
-        → TakesUnheld p text ns x.0 x.1
-    to_mine l x t =
-        subst (λ w. Takes front (OnFront text) (step watch_text text w p.offset p.line) x) (sym (first_still l)) t
+    abbrev theirs_here : Step Stage
+    theirs_here = step (table true) text stage p.offset p.line
 
-    theirs_is : (x : Progress × List ℕ) → TakesLine p text p.offset p.line ns x.0 x.1
-        → Theirs text stage p.offset p.line x
-    theirs_is x t =
-        subst (λ b. Takes reader (On b text) (step (table b) text stage p.offset p.line) x) on.0.0 t
+    abbrev mine_here : Step WatchStage
+    mine_here = step watch_text text (first stage) p.offset p.line
 
-    module _ (q : Progress) (ms : List ℕ) (t : TakesLine p text p.offset p.line ns q ms) where
+    -- what comes of the line by the table's reader, and by the text's
+    abbrev Theirs-of : Result Progress LineRefusal → List ℕ → Type 0
+    Theirs-of r ms = MatchResult r (λ q. Takes reader (On true text) theirs_here (q, ms)) (Refuses theirs_here)
+
+    abbrev Mine-of : Result Progress LineRefusal → List ℕ → Type 0
+    Mine-of r ms = MatchResult r (λ q. Takes front (OnFront text) mine_here (q, ms)) (Refuses mine_here)
+
+    to_mine : {b : Bool} → Line-here stage b → (r : Result Progress LineRefusal) (ms : List ℕ) → Mine-of r ms
+        → TakesUnheld p text ns r ms
+    to_mine l (Ok q) ms t =
+        subst (λ w. Takes front (OnFront text) (step watch_text text w p.offset p.line) (q, ms)) (sym (first_still l)) t
+    to_mine l (Err e) ms t =
+        subst (λ w. Refuses (step watch_text text w p.offset p.line) e) (sym (first_still l)) t
+
+    theirs_is : (r : Result Progress LineRefusal) (ms : List ℕ) → TakesLine p text ns r ms → Theirs-of r ms
+    theirs_is (Ok q) ms t =
+        subst (λ b. Takes reader (On b text) (step (table b) text stage p.offset p.line) (q, ms)) on.0.0 t
+    theirs_is (Err e) ms t = subst (λ b. Refuses (step (table b) text stage p.offset p.line) e) on.0.0 t
+
+    alike : {b : Bool} → Line-here stage b → (a : Told) → mine_here ≡ on_told watch_text (first stage) p.line a
+        → theirs_here ≡ on_told (table true) stage p.line a
+        → (r : Result Progress LineRefusal) (ms : List ℕ) → Theirs-of r ms → Mine-of r ms
+    alike l a mine theirs (Ok q) ms t =
+        takes_alike text stage p.offset p.line (q, ms) (at_first l) a mine theirs t
+    alike l a mine theirs (Err e) ms t = refuses_alike text stage p.offset p.line e a mine theirs t
+
+    module _ (r : Result Progress LineRefusal) (ms : List ℕ) (t : TakesLine p text ns r ms) where
       -- where it is the table's own line
-      pub takes_own : at_hold p.stand.part p.stand.position ≡ false → TakesUnheld p text ns q ms
+      pub takes_own : at_hold p.stand.part p.stand.position ≡ false → TakesUnheld p text ns r ms
       takes_own none = go (subst (Line-here stage) none line_here)
         where
-          go : Line-here stage false → TakesUnheld p text ns q ms
+          go : Line-here stage false → TakesUnheld p text ns r ms
           go (own key form mine theirs) =
-              let a = form_at key form text p.offset p.line in
-              to_mine (own key form mine theirs) (q, ms)
-              (takes_alike text stage p.offset p.line (q, ms) (at_first (own key form mine theirs)) a
+              let here = own key form mine theirs in
+              to_mine here r ms
+              (alike here (form_at key form text p.offset p.line)
               (ap (on_expected watch_text text (first stage) p.offset p.line) mine)
-              (ap (on_expected (table true) text stage p.offset p.line) theirs) (theirs_is (q, ms) t))
+              (ap (on_expected (table true) text stage p.offset p.line) theirs) r ms (theirs_is r ms t))
 
       -- where it is a hold, and that is 0
-      pub takes_no_hold : at_hold p.stand.part p.stand.position ≡ true → (v next : ℕ)
-          → line_at (bytes "hold=") no_hold no_hold text p.offset p.line ≡ L.Number v next → TakesUnheld p text ns q
-          ms
+      pub takes_no_hold : at_hold p.stand.part p.stand.position ≡ true → (n : Number)
+          → told (Ok n) ≡ line_at (bytes "hold=") no_hold no_hold text p.offset p.line → TakesUnheld p text ns r ms
       unfolding form_at
-      takes_no_hold here v next e = go (subst (Line-here stage) here line_here)
+      takes_no_hold at n e = go (subst (Line-here stage) at line_here)
         where
-          go : Line-here stage true → TakesUnheld p text ns q ms
+          go : Line-here stage true → TakesUnheld p text ns r ms
           go (a_hold mine theirs) =
-              let a = number (pos v) next in
-              let wide = line_wider (bytes "hold=") refl max_hold text p.offset p.line v next e in
-              to_mine (a_hold mine theirs) (q, ms)
-              (takes_alike text stage p.offset p.line (q, ms) (at_first (a_hold mine theirs)) a
+              let here = a_hold mine theirs in
+              let a = number (pos n.value) n.next in
+              let wide = line_wider (bytes "hold=") refl max_hold text p.offset p.line n.value n.next (sym e) in
+              to_mine here r ms
+              (alike here a
               (ap (on_expected watch_text text (first stage) p.offset p.line) mine
-              ∙ ap (λ l. on_told watch_text (first stage) p.line (plainly l)) e)
+              ∙ ap (λ l. on_told watch_text (first stage) p.line (plainly l)) (sym e))
               (ap (on_expected (table true) text stage p.offset p.line) theirs
-              ∙ ap (λ l. on_told (table true) stage p.line (plainly l)) wide) (theirs_is (q, ms) t))
-
-      -- so where its line is not refused
-      pub takes_unrefused : at_hold p.stand.part p.stand.position ≡ true → (l : Line)
-          → ((n j : ℕ) → l ≡ L.Refused n j → ⊥) → l ≡ line_at (bytes "hold=") no_hold no_hold text p.offset p.line
-          → TakesUnheld p text ns q ms
-      takes_unrefused here l some e =
-          go l some e
-          (subst (T.Answers no_hold no_hold text p.offset p.line) (sym e)
-          (T.line_answers (bytes "hold=") no_hold no_hold text p.offset p.line))
-        where
-          go : (l : Line) → ((n j : ℕ) → l ≡ L.Refused n j → ⊥)
-              → l ≡ line_at (bytes "hold=") no_hold no_hold text p.offset p.line
-              → T.Answers no_hold no_hold text p.offset p.line l → TakesUnheld p text ns q ms
-          go (L.Number v next) some e a = takes_no_hold here v next (sym e)
-          go L.End some e a = elim a [ ]
-          go (L.Refused n j) some e a = absurd (some n j refl)
+              ∙ ap (λ l. on_told (table true) stage p.line (plainly l)) wide) r ms (theirs_is r ms t))
 
     -- where it is refused
     abbrev fault_here : ℕ → ℕ
     fault_here v = watch_text.fault (first stage) (pos v)
 
-    pub refuses_hold : at_hold p.stand.part p.stand.position ≡ true → (n j : ℕ)
-        → line_at (bytes "hold=") no_hold no_hold text p.offset p.line ≡ L.Refused n j
-        → (q : Progress) → q.ended ≡ true → q.refused ≡ n → q.line ≡ j → TakesUnheld p text ns q ns
-    refuses_hold here n j e q off number_is line_is = go (subst (Line-here stage) here line_here)
+    pub refuses_hold : at_hold p.stand.part p.stand.position ≡ true → (e : LineRefusal)
+        → told (Err e) ≡ line_at (bytes "hold=") no_hold no_hold text p.offset p.line
+        → TakesUnheld p text ns (Err e) ns
+    refuses_hold at e is = go (subst (Line-here stage) at line_here)
       where
-        go : Line-here stage true → TakesUnheld p text ns q ns
+        go : Line-here stage true → TakesUnheld p text ns (Err e) ns
         go (a_hold mine theirs) =
-            let is : step watch_text text (first stage) p.offset p.line ≡ stops (refused n j) =
-            step_line watch_text text (first stage) p.offset p.line (bytes "hold=") no_hold no_hold mine
-            ∙ ap (λ l. on_answer watch_text (first stage) p.line (tested fault_here l p.line)) e in
-            let some = Loops.refused_here watch_text text (first stage) p.offset p.line watch_plain n j is in
-            to_mine (a_hold mine theirs) (q, ns)
-            (subst (λ y. Takes front (OnFront text) y (q, ns)) (sym is)
-            (off, (number_is, line_is, λ z. omega (arith, some.0, number_is))))
-
--- while it is not over, a line is expected
-pub not_over : (p : Progress) → is_over p ≡ false → (p.ended ≡ false) × (is_end p.stand.part ≡ false)
-not_over p e = go p.ended (is_end p.stand.part) e
-  where
-    go : (a b : Bool) → (a || b) ≡ false → (a ≡ false) × (b ≡ false)
-    go true b h = absurd (true_not_false true refl h)
-    go false b h = (refl, h)
-
--- the last part
-end_part : (q : Part) → is_end q ≡ true → q ≡ P.End
-end_part P.Board h = never h
-end_part P.Tasks h = never h
-end_part P.Switch h = never h
-end_part P.Row h = never h
-end_part P.Rank h = never h
-end_part P.End h = refl
+            to_mine (a_hold mine theirs) (Err e) ns
+            (step_line watch_text text (first stage) p.offset p.line (bytes "hold=") no_hold no_hold mine
+            ∙ ap (λ l. on_answer watch_text (first stage) p.line (tested fault_here l p.line)) (sym is))
 
 -- ---- the loop
 module _ (text : List ℕ) where
-  abbrev pub Standing : Progress → List ℕ → ℕ → Type 0
-  Standing p ns left = Loops.Standing front (OnFront text) watch_text watch_start text (p, ns) left
+  abbrev pub Standing : Progress → List ℕ → Type 0
+  Standing p ns = Loops.Going front (OnFront text) watch_text watch_start text (p, ns)
 
-  abbrev pub Next : ℕ → Progress → List ℕ → Type 0
-  Next left q ms = Loops.Next front (OnFront text) watch_text watch_start text left (q, ms)
+  abbrev pub left_of : Progress → List ℕ → ℕ
+  left_of p ns = Loops.left_at front text (p, ns)
 
-  pub front_begins : (ns : List ℕ) → Room text ns → Standing (begun true) ns (suc (length text - 0))
-  front_begins ns room =
-      let on = (Loops.going (Turns.begins true text ns room) refl).stands in
-      Loops.goes refl (record { stands = (on, begin); same = refl })
+  pub front_begins : (ns : List ℕ) → Room text ns → Standing (begun true) ns
+  front_begins ns room = record { stands = ((Turns.begins true text ns room).stands, begin); same = refl }
 
-  pub front_turn : {p : Progress} {ns : List ℕ} {left : ℕ} → Standing p ns left → p.ended ≡ false → (q : Progress)
-      (ms : List ℕ) → TakesUnheld p text ns q ms → Next left q ms
-  front_turn here go q ms t = Loops.turn here go (q, ms) t
+  module _ {p : Progress} {ns : List ℕ} (here : Standing p ns) where
+    pub front_turn : (q : Progress) (ms : List ℕ) → TakesUnheld p text ns (Ok q) ms
+        → Standing q ms × (left_of q ms < left_of p ns)
+    front_turn q ms t = Loops.turn here (q, ms) t
 
-  -- its measure, by where it is
-  abbrev pub left_of : Progress → ℕ
-  left_of p = pick p.ended 0 (suc (length text - p.offset))
+    pub front_stop : (e : LineRefusal) (ms : List ℕ) → TakesUnheld p text ns (Err e) ms
+        → read watch_text watch_start text ≡ refused e.number e.line
+    front_stop e ms t = Loops.refused_at here e t
 
-  pub left_is : {p : Progress} {ns : List ℕ} {left : ℕ} → Standing p ns left → left ≡ left_of p
-  left_is (Loops.goes e h) = rw e
-  left_is (Loops.done e h) = rw e
+    -- ---- behind its last line
+    at_end_shows : (s : Stand) (ns : List ℕ) → s.part ≡ P.End → read_by s.part s ≤ length ns
+        → (stage_of s ns ≡ end_in s ns) × (row_start s.count + s.position ≤ length ns)
+    at_end_shows s ns e long = shown_end s.part s ns long (rw e)
 
-  -- ---- behind its last line
-  at_end_shows : (s : Stand) (ns : List ℕ) → s.part ≡ P.End → read_by s.part s ≤ length ns
-      → (stage_of s ns ≡ end_in s ns) × (row_start s.count + s.position ≤ length ns)
-  at_end_shows s ns e long =
-      shown_end s.part s ns long (rw e)
-
-  pub front_read : {p : Progress} {ns : List ℕ} {left : ℕ} → Standing p ns left → is_over p ≡ true
-      → ReadsFront text p ns
-  front_read {p} {ns} here over = record {
-    refused_is = λ e. by_verdict (read watch_text watch_start text) refl (Loops.finished here e);
-    table_read = λ e. behind_table (Loops.going here e) (ended_part e);
-  }
-    where
-      by_verdict : (v : Verdict WatchStage) → read watch_text watch_start text ≡ v → Ends front v (p, ns)
-          → read watch_text watch_start text ≡ refused p.refused p.line
-      by_verdict (accepted s) e h = absurd h.2
-      by_verdict (refused n k) e h = e ∙ ap₂ refused (sym h.0) (sym h.1)
-
-      ended_part : p.ended ≡ false → p.stand.part ≡ P.End
-      ended_part e = end_part p.stand.part (rw e at over)
-
-      behind_table : Loops.Going front (OnFront text) watch_text watch_start text (p, ns) → p.stand.part ≡ P.End
-          → AtReleases text p.offset p.line ns p.stand.count
-      behind_table g e =
-          let s = p.stand in
-          let on = g.stands.0.1 in
-          let shown = at_end_shows s ns e on.long in
-          let shows : front.shows (p, ns) ≡ second (end_in s ns) (run_begins (end_in s ns)) =
-          ap (onward unheld run_begins) shown.0 in
-          let reached = subst (λ w. Reaches watch_text watch_start text p.line w (drop p.offset text)) shows
-          g.stands.1 in
-          let front_text = (table_front reached).front in
-          let is = (Tables.read true front_text).accepts _ _ _ (tells_table reached) in
-          let small = line_small text p.offset s p.line ns on in
-          record {
-            table = record {
-              front = front_text;
-              read_as = in_numbers true front_text s ns shown.1 is;
-              ok = rw is;
-              none_holds = rw is (no_holds reached);
-            };
-            resumes =
-                g.same
-                ∙ ap (λ w. read_from watch_text text w p.offset p.line)
-                (shows ∙ sym (ap (λ (a : TableRead). second (at-end a.board a.rows a.order)
-                (releases_stage (length a.rows) [])) is));
-            soon = omega (arith, small);
-          }
+    pub front_read : p.stand.part ≡ P.End → AtReleases text p.offset p.line ns p.stand.count
+    front_read e =
+        let s = p.stand in
+        let on = here.stands.0.1 in
+        let shown = at_end_shows s ns e on.long in
+        let shows : front.shows (p, ns) ≡ second (end_in s ns) (run_begins (end_in s ns)) =
+        ap (onward unheld run_begins) shown.0 in
+        let reached = subst (λ w. Reaches watch_text watch_start text p.line w (drop p.offset text)) shows
+        here.stands.1 in
+        let front_text = (table_front reached).front in
+        let is = (Tables.read true front_text).accepts _ _ _ (tells_table reached) in
+        let small = line_small text p.offset s p.line ns on in
+        let held = in_numbers true front_text s ns shown.1 is in
+        record {
+          front = front_text;
+          table = record {
+            ok = rw is;
+            none_holds =
+                subst (λ (a : TableRead). (i : ℕ) → i < length a.rows → (row_at a.rows i).hold ≡ 0) (sym is) (no_holds reached);
+          };
+          held = held;
+          few = few held;
+          ranks_held = ranks_held held;
+          ranks_small = ranks_small held;
+          resumes =
+              here.same
+              ∙ ap (λ w. read_from watch_text text w p.offset p.line)
+              (shows ∙ sym (ap (λ (a : TableRead). second (at-end a.board a.rows a.order)
+              (releases_stage (length a.rows) [])) is));
+          soon = omega (arith, small);
+        }

@@ -10,19 +10,21 @@ use native.Mathlib.Numerals.{add-one}
 use lib.IntN.{ℤ, pos}
 use lib.ListN.{length, get_or, take, set, length-append, length-set, get_or-append}
 use lib.Seq.{take-suc-set, take_all, length-take-le, get_or_at}
-use types.Run.{miss}
 use Rattle.basics.proofs.Tests.{le-or-lt, Within}
-use Rattle.text.specs.Lines.{line_at, refusal, place}
-use Rattle.text.specs.declared.Line.{Line}
-use Rattle.text.specs.declared.Line.TheVariants as L
-use Rattle.text.proofs.Lines.{Answers, line_answers}
+use Rattle.std.specs.Prelude.{Ok, Err}
+use Rattle.text.specs.Lines.{line_at, told}
+use Rattle.text.specs.Lines as Lines
+use Rattle.text.specs.Line.{Line}
+use Rattle.text.specs.Line as L
+use Rattle.text.specs.declared.LineRefusal.{LineRefusal}
+use Rattle.text.specs.declared.Number.{Number}
 use Rattle.grammars.specs.Forms.{natural}
 use Rattle.grammars.specs.Grammars.{Grammar, a_line, refused, on_step, read_from}
 use Rattle.grammars.specs.inside.Answers.{tested, on_answer}
-use Rattle.grammars.proofs.Answers.{NoNumber, no_test}
+use Rattle.grammars.proofs.Answers.{no_test}
 use Rattle.grammars.proofs.Steps.{read_steps}
 use Rattle.grammars.proofs.Naturals.{step_line, number_within}
-use Rattle.watches.specs.inside.Lines.{range_of, number_line, Told, none, more, Stopped, ReadsNumbers}
+use Rattle.watches.specs.inside.Lines.{number_line, Told, none, more, Stopped, ReadsNumbers}
 
 -- ---- a grammar's line by what it answers, where no number in its range is refused
 module _ {S : Type 0} (g : Grammar S) (text : List ℕ) (s : S) (at k : ℕ) (key : List ℕ) (low high : ℕ)
@@ -45,14 +47,8 @@ module _ {S : Type 0} (g : Grammar S) (text : List ℕ) (s : S) (at k : ℕ) (ke
       → read_from g text s at k ≡ read_from g text (g.after s (pos v)) next (suc k)
   line_number v next e = by_answer ∙ ap (λ l. on_step (on_answer g s k l) (read_from g text)) e
 
-  pub line_refused : (l : Line) → NoNumber l → answer ≡ l → read_from g text s at k ≡ refused (refusal l) (place l)
-  line_refused l left e = go l left e (subst (Answers low high text at k) e (line_answers key low high text at k))
-    where
-      go : (l : Line) → NoNumber l → answer ≡ l → Answers low high text at k l
-          → read_from g text s at k ≡ refused (refusal l) (place l)
-      go (L.Number v next) left e a = absurd (miss (1 ∷ 2 ∷ []) 0 tt left)
-      go L.End left e a = elim a [ ]
-      go (L.Refused n j) left e a = by_answer ∙ ap (λ l. on_step (on_answer g s k l) (read_from g text)) e
+  pub line_refused : (e : LineRefusal) → answer ≡ Lines.refused e → read_from g text s at k ≡ refused e.number e.line
+  line_refused e is = by_answer ∙ ap (λ l. on_step (on_answer g s k l) (read_from g text)) is
 
 -- ---- lines of one key
 module _ (text key : List ℕ) (low high : ℕ → ℕ) where
@@ -89,73 +85,53 @@ module _ (text key : List ℕ) (low high : ℕ → ℕ) where
         ∙ (ap (λ s. read_from g text s next (suc (k + length vs))) (goes vs short v)
         ∙ ap (read_from g text (stage (vs ++ (v ∷ []))) next) (sym line)))
 
-    pub stopped_refused : {at k m : ℕ} (l : Line) → NoNumber l → m ≤ n → Stopped text key low high at k m l
-        → read_from g text (stage []) at k ≡ refused (refusal l) (place l)
-    stopped_refused {k = k} l left few s =
+    pub stopped_refused : {at k m : ℕ} (e : LineRefusal) → m ≤ n → Stopped text key low high at k m (Lines.refused e)
+        → read_from g text (stage []) at k ≡ refused e.number e.line
+    stopped_refused {k = k} e few s =
         let vs = s.numbers in
         let short : length vs < n = omega (arith, s.fewer) in
         told_resumes s.told (omega arith)
         ∙ line_refused g text (stage vs) s.past (k + length vs) key (low (length vs)) (high (length vs))
-        (expects vs short) (lets vs short) l left s.stopped
+        (expects vs short) (lets vs short) e s.stopped
 
 -- ---- the reader of such lines on its way
-module _ (text key lows highs owners : List ℕ) (at₀ k₀ : ℕ) (ns₀ : List ℕ) where
-  abbrev low : ℕ → ℕ
-  low = range_of lows owners
-
-  abbrev high : ℕ → ℕ
-  high = range_of highs owners
-
-  pub record Reading (ns : List ℕ) (at k m : ℕ) : Type 0 where
-    pub same : length ns ≡ length ns₀
+module _ (text key : List ℕ) (low high : ℕ → ℕ) (at₀ k₀ : ℕ) where
+  pub record Reading (ns : List ℕ) (at m : ℕ) : Type 0 where
     pub reached : m ≤ length ns
-    pub line_is : k ≡ k₀ + m
     pub told : Told text key low high at₀ k₀ (take m ns) at
 
-  pub reading_starts : Reading ns₀ at₀ k₀ 0
-  reading_starts = record { same = refl; reached = omega arith; line_is = omega arith; told = none }
+  pub reading_starts : (ns : List ℕ) → Reading ns at₀ 0
+  reading_starts ns = record { reached = omega arith; told = none }
 
-  module _ {ns : List ℕ} {at k m : ℕ} (g : Reading ns at k m) where
+  module _ {ns : List ℕ} {at m : ℕ} (g : Reading ns at m) (l : m < length ns) where
     so_many : length (take m ns) ≡ m
     so_many = length-take-le m ns g.reached
 
     -- the line that is tried is the next of them
-    line_here : (l : Line) → l ≡ line_at key (low m) (high m) text at k
-        → number_line text key low high (length (take m ns)) at (k₀ + length (take m ns)) ≡ l
-    line_here l e =
-        ap (λ (x : ℕ). number_line text key low high x at (k₀ + x)) so_many
-        ∙ (ap (line_at key (low m) (high m) text at) (sym g.line_is) ∙ sym e)
+    line_here : (x : Line) → x ≡ line_at key (low m) (high m) text at (k₀ + m)
+        → number_line text key low high (length (take m ns)) at (k₀ + length (take m ns)) ≡ x
+    line_here x e = ap (λ (i : ℕ). number_line text key low high i at (k₀ + i)) so_many ∙ sym e
 
-    pub reading_on : (v next : ℕ) → m < length ns → L.Number v next ≡ line_at key (low m) (high m) text at k
-        → Reading (set ns m v) next (k + 1) (m + 1)
-    reading_on v next l e = rw (add-one m, add-one k) record {
-      same = length-set ns m v ∙ g.same;
-      reached = omega (arith, length-set ns m v);
-      line_is = omega (arith, g.line_is);
+    pub reading_on : (n : Number) → told (Ok n) ≡ line_at key (low m) (high m) text at (k₀ + m)
+        → Reading (set ns m n.value) n.next (m + 1)
+    reading_on n e = rw (add-one m) record {
+      reached = omega (arith, length-set ns m n.value);
       told =
-          subst (λ vs. Told text key low high at₀ k₀ vs next) (sym (take-suc-set ns m v l))
-          (more v next g.told (line_here (L.Number v next) e));
+          subst (λ vs. Told text key low high at₀ k₀ vs n.next) (sym (take-suc-set ns m n.value l))
+          (more n.value n.next g.told (line_here (told (Ok n)) e));
     }
 
-    pub reading_stops : m < length ns → (l : Line) → NoNumber l → l ≡ line_at key (low m) (high m) text at k
-        → ReadsNumbers text key low high at₀ k₀ ns l
-    reading_stops h l left e =
-        go l left (line_here l e)
-        (subst (Answers (low m) (high m) text at k) (sym e) (line_answers key (low m) (high m) text at k))
-      where
-        go : (l : Line) → NoNumber l
-            → number_line text key low high (length (take m ns)) at (k₀ + length (take m ns)) ≡ l
-            → Answers (low m) (high m) text at k l
-            → ReadsNumbers text key low high at₀ k₀ ns l
-        go (L.Number v next) left is a = absurd (miss (1 ∷ 2 ∷ []) 0 tt left)
-        go L.End left is a = elim a [ ]
-        go (L.Refused n j) left is a = record {
-          numbers = take m ns;
-          past = at;
-          told = g.told;
-          fewer = omega (arith, so_many);
-          stopped = is;
-        }
+    pub reading_stops : (e : LineRefusal) → told (Err e) ≡ line_at key (low m) (high m) text at (k₀ + m)
+        → (n : ℕ) → m < n → Stopped text key low high at₀ k₀ n (told (Err e))
+    reading_stops e is n few = record {
+      numbers = take m ns;
+      past = at;
+      told = g.told;
+      fewer = omega (arith, so_many);
+      stopped = line_here (told (Err e)) is;
+    }
 
-    pub reading_ends : length ns ≤ m → ReadsNumbers text key low high at₀ k₀ ns (L.Number 0 at)
-    reading_ends h = subst (λ vs. Told text key low high at₀ k₀ vs at) (take_all m ns h) g.told
+  pub reading_ends : {ns : List ℕ} {at m : ℕ} → Reading ns at m → length ns ≤ m
+      → ReadsNumbers text key low high at₀ k₀ ns (Ok at)
+  reading_ends {ns} {at} {m} g h =
+      subst (λ vs. Told text key low high at₀ k₀ vs at) (take_all m ns h) g.told

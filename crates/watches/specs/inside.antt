@@ -1,4 +1,5 @@
 -- What functions promise each other.
 pub mod Lines
 pub mod Fronts
+pub mod Rankings
 pub mod Stages

@@ -2,41 +2,45 @@
 ghost use Rattle.std.specs.Prelude.{◌≡◌, false};
 ghost use Rattle.basics.specs.Basics.{is_in};
 ghost use Rattle.text.specs.Text.{line_feed};
-ghost use Rattle.watches.specs.inside.Lines.{range_of, ReadsNumbers, Readable};
+ghost use Rattle.watches.specs.inside.Lines.{low_of, high_of, ReadsNumbers, Readable};
 
-use text::{Line, line_at};
+use text::{LineRefusal, line_at};
 
-// The numbers of the lines from an offset on, as many as there is room for, each within the low and the high of its
-// owner: the offset after them, or the first refusal.
+// From which number to which.
+#[derive(Clone, Copy)]
+pub struct Range {
+    pub low: u64,
+    pub high: u64,
+}
+
+impl Range {
+    // What stands where no range is known yet.
+    pub const NONE: Range = Range { low: 0, high: 0 };
+}
+
+// The numbers of the lines from an offset on, as many as there is room for, each within the range of its owner: the
+// offset after them.
 pub fn read_numbers(
     text: &[u8],
     offset: usize,
     first: u32,
     key: &[u8],
-    lows: &[u64],
-    highs: &[u64],
+    ranges: &[Range],
     owners: &[usize],
     numbers: &mut [u64],
-) -> Line
+) -> Result<usize, LineRefusal>
     requires key_value { is_in line_feed key.now ≡ false }
-    requires readable { Readable first lows.now highs.now owners.now numbers.old }
+    requires readable { Readable first ranges.now owners.now numbers.old }
     ensures { ReadsNumbers text.now key.now
-        (range_of lows.now owners.now) (range_of highs.now owners.now)
+        (low_of ranges.now owners.now) (high_of ranges.now owners.now)
         offset first numbers.new result }
 {
     let mut at = offset;
-    let mut line = first;
-    let mut m = 0;
-    while m < numbers.len() {
-        let owner = owners[m];
-        let answer = line_at(text, at, line, key, lows[owner], highs[owner]);
-        let Line::Number(value, next) = answer else {
-            return answer;
-        };
-        numbers[m] = value;
-        at = next;
-        line += 1;
-        m += 1;
+    for (m, number) in numbers.iter_mut().enumerate() {
+        let range = ranges[owners[m]];
+        let line = line_at(text, at, first + m as u32, key, range.low, range.high)?;
+        *number = line.value;
+        at = line.next;
     }
-    Line::Number(0, at)
+    Ok(at)
 }

@@ -1,14 +1,9 @@
--- Invariant: the largest of the holds from position k on.
-use mathlib.Core.Path.{◌≡◌}
-use Prim.Native.Nat.{◌-◌, ◌≤◌}
-use lib.ListN.{take, drop}
-use Rattle.rows.specs.inside.Numbers.{rows_in}
-use Rattle.responses.specs.Figures.{largest_hold}
+-- Invariant: the largest hold so far, with those to come, is the largest of all.
+use Rattle.std.proofs.Common.{◌≡◌}
+use Rattle.basics.specs.Basics.{larger}
+use Rattle.analysis.proofs.Holds.{largest_from}
 use Rattle.analysis.proofs.blocking_from.Given as goal
 
-abbrev pub invariant-loop-k : goal.invariant-loop-k
-invariant-loop-k l =
-    (l.from ≤ l.k) × (l.k ≤ l.n) × (l.largest ≡ largest_hold (rows_in l.rows (drop l.k (take l.n l.positions))))
-
-abbrev pub decreases-loop-k : goal.decreases-loop-k
-decreases-loop-k l = l.k - l.from
+abbrev pub invariant-loop-position : goal.invariant-loop-position
+invariant-loop-position l =
+    larger l.largest (largest_from l.rows l.positions l.position-index) ≡ largest_from l.rows l.positions 0

@@ -1,14 +1,9 @@
 -- Invariant: every row passed is in range, so the rest decides.
-use mathlib.Core.Path.{◌≡◌}
-use Prim.Native.Nat.{◌-◌, ◌≤◌}
+use Rattle.std.proofs.Common.{◌≡◌, drop}
 use Rattle.rows.specs.Rows.{in_range, all_rows}
-use Rattle.rows.specs.inside.Numbers.{rows_of}
-use Rattle.rows.proofs.RowNumbers.{rows_past}
+use Rattle.rows.specs.inside.Lent.{table_of}
 use Rattle.figures.proofs.all_in_range.Given as goal
 
-abbrev pub invariant-loop-i : goal.invariant-loop-i
-invariant-loop-i l =
-    (l.i ≤ l.n) × (all_rows in_range (rows_of l.n l.numbers) ≡ all_rows in_range (rows_past l.n l.i l.numbers))
-
-abbrev pub decreases-loop-i : goal.decreases-loop-i
-decreases-loop-i l = l.n - l.i
+abbrev pub invariant-loop-row : goal.invariant-loop-row
+invariant-loop-row l =
+    all_rows in_range (table_of l.rows) ≡ all_rows in_range (table_of (drop l.row-index l.rows))

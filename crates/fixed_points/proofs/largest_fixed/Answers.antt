@@ -2,7 +2,6 @@ use mathlib.Core.Path.{◌≡◌}
 use Prim.Native.Nat.{◌+◌}
 use native.Mathlib.Omega.{arith}
 use Rattle.responses.specs.Interference.{interference}
-use Rattle.fixed_points.specs.inside.Loads.{loads}
 use Rattle.responses.proofs.FixedPoints.{demand_mono, largest_is}
 use Rattle.fixed_points.proofs.largest_fixed.Goals as goal
 
@@ -20,7 +19,7 @@ overflow_add-demand c = omega (arith, c.interference.ensures, c.loop-e.invariant
 pub returns-then-demand-e : goal.returns-then-demand-e
 returns-then-demand-e c =
     let l = c.loop-e in
-    let ls = loads c.args.n c.args.periods.now c.args.costs.now in
+    let ls = c.args.tasks.now in
     let e : l.e ≡ c.args.base + interference 1 l.e ls = omega
     (arith, c.interference.ensures, c.if-demand-e.true) in
     largest_is c.args.base c.args.limit ls l.e c.requires.0 c.requires.3 e l.invariant.0 l.invariant.2
@@ -33,6 +32,6 @@ loop-e-smaller c =
 pub loop-e-preserved : goal.loop-e-preserved
 loop-e-preserved c =
     let l = c.loop-e in
-    let up = demand_mono 1 c.args.base (loads c.args.n c.args.periods.now c.args.costs.now) in
+    let up = demand_mono 1 c.args.base c.args.tasks.now in
     rw c.interference.ensures
     (omega arith, up _ l.e l.invariant.1, λ v e k. omega (arith, up v l.e (l.invariant.2 v e k), e))

@@ -2,14 +2,13 @@
 use mathlib.Core.Path.{◌≡◌}
 use Prim.Native.Nat.{ℕ, ◌+◌, ◌≤◌}
 use Rattle.responses.specs.Interference.{interference}
-use Rattle.fixed_points.specs.inside.Loads.{loads}
 use Rattle.fixed_points.proofs.largest_fixed.Given as goal
 
 abbrev pub invariant-loop-e : goal.invariant-loop-e
 invariant-loop-e l =
     (l.e ≤ l.limit)
-    × (l.base + interference 1 l.e (loads l.n l.periods l.costs) ≤ l.e)
-    × ((v : ℕ) → v ≡ l.base + interference 1 v (loads l.n l.periods l.costs) → v ≤ l.limit → v ≤ l.e)
+    × (l.base + interference 1 l.e l.tasks ≤ l.e)
+    × ((v : ℕ) → v ≡ l.base + interference 1 v l.tasks → v ≤ l.limit → v ≤ l.e)
 
 abbrev pub decreases-loop-e : goal.decreases-loop-e
 decreases-loop-e l = l.e

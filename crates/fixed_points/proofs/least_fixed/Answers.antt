@@ -1,37 +1,36 @@
 -- The last value of the search is the least solution, or shows that there is none within the limit.
-use native.Mathlib.Omega.{arith}
-use Rattle.fixed_points.specs.inside.Loads.{loads}
-use Rattle.fixed_points.proofs.Values.{periods_some, Searching, searching, ends_at, ends_late}
+use Rattle.std.proofs.Common.{◌≡◌, ℕ, zero, suc, ◌≤◌, List, refl, ap, ◌∙◌, arith}
+use Rattle.std.specs.Prelude.{Some}
+use Rattle.responses.specs.declared.Load.{Load}
+use Rattle.fixed_points.specs.inside.Loads.{Loads}
+use Rattle.fixed_points.specs.inside.Values.{value_at, found}
+use Rattle.fixed_points.proofs.Loads.{periods_some}
+use Rattle.fixed_points.proofs.Values.{Searching, searching, ends_at, ends_late}
 use Rattle.fixed_points.proofs.least_fixed.Goals as goal
-use Rattle.fixed_points.proofs.least_fixed.Lts as lts
-use Rattle.fixed_points.proofs.least_fixed.Reads as reads
-use Rattle.fixed_points.proofs.least_fixed.Tie as tie
 
--- the states of the call that lemmas speak of
-abbrev At-After-try_values : Type 0
-At-After-try_values = lts.After-try_values tie.the-claims reads.Pre reads.Post
+-- where the search stands at its end
+stands : (base limit : ℕ) (ls : List Load) (w k : ℕ) → 1 ≤ base → Loads ls → w ≡ value_at base limit ls k
+    → Searching base limit ls w
+stands base limit ls w k some fits e = rw e (searching base limit ls some (periods_some ls fits) k)
 
--- where it stands at its end
-stands : (c : At-After-try_values) → let a = c.args in
-    Searching a.base a.limit (loads a.n a.periods.now a.costs.now) c.try_values-tried.result.last
-stands c =
-    let a = c.args in
-    let ls = loads a.n a.periods.now a.costs.now in
-    let some = periods_some a.n a.periods.now a.costs.now c.requires.3 in
-    rw c.try_values-tried.ensures.last_is
-    (searching a.base a.limit ls c.requires.0 some c.try_values-tried.result.steps)
+-- a solution is no 0
+some_found : (w : ℕ) → 1 ≤ w → Some w ≡ found w
+some_found zero h = absurd (omega arith)
+some_found (suc w) h = refl
 
 pub returns-then-tried-limit : goal.returns-then-tried-limit
 returns-then-tried-limit c =
     let a = c.args in
-    let ls = loads a.n a.periods.now a.costs.now in
-    let s = stands c.before.before.before in
-    ends_at a.base a.limit ls c.try_values-tried.result.last s c.try_values-tried.ensures.ends
-    (omega (arith, c.if-tried-limit.true))
+    let ls = a.tasks.now in
+    let t = c.try_values-tried in
+    let s = stands a.base a.limit ls t.result.last t.result.steps c.requires.0 c.requires.3 t.ensures.last_is in
+    some_found t.result.last s.some
+    ∙ ap found (ends_at a.base a.limit ls t.result.last s t.ensures.ends c.if-tried-limit.true)
 
 pub returns-else-tried-limit : goal.returns-else-tried-limit
 returns-else-tried-limit c =
     let a = c.args in
-    let ls = loads a.n a.periods.now a.costs.now in
-    let s = stands c.before.before.before in
-    ends_late a.base a.limit ls c.try_values-tried.result.last s (omega (arith, c.if-tried-limit.false))
+    let ls = a.tasks.now in
+    let t = c.try_values-tried in
+    let s = stands a.base a.limit ls t.result.last t.result.steps c.requires.0 c.requires.3 t.ensures.last_is in
+    ap found (ends_late a.base a.limit ls t.result.last s (omega (arith, c.if-tried-limit.false)))

@@ -1,7 +1,6 @@
 use mathlib.Core.Path.{sym, ap, ◌∙◌}
 use Prim.Native.Nat.{ℕ, ◌+◌}
 use native.Mathlib.Omega.{arith}
-use Rattle.fixed_points.specs.inside.Loads.{loads}
 use Rattle.fixed_points.proofs.Loads.{interference_fits}
 use Rattle.fixed_points.proofs.Values.{next_within, next_past}
 use Rattle.fixed_points.proofs.next_value.Goals as goal
@@ -9,18 +8,18 @@ use Rattle.fixed_points.proofs.next_value.Goals as goal
 pub returns-then-limit-w : goal.returns-then-limit-w
 returns-then-limit-w c =
     let a = c.args in
-    let ls = loads a.n a.periods.now a.costs.now in
+    let ls = a.tasks.now in
     sym (next_past a.base a.limit a.w ls (omega (arith, c.if-limit-w.true)))
 
 pub overflow_add-result : goal.overflow_add-result
 overflow_add-result c =
-    let f = interference_fits c.args.n c.args.periods.now c.args.costs.now c.requires.3 0 c.args.w
+    let f = interference_fits c.args.tasks.now c.requires.3 0 c.args.w
     (omega arith) in
     record { fits = omega (arith, c.interference.ensures, f) }
 
 pub returns : goal.returns
 returns c =
     let a = c.args in
-    let ls = loads a.n a.periods.now a.costs.now in
+    let ls = a.tasks.now in
     ap (λ (x : ℕ). a.base + x) c.interference.ensures
     ∙ sym (next_within a.base a.limit a.w ls (omega arith))

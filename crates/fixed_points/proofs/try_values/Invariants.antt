@@ -1,11 +1,10 @@
 -- The invariant: the last value is the one after so many steps, each of which led to a greater value (`Reached`).
 use Prim.Native.Nat.{suc, ◌-◌}
-use Rattle.fixed_points.specs.inside.Loads.{loads}
 use Rattle.fixed_points.proofs.Values.{Reached}
 use Rattle.fixed_points.proofs.try_values.Given as goal
 
 abbrev pub invariant-loop-last : goal.invariant-loop-last
-invariant-loop-last l = Reached l.base l.limit (loads l.n l.periods l.costs) l.last l.steps
+invariant-loop-last l = Reached l.base l.limit l.tasks l.last l.steps
 
 abbrev pub decreases-loop-last : goal.decreases-loop-last
 decreases-loop-last l = suc l.limit - l.last

@@ -1,29 +1,24 @@
--- A promise between functions: the periods and the costs of some tasks as two columns of numbers.
-use Rattle.std.specs.Prelude.{List, [], ◌∷◌, ℕ, zero, suc, ◌≤◌, ◌<◌, length, get_or}
+-- A promise between functions: tasks whose interference fits.
+use Rattle.std.specs.Prelude.{List, ℕ, ◌≤◌, ◌<◌, length, get_or}
 use Rattle.rows.specs.Rows.{max_ticks}
-use Rattle.responses.specs.Interference.{Load, load}
+use Rattle.responses.specs.declared.Load.{Load}
+use Rattle.responses.specs.Interference.{load}
 
--- n tasks, from index i on
-unfoldable pub loads_from : ℕ → ℕ → List ℕ → List ℕ → List Load
-loads_from i zero ps cs = []
-loads_from i (suc n) ps cs = load (get_or ps i 0) (get_or cs i 0) ∷ loads_from (suc i) n ps cs
-
-abbrev pub loads : ℕ → List ℕ → List ℕ → List Load
-loads n ps cs = loads_from 0 n ps cs
-
--- the most tasks that columns hold: with them no sum overflows
-abbrev pub columns_max : ℕ
-columns_max = 64
+-- the most tasks: with them no sum overflows
+abbrev pub loads_max : ℕ
+loads_max = 64
 
 -- the largest base of a fixed point: likewise
 abbrev pub base_max : ℕ
 base_max = 1000000000000
 
--- n tasks, each with its cost within its period
-pub record Columns (n : ℕ) (ps cs : List ℕ) : Type 0 where
-  pub few : n ≤ columns_max
-  pub periods_held : n ≤ length ps
-  pub costs_held : n ≤ length cs
-  pub period_some : (i : ℕ) → i < n → 1 ≤ get_or ps i 0
-  pub period_max : (i : ℕ) → i < n → get_or ps i 0 ≤ max_ticks
-  pub cost_period : (i : ℕ) → i < n → get_or cs i 0 ≤ get_or ps i 0
+-- no task
+abbrev pub no_load : Load
+no_load = load 0 0
+
+-- some tasks, each with its cost within its period
+pub record Loads (ls : List Load) : Type 0 where
+  pub few : length ls ≤ loads_max
+  pub period_some : (i : ℕ) → i < length ls → 1 ≤ (get_or ls i no_load).period
+  pub period_max : (i : ℕ) → i < length ls → (get_or ls i no_load).period ≤ max_ticks
+  pub cost_period : (i : ℕ) → i < length ls → (get_or ls i no_load).cost ≤ (get_or ls i no_load).period

@@ -1,7 +1,8 @@
 -- A promise between functions: the values that the search of W tries, one after another.
-use Rattle.std.specs.Prelude.{◌≡◌, List, [], ◌∷◌, ℕ, zero, suc, ◌+◌, ◌<◌, leb}
+use Rattle.std.specs.Prelude.{◌≡◌, List, [], ◌∷◌, ℕ, zero, suc, ◌+◌, ◌<◌, leb, Option, Some, None}
 use Rattle.basics.specs.Basics.{pick}
-use Rattle.responses.specs.Interference.{Load, interference}
+use Rattle.responses.specs.declared.Load.{Load}
+use Rattle.responses.specs.Interference.{interference}
 use Rattle.fixed_points.specs.declared.Tried.{Tried}
 
 -- one job of each task
@@ -27,3 +28,8 @@ pub record Tries (base limit : ℕ) (ls : List Load) (t : Tried) : Type 0 where
   pub last_is : t.last ≡ value_at base limit ls t.steps
   pub ends : next_value base limit ls t.last ≡ t.last
   pub goes_on : (k : ℕ) → k < t.steps → value_at base limit ls k < value_at base limit ls (suc k)
+
+-- a solution, if there is one: 0 is none
+abbrev pub found : ℕ → Option ℕ
+found zero = None
+found (suc w) = Some (suc w)

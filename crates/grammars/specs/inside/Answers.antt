@@ -1,7 +1,7 @@
 -- Promised between functions: what a line answers to code once its number was tested, and the step that it makes.
 use Rattle.std.specs.Prelude.{ℕ, zero, suc, pos}
-use Rattle.text.specs.declared.Line.{Line}
-use Rattle.text.specs.declared.Line.TheVariants as L
+use Rattle.text.specs.Line.{Line}
+use Rattle.text.specs.Line as L
 use Rattle.grammars.specs.Grammars.{Grammar, accepted, refused, Step, goes_on, stops}
 
 -- an answer of line k, unless there is a refusal

@@ -1,66 +1,53 @@
--- `put_refusal` writes a refusal from the buffer's start: its three lines are put one after another, each where the
--- one before it ends.
-use mathlib.Core.List.{List, [], ◌∷◌}
-use Prim.Native.Nat.{ℕ}
-use native.Mathlib.Omega.{arith}
-use lib.ListN.{drop}
+-- The three lines of a refusal are put at the buffer's start, one after another.
+use Rattle.std.proofs.Common.{◌≡◌, ℕ, ◌^◌, ◌<◌, ◌≤◌, ◌⊎◌, inl, inr, List, [], ◌∷◌, length, arith}
 use Rattle.text.specs.Text.{bytes, decimal, key_line}
+use Rattle.text.specs.Buffers.{Wrote}
 use Rattle.plans.specs.Plans.{refusal_text}
-use Rattle.text.proofs.Puts.{Going, begins, fits_next, next, ends, from_start}
+use Rattle.plans.specs.inside.Prints.{refusal_room}
+use Rattle.plans.proofs.Lengths.{refusal_length}
+use Rattle.text.proofs.Puts.{Going, begins, fits_next, ◌▷◌, ends, from_start}
 use Rattle.plan_lines.proofs.put_refusal.Goals as goal
-use Rattle.plan_lines.proofs.put_refusal.Lts as lts
-use Rattle.plan_lines.proofs.put_refusal.Reads as reads
-use Rattle.plan_lines.proofs.put_refusal.Tie as tie
 
--- the states of the call that lemmas speak of
-abbrev At-After-put_line : Type 0
-At-After-put_line = lts.After-put_line tie.the-claims reads.Pre reads.Post
-
-abbrev At-After-put_line2 : Type 0
-At-After-put_line2 = lts.After-put_line2 tie.the-claims reads.Pre reads.Post
-
-abbrev At-Start : Type 0
-At-Start = lts.Start tie.the-claims reads.Pre reads.Post
-
-abbrev texts : At-Start → List (List ℕ)
-texts s =
+abbrev texts : ℕ → ℕ → List (List ℕ)
+texts number place =
     key_line (bytes "plan=") (decimal 0)
-    ∷ key_line (bytes "refusal=") (decimal s.args.number)
-    ∷ key_line (bytes "line=") (decimal s.args.place)
+    ∷ key_line (bytes "refusal=") (decimal number)
+    ∷ key_line (bytes "line=") (decimal place)
     ∷ []
 
--- on the way: from a start, its first k texts stand, and the rest has room
-abbrev At : ℕ → ℕ → List ℕ → Type 0
-At k m o = (s : At-Start) × Going (texts s) (drop k (texts s)) 0 s.args.out.now m o
+-- room for the lines of this refusal, or for those of every refusal
+abbrev Room : ℕ → ℕ → List ℕ → Type 0
+Room number place o = (length (refusal_text number place) ≤ length o) ⊎ (refusal_room ≤ length o)
 
-room : (s : At-Start) → Going (texts s) (texts s) 0 s.args.out.now 0 s.args.out.now
+start : (number place : ℕ) {n p : ℕ} {o : List ℕ} → number < 10 ^ 3 → place < 10 ^ 10 → number ≡ n → place ≡ p
+    → Room n p o → Going (texts number place) (texts number place) 0 o 0 o
 unfolding refusal_text
-room s = begins (texts s) 0 s.args.out.now (omega (arith, s.requires))
+start number place {o = o} n p e f room =
+    let room' : Room number place o = rw (e, f) room in
+    begins (texts number place) 0 o (elim room' [
+      | inl h ↦ omega (arith, h)
+      | inr h ↦ omega (arith, h, refusal_length number place n p)
+    ])
 
-abbrev start : (s : At-Start) → At 0 0 s.args.out.now
-start s = (s, room s)
-
-abbrev after_1 : (c : At-After-put_line) → At 1 c.put_line-at.result c.put_line-at.new.out
-after_1 c =
-    let g = start c.before.before.before.before.before in
-    (g.0, next g.1 c.put_line-at.ensures)
-
-abbrev after_2 : (c : At-After-put_line2) → At 2 c.put_line-at-2.result c.put_line-at-2.new.out
-after_2 c =
-    let g = after_1 c.before.before.before.before.before.before in
-    (g.0, next g.1 c.put_line-at-2.ensures)
+whole : (number place : ℕ) {o o' : List ℕ} {n : ℕ} → Going (texts number place) [] 0 o n o'
+    → Wrote (refusal_text number place) o o' n
+unfolding refusal_text
+whole number place g = from_start (ends g)
 
 pub put_line-at-requires : goal.put_line-at-requires
-put_line-at-requires c = fits_next (start c.before.before.before.before).1
+put_line-at-requires c =
+    fits_next (start _ _ (omega arith) (omega arith) c.number-number.ensures c.place-place.ensures c.requires)
 
 pub put_line-at-requires-2 : goal.put_line-at-requires-2
-put_line-at-requires-2 c = fits_next (after_1 c.before.before.before.before.before).1
+put_line-at-requires-2 c =
+    fits_next (start _ _ (omega arith) (omega arith) c.number-number.ensures c.place-place.ensures c.requires ▷ c.put_line-at.ensures)
 
 pub put_line-requires : goal.put_line-requires
-put_line-requires c = fits_next (after_2 c.before.before.before.before.before).1
+put_line-requires c =
+    fits_next (start _ _ (omega arith) (omega arith) c.number-number.ensures c.place-place.ensures c.requires ▷ c.put_line-at.ensures ▷ c.put_line-at-2.ensures)
 
 pub returns : goal.returns
-unfolding refusal_text
 returns c =
-    let g = after_2 c.before.before.before.before.before.before.before.before.before in
-    from_start (ends (next g.1 c.put_line.ensures))
+    rw (← c.number-number.ensures, ← c.place-place.ensures)
+    (whole _ _ (start _ _ (omega arith) (omega arith) c.number-number.ensures c.place-place.ensures c.requires
+    ▷ c.put_line-at.ensures ▷ c.put_line-at-2.ensures ▷ c.put_line.ensures))

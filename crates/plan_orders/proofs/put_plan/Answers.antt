@@ -1,45 +1,43 @@
--- The columns hold the order's rows; then its first lines and its ranks are put one behind the other.
-use native.Mathlib.Omega.{arith}
-use Prim.Native.Nat.{◌≤◌}
-use lib.ListN.{take}
-use Rattle.rows.specs.inside.Numbers.{rows_in}
+-- The loads are those of the order's rows; then its first lines and its ranks are put one behind the other.
+use Rattle.std.proofs.Common.{◌≤◌, length, replicate, arith}
+use lib.ListN.{length-replicate}
+use lib.Seq.{length-take-le}
+use Rattle.fixed_points.specs.inside.Loads.{no_load}
+use Rattle.rows.specs.inside.Lent.{lent_row, lent_rows}
 use Rattle.rows.proofs.Limits.{all_times}
-use Rattle.analysis.proofs.Filling.{rows_long}
+use Rattle.analysis.proofs.Found.{map_long}
 use Rattle.plans.specs.Plans.{most_ranks}
 use Rattle.plans.proofs.Lengths.{head_length}
 use Rattle.plan_orders.proofs.Given.{plan_there}
 use Rattle.plan_orders.proofs.put_plan.Goals as goal
 
-pub fill_columns-requires : goal.fill_columns-requires
-fill_columns-requires c =
+pub fill_loads-requires : goal.fill_loads-requires
+fill_loads-requires g c =
     let a = c.args in
     let h = c.requires.ordered in
+    let room = length-take-le (length a.positions.now) (replicate g.row.MOST no_load) (omega (arith, c.requires.most, length-replicate g.row.MOST no_load)) in
     record {
-      few = h.few;
-      room = c.requires.n_in_bounds.1;
+      worst_held = room;
+      best_held = room;
       held = h.held;
-      times_are_in_range = all_times (rows_in a.rows.now (take a.n a.positions.now)) h.is_in_range;
+      times_are_in_range = all_times (lent_rows a.rows.now a.positions.now) h.is_in_range;
     }
 
 pub put_head-at-requires : goal.put_head-at-requires
-put_head-at-requires c =
-    let few : c.args.n ≤ most_ranks = omega (arith, c.requires.ordered.few) in
-    omega (arith, head_length c.args.board c.args.n (omega arith) few, c.requires.n_in_bounds.0)
+put_head-at-requires g c =
+    let few : length c.args.positions.now ≤ most_ranks = omega (arith, c.requires.ordered.few) in
+    omega (arith, head_length c.args.board (length c.args.positions.now) (omega arith) few, c.requires.room)
 
-pub put_ranks-requires : goal.put_ranks-requires
-put_ranks-requires c =
-    let few : c.args.n ≤ most_ranks = omega (arith, c.requires.ordered.few) in
-    let head = head_length c.args.board c.args.n (omega arith) few in
-    record {
-      ordered = c.requires.ordered;
-      filled = c.fill_columns.ensures;
-      rank_room_in_bounds = omega (arith, head, c.put_head-at.ensures.ends, c.requires.n_in_bounds.0);
-    }
+pub put_ranks-requires-clause-room : goal.put_ranks-requires-clause-room
+put_ranks-requires-clause-room g c =
+    let few : length c.args.positions.now ≤ most_ranks = omega (arith, c.requires.ordered.few) in
+    let head = head_length c.args.board (length c.args.positions.now) (omega arith) few in
+    omega (arith, head, c.put_head-at.ensures.ends, c.requires.room)
 
 pub returns : goal.returns
-returns c =
+returns g c =
     let a = c.args in
     let h = c.requires.ordered in
-    let counted = rows_long a.rows.now a.positions.now a.n h.held.positions_held in
-    plan_there a.board a.n (rows_in a.rows.now (take a.n a.positions.now)) (omega arith) h.few counted h.is_in_range
-    c.requires.n_in_bounds.0 c.put_head-at.ensures c.put_ranks.ensures
+    plan_there a.board (length a.positions.now) (lent_rows a.rows.now a.positions.now) _ _ _ _ (omega arith) h.few
+    (map_long (lent_row a.rows.now) a.positions.now) h.is_in_range c.requires.room c.put_head-at.ensures
+    c.put_ranks.ensures

@@ -1,38 +1,35 @@
 -- A promise between functions: what comes of an order's ranks, their text, put at an offset, or the first late rank.
-use Rattle.std.specs.Prelude.{◌≡◌, true, List, ℕ, zero, suc, ◌≤◌, take}
+use Rattle.std.specs.Prelude.{◌≡◌, true, List, ℕ, ◌≤◌, ◌<◌, length, Option, Some, None, Result, Ok, Err}
 use Rattle.text.specs.Text.{joined}
 use Rattle.text.specs.Buffers.{Wrote}
 use Rattle.text.specs.inside.Puts.{Put}
 use Rattle.rows.specs.Rows.{in_range, all_rows}
-use Rattle.rows.specs.inside.Numbers.{rows_in}
 use Rattle.rows.specs.Rows.{Row}
-use Rattle.fixed_points.specs.inside.Loads.{columns_max}
-use Rattle.analysis.specs.inside.Columns.{Among}
+use Rattle.rows.specs.inside.Numbers.{Below}
+use Rattle.rows.specs.inside.Lent.{lent_rows}
+use Rattle.fixed_points.specs.inside.Loads.{loads_max}
 use Rattle.plans.specs.Entries.{entries, first_late}
 use Rattle.plans.specs.Plans.{rank_texts, plan_text}
-use Rattle.plans.specs.Outcomes.{Outcome, refuses, fitted}
-use Rattle.plan_orders.specs.declared.RanksPut.{RanksPut}
 
--- an order is the rows at n positions among the numbers of rows, all in range
-pub record Ordered (ns positions : List ℕ) (n : ℕ) : Type 0 where
-  pub few : n ≤ columns_max
-  pub held : Among ns positions n
-  pub is_in_range : all_rows in_range (rows_in ns (take n positions)) ≡ true
+-- an order is the rows at some positions among rows, all in range, and no more than have loads
+pub record Ordered (rows : List (List ℕ)) (positions : List ℕ) : Type 0 where
+  pub few : length positions ≤ loads_max
+  pub held : Below (length rows) positions
+  pub is_in_range : all_rows in_range (lent_rows rows positions) ≡ true
 
--- where a rank is late, the end and the bytes from the offset on are left open
-pub record PutsRanks (order : List Row) (at : ℕ) (buffer buffer' : List ℕ) (r : RanksPut) : Type 0 where
-  pub late_is : r.late ≡ first_late order
-  pub text_put : first_late order ≡ 0 → Put (joined (rank_texts 1 (entries order))) at buffer buffer' r.end
+-- the first late rank, where there is one
+abbrev pub FirstLate : List Row → Option ℕ → Type 0
+FirstLate order None = first_late order ≡ 0
+FirstLate order (Some late) = (first_late order ≡ late) × (0 < late)
+
+-- the ranks' text is put, or one of them is late, and the bytes from the offset on are left open
+abbrev pub PutsRanks : List Row → ℕ → List ℕ → List ℕ → Result ℕ ℕ → Type 0
+PutsRanks order at buffer buffer' (Ok end) =
+    (first_late order ≡ 0) × Put (joined (rank_texts 1 (entries order))) at buffer buffer' end
+PutsRanks order at buffer buffer' (Err late) = FirstLate order (Some late)
 
 -- the same of its plan, from the text's start
-pub record PutsPlan (board : ℕ) (order : List Row) (buffer buffer' : List ℕ) (r : RanksPut) : Type 0 where
-  pub late_is : r.late ≡ first_late order
-  pub plan_put : first_late order ≡ 0 → Wrote (plan_text board (entries order)) buffer buffer' r.end
-
--- 7 with a late rank, counted from 1, and else an outcome
-abbrev pub by_late : ℕ → Outcome → Outcome
-by_late late w = elim late [ zero ↦ w | suc k ↦ refuses 7 (suc k) ]
-
--- what a plan that was put into a text comes to: with no late rank its bytes, where they fit
-abbrev pub given_plan : ℕ → RanksPut → List ℕ → Outcome
-given_plan room r text = by_late r.late (fitted room (take r.end text))
+abbrev pub PutsPlan : ℕ → List Row → List ℕ → List ℕ → Result ℕ ℕ → Type 0
+PutsPlan board order buffer buffer' (Ok end) =
+    (first_late order ≡ 0) × Wrote (plan_text board (entries order)) buffer buffer' end
+PutsPlan board order buffer buffer' (Err late) = FirstLate order (Some late)

@@ -1,13 +1,13 @@
 -- Promised between functions: where in a table the code stands, and what that says of the text's reading.
-use Rattle.std.specs.Prelude.{◌≡◌, Bool, true, false, List, [], ◌∷◌, ◌++◌, ℕ, zero, suc, ◌+◌, ◌*◌, ◌≤◌, ◌<◌, length, take, drop, set}
+use Rattle.std.specs.Prelude.{◌≡◌, Bool, true, false, List, [], ◌∷◌, ◌++◌, ℕ, zero, suc, ◌+◌, ◌*◌, ◌≤◌, ◌<◌, length, take, drop, set, Result, MatchResult}
 use Rattle.basics.specs.Basics.{pick}
 use Rattle.text.specs.Text.{bytes}
-use Rattle.text.specs.Lines.{line_at, end_at, refusal, place}
-use Rattle.text.specs.declared.Line.{Line}
+use Rattle.text.specs.Lines.{line_at, end_at}
+use Rattle.text.specs.Line.{Line}
+use Rattle.text.specs.declared.LineRefusal.{LineRefusal}
 use Rattle.grammars.specs.inside.Answers.{tested}
-use Rattle.grammars.specs.inside.Readers.{Reader, Takes}
-use Rattle.grammars.specs.inside.Readers as Readers
-use Rattle.grammars.specs.Grammars.{Verdict, step}
+use Rattle.grammars.specs.inside.Readers.{Reader, Takes, Refuses}
+use Rattle.grammars.specs.Grammars.{step}
 use Rattle.curves.specs.Curves.{min_points, max_points}
 use Rattle.rows.specs.Rows.{min_task, max_task, min_switch, max_switch, min_tasks, max_tasks, lines_for}
 use Rattle.rows.specs.inside.Numbers.{line_count}
@@ -49,6 +49,15 @@ fault_in P.Rank s ns v = new_rank (rows_in s.count ns) (behind s.count s.positio
 fault_in P.End s ns v = 0
 
 -- ---- where the code stands
+-- the table is read
+abbrev pub is_end : Part → Bool
+is_end P.Board = false
+is_end P.Tasks = false
+is_end P.Switch = false
+is_end P.Row = false
+is_end P.Rank = false
+is_end P.End = true
+
 abbrev pub stand : Part → Bool → ℕ → ℕ → ℕ → Stand
 stand part ranked count left position =
     record { part = part; ranked = ranked; count = count; left = left; position = position }
@@ -167,27 +176,19 @@ pub record Stands (text : List ℕ) (at : ℕ) (s : Stand) (k : ℕ) (ns : List 
   pub going : Going s.part s (so_far s ns)
 
 -- ---- a step taken
-abbrev pub progress : Stand → Bool → ℕ → ℕ → ℕ → Progress
-progress s ended number line offset =
-    record { stand = s; ended = ended; refused = number; line = line; offset = offset }
+abbrev pub progress : Stand → ℕ → ℕ → Progress
+progress s line offset = record { stand = s; line = line; offset = offset }
 
 -- before the first line
 abbrev pub begun : Bool → Progress
-begun ranked = progress (start ranked) false 0 1 0
-
-abbrev pub ended_by : Stand → Line → Progress
-ended_by s l = progress s true (refusal l) (place l) 0
+begun ranked = progress (start ranked) 1 0
 
 -- ---- the code as a reader: what its state and the numbers show of the text's reading
 abbrev pub reader : Reader (Progress × List ℕ) Stage
 reader = record {
-  ended = λ x. x.0.ended;
-  refused = λ x. x.0.refused;
   line = λ x. x.0.line;
   offset = λ x. x.0.offset;
   shows = λ x. stage_of x.0.stand x.1;
-  Whole = λ x.
-      let s = x.0.stand in Counted s.part s × (read_by s.part s ≤ length x.1);
 }
 
 -- before its line
@@ -195,11 +196,9 @@ abbrev pub On : Bool → List ℕ → Progress × List ℕ → Type 0
 On ranked text x =
     (x.0.stand.ranked ≡ ranked) × Stands text x.0.offset x.0.stand x.0.line x.1
 
-abbrev pub Ends : Verdict Stage → Progress → List ℕ → Type 0
-Ends v p ns = Readers.Ends reader v (p, ns)
-
--- past the line that it takes
-abbrev pub TakesLine : Progress → List ℕ → ℕ → ℕ → List ℕ → Progress → List ℕ → Type 0
-TakesLine p text at k ns q ms =
+-- past the line that it takes, or refused there
+abbrev pub TakesLine : Progress → List ℕ → List ℕ → Result Progress LineRefusal → List ℕ → Type 0
+TakesLine p text ns r ms =
     let ranked = p.stand.ranked in
-    Takes reader (On ranked text) (step (table ranked) text (stage_of p.stand ns) at k) (q, ms)
+    let taken = step (table ranked) text (stage_of p.stand ns) p.offset p.line in
+    MatchResult r (λ q. Takes reader (On ranked text) taken (q, ms)) (Refuses taken)

@@ -1,9 +1,8 @@
 -- A promise between functions: rows as records, and records put among numbers.
-use Rattle.std.specs.Prelude.{◌≡◌, List, map, ℕ, ◌+◌, ◌*◌, ◌≤◌, ◌<◌, length, get_or, replicate}
+use Rattle.std.specs.Prelude.{◌≡◌, List, map, ℕ, ◌+◌, ◌*◌, ◌≤◌, ◌<◌, length, get_or, Option, Some, None}
 use Rattle.curves.specs.Curves.{max_points, points_from}
 use Rattle.basics.specs.Basics.{pick}
 use Rattle.rows.specs.declared.Row as Declared
-use Rattle.rows.specs.declared.Checked.{Checked}
 use Rattle.rows.specs.Rows.{Row, max_tasks, row_with, row_at, in_range}
 use Rattle.rows.specs.Numbers.{field_count, rows_of, row_in}
 
@@ -28,13 +27,9 @@ recorded t p w b a e h s n c = record {
   curve = c;
 }
 
--- what stands past some records
-abbrev pub no_record : Declared.Row
-no_record = recorded 0 0 0 0 0 0 0 0 0 (replicate (2 * max_points) 0)
-
--- what the constructor answers of a record: whether its row is in range, and the record if it is
-abbrev pub checked : Declared.Row → Checked
-checked r = record { in_range = in_range (as_row r); row = pick (in_range (as_row r)) r no_record }
+-- a record whose row is in range
+abbrev pub checked : Declared.Row → Option Declared.Row
+checked r = pick (in_range (as_row r)) (Some r) None
 
 abbrev pub as_rows : List Declared.Row → List Row
 as_rows rs = map as_row rs

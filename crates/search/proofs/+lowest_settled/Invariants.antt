@@ -1,7 +1,7 @@
 -- Measure: a call for a smaller set comes before every call for this one. Invariant: the order of the set is what the
 -- scan gives from the row that is looked at, and the record is so.
-use Rattle.std.proofs.Common.{◌≡◌, ◌+◌, ◌-◌, ◌*◌, ◌≤◌, length}
-use Rattle.rows.specs.inside.Numbers.{rows_of}
+use Rattle.std.proofs.Common.{◌≡◌, ◌+◌, ◌*◌}
+use Rattle.rows.specs.inside.Lent.{table_of}
 use Rattle.orders.specs.Orders.{the_order}
 use Rattle.orders.specs.Stability.{stable}
 use Rattle.orders.proofs.Stability.{by_sets}
@@ -17,11 +17,5 @@ decreases-settled l = 2 * l.m + 1
 
 abbrev pub invariant-lowest-loop-i : goal.invariant-lowest-loop-i
 invariant-lowest-loop-i l =
-    (l.i ≤ l.n)
-    × (order_at stable (rows_of l.n l.rows) l.m ≡ scan the_order stable by_sets (rows_of l.n l.rows) l.m l.i)
-    × (length l.sets ≡ length l.initial.sets)
-    × Recorded stable (rows_of l.n l.rows) l.sets
-    × (length l.columns ≡ length l.initial.columns)
-
-abbrev pub decreases-lowest-loop-i : goal.decreases-lowest-loop-i
-decreases-lowest-loop-i l = l.n - l.i
+    (order_at stable (table_of l.rows) l.m ≡ scan the_order stable by_sets (table_of l.rows) l.m l.i)
+    × Recorded stable (table_of l.rows) l.sets

@@ -1,31 +1,13 @@
--- `choose_long` meets its contract: each record has room for the sets of its number of rows, and has none of them yet.
-use mathlib.Core.Path.{sym}
-use Prim.Native.Nat.{ℕ}
-use native.Mathlib.Omega.{arith}
-use lib.ListN.{length-replicate}
-use Rattle.search.specs.inside.Sets.{unknown}
-use Rattle.search.proofs.Record.{fresh}
+use Rattle.std.proofs.Common.{arith}
+use Rattle.search.proofs.LentRows.{few_rows, sets_held}
 use Rattle.search.proofs.choose_long.Goals as goal
 
-pub slice_bounds-order_with-end : goal.slice_bounds-order_with-end
-slice_bounds-order_with-end c = sym (length-replicate {A = ℕ} _ unknown)
+pub order_within-requires-clause-sets_held : goal.order_within-requires-clause-sets_held
+order_within-requires-clause-sets_held c = sets_held c.if-n-le-MORE_TASKS.true (omega arith)
 
-pub order_with-requires : goal.order_with-requires
-order_with-requires c =
-    let few = c.if-n-le-MORE_TASKS.true in
-    (c.requires, fresh few (omega arith), omega (arith, few))
+pub order_within-requires-then-n-le-MANY_TASKS-clause-sets_held :
+    goal.order_within-requires-then-n-le-MANY_TASKS-clause-sets_held
+order_within-requires-then-n-le-MANY_TASKS-clause-sets_held c = sets_held c.if-n-le-MANY_TASKS.true (omega arith)
 
-pub slice_bounds-order_with-end-then-n-le-MANY_TASKS : goal.slice_bounds-order_with-end-then-n-le-MANY_TASKS
-slice_bounds-order_with-end-then-n-le-MANY_TASKS c = sym (length-replicate {A = ℕ} _ unknown)
-
-pub order_with-requires-then-n-le-MANY_TASKS : goal.order_with-requires-then-n-le-MANY_TASKS
-order_with-requires-then-n-le-MANY_TASKS c =
-    let few = c.if-n-le-MANY_TASKS.true in
-    (c.requires, fresh few (omega arith), omega (arith, few))
-
-pub slice_bounds-order_with-end-2 : goal.slice_bounds-order_with-end-2
-slice_bounds-order_with-end-2 c = sym (length-replicate {A = ℕ} _ unknown)
-
-pub order_with-requires-2 : goal.order_with-requires-2
-order_with-requires-2 c =
-    (c.requires, fresh c.requires.few (omega arith), omega (arith, c.requires.few))
+pub order_within-requires-2-clause-sets_held : goal.order_within-requires-2-clause-sets_held
+order_within-requires-2-clause-sets_held c = sets_held (few_rows c.requires) (omega arith)

@@ -5,10 +5,10 @@ use mathlib.Core.Bool.{false}
 use mathlib.Core.List.{List}
 use Prim.Native.Nat.{ℕ, ◌-◌, ◌/◌, ◌%◌, ◌^◌, ◌<◌}
 use native.Mathlib.Omega.{arith}
-use lib.ListN.{get_or}
+use lib.ListN.{length, get_or}
 use Rattle.basics.proofs.Tests.{never}
 use Rattle.rows.specs.Rows.{Row}
-use Rattle.rows.specs.inside.Numbers.{rows_of}
+use Rattle.rows.specs.inside.Lent.{table_of}
 use Rattle.search.specs.inside.Sets.{goes}
 use Rattle.orders.specs.Stability.{stable}
 use Rattle.search.specs.inside.Search.{MayGo}
@@ -28,7 +28,7 @@ is_in_lem m i h = omega arith
 pub returns-then-m-i-eq0 : goal.returns-then-m-i-eq0
 returns-then-m-i-eq0 c =
     let a = c.args in
-    let table = rows_of a.n a.rows.now in
+    let table = table_of a.rows.now in
     let out : a.m / 2 ^ a.i % 2 ≡ 1 → ⊥ = λ e. omega (arith, c.if-m-i-eq0.true) in
     stays_out table a.m a.i (sym (goes_out stable table a.m a.i out))
 
@@ -45,8 +45,8 @@ pub returns-then-sets-m : goal.returns-then-sets-m
 returns-then-sets-m c =
     let a = c.args in
     let p = c.requires.0 in
-    let table = rows_of a.n a.rows.now in
-    let rest : a.m - 2 ^ a.i < 2 ^ a.n = omega (arith, p.set) in
+    let table = table_of a.rows.now in
+    let rest : a.m - 2 ^ a.i < 2 ^ length a.rows.now = omega (arith, p.set) in
     let bit = c.power.ensures in
     let byte = ap (λ (k : ℕ). get_or a.sets.now (a.m - k) 0) (sym bit) ∙ c.if-sets-m.true in
     stays_out table a.m a.i
@@ -57,7 +57,7 @@ returns-then-sets-m c =
 pub returns : goal.returns
 returns c =
     let a = c.args in
-    let table = rows_of a.n a.rows.now in
+    let table = table_of a.rows.now in
     let is = c.stable_under.ensures in
     record {
       in_set = λ h. is_in_lem a.m a.i c.if-m-i-eq0.false;

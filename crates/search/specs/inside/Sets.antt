@@ -1,7 +1,8 @@
 -- A promise between functions: sets of a table's rows as numbers, bit i for row i, and the record of sets, a byte for
 -- each.
-use Rattle.std.specs.Prelude.{◌≡◌, Bool, true, false, ◌&&◌, List, [], ◌∷◌, ◌++◌, ◌⊎◌, ℕ, ◌-◌, ◌/◌, ◌%◌, ◌^◌, ◌≤◌, ◌<◌, eqb, length, get_or}
-use Rattle.std.proofs.Math.Option.{Option, none, some}
+use Rattle.std.specs.Prelude.{◌≡◌, Bool, true, false, ◌&&◌, List, [], ◌∷◌, ◌++◌, ◌⊎◌, ℕ, ◌-◌, ◌/◌, ◌%◌, ◌^◌, ◌≤◌, ◌<◌, eqb, Option, Some, None, length, get_or}
+use Rattle.std.proofs.Math.Option as Maths
+use Rattle.std.proofs.Math.Option.{none, some}
 use Rattle.rows.specs.Rows.{max_buffer, row_at}
 use Rattle.rows.specs.Rows.{Row}
 use Rattle.orders.specs.Orders.{ByLowest, over_set, the_order}
@@ -25,7 +26,7 @@ others m table = with_bit 0 m table
 abbrev pub has_bit : ℕ → ℕ → Bool
 has_bit m i = eqb (m / 2 ^ i % 2) 1
 
-abbrev pub is_some : Option (List Row) → Bool
+abbrev pub is_some : Maths.Option (List Row) → Bool
 is_some none = false
 is_some (some os) = true
 
@@ -48,7 +49,7 @@ module _ {A : Type 0} (known : ByLowest A) (test : Row → List Row → List Row
   at m = over_set known test (members m table) (others m table)
 
 module _ (test : Row → List Row → List Row → Bool) (table : List Row) where
-  abbrev pub order_at : ℕ → Option (List Row)
+  abbrev pub order_at : ℕ → Maths.Option (List Row)
   order_at = at the_order test table
 
   -- row i passes as the lowest of set m
@@ -74,6 +75,11 @@ module _ (test : Row → List Row → List Row → Bool) (table : List Row) wher
   -- set m is empty or the record has it
   abbrev pub Known : List ℕ → ℕ → Type 0
   Known sets m = (m ≡ 0 → ⊥) → Says m (get_or sets m 0)
+
+  -- what was found to be lowest in set m: a row, and the record has the rest of the set; or none, and the set has no order
+  abbrev pub LowestFound : ℕ → List ℕ → Option ℕ → Type 0
+  LowestFound m sets None = order_at m ≡ none
+  LowestFound m sets (Some i) = LowestIs m i × Known sets (m - 2 ^ i)
 
   -- the record: what is known of a set is so, and where its lowest row is known, so is the rest of the set
   pub record Recorded (sets : List ℕ) : Type 0 where

@@ -1,19 +1,19 @@
 -- Promised between functions: the digits at the front of a text, and what a line answers that has no feed behind them.
-use Rattle.std.specs.Prelude.{◌≡◌, ℕ, ◌^◌, ◌<◌, ◌≤◌, false, List, length, take, nat_lt, slice_index}
+use Rattle.std.specs.Prelude.{◌≡◌, ℕ, ◌^◌, ◌<◌, ◌≤◌, false, List, length, take, ◌==◌, slice_index, Some}
+use Rattle.std.specs.List.{list_any}
 use Rattle.basics.specs.Basics.{pick, within}
-use Rattle.text.specs.Text.{digit_zero, digit_nine}
-use Rattle.text.specs.Lines.{max_digits, line_of, digits_from, missing, malformed}
-use Rattle.text.specs.declared.Digits.TheVariants.{Value}
+use Rattle.text.specs.Text.{line_feed, digit_zero, digit_nine}
+use Rattle.text.specs.Lines.{max_digits, digits_from, missing, malformed}
 use Rattle.text.specs.declared.Front.{Front}
-use Rattle.text.specs.declared.Line.{Line}
-use Rattle.text.specs.declared.Line.TheVariants as L
+use Rattle.text.specs.Line.{Line}
+use Rattle.text.specs.Line as L
 
 -- the first bytes are digits, and what the code holds of their number: the number itself, if it has no more digits than
 -- a number may
 pub record Passed (s : List ℕ) (size value : ℕ) : Type 0 where
   pub written : ℕ
   pub there : size ≤ length s
-  pub digits : digits_from 0 (take size s) ≡ Value written
+  pub digits : digits_from 0 (take size s) ≡ Some written
   pub small : written < 10 ^ size
   pub held : size ≤ max_digits → value ≡ written
 
@@ -24,4 +24,4 @@ pub record Fronts (s : List ℕ) (r : Front) : Type 0 where
 
 -- a line that is no number, or that has no end
 abbrev pub unread : List ℕ → ℕ → Line
-unread s k = pick (nat_lt (length (line_of s)) (length s)) (L.Refused malformed k) (L.Refused missing k)
+unread s k = pick (list_any (λ b. b == line_feed) s) (L.Refused malformed k) (L.Refused missing k)

@@ -1,8 +1,7 @@
 -- The value is the one after so many steps.
 use Rattle.std.proofs.Common.{◌≡◌}
-use Rattle.fixed_points.specs.inside.Loads.{loads}
 use Rattle.fixed_points.specs.inside.Values.{value_at}
 use Rattle.value_cases.proofs.print_values.Given as goal
 
 abbrev pub invariant-loop : goal.invariant-loop
-invariant-loop l = l.value ≡ value_at l.base l.limit (loads l.n l.periods l.costs) l.counter
+invariant-loop l = l.value ≡ value_at l.base l.limit l.tasks l.counter

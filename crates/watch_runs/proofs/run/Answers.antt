@@ -1,30 +1,25 @@
-use mathlib.Core.Logic.{inl, inr}
+use mathlib.Core.Path.{◌∙◌}
+use Prim.Native.Nat.{◌<◌}
 use native.Mathlib.Omega.{arith}
-use Rattle.watch_runs.proofs.Runs.{running_starts, running_on, running_ends, end_small}
+use borrow.Author.Rules.{rules}
+use Rattle.watch_runs.proofs.Runs.{running_starts, running_idle, running_on, running_ends}
 use Rattle.watch_runs.proofs.run.Goals as goal
-use Rattle.watch_runs.proofs.run.Goals.{then-ticked, else-ticked}
+use Rattle.watch_runs.proofs.run.Goals.{in-Some, in_default}
 
 pub loop-t-init : goal.loop-t-init
-loop-t-init c = running_starts _ _ _ _ _ _ _ _ _ _ _ c.requires
-
-pub step-ticked-requires : goal.step-ticked-requires
-step-ticked-requires c = c.loop-t.invariant.steady
-
-pub bounds-tasks-rank : goal.bounds-tasks-rank
-bounds-tasks-rank c =
-    omega (arith, c.step-ticked.ensures.rank_in c.if-ticked.true, c.loop-t.invariant.tasks_long)
-
-pub put_job-end-requires : goal.put_job-end-requires
-put_job-end-requires c = end_small _ _ _ _ _ _ _ _ _ _ _ c.loop-t.invariant
+loop-t-init c = running_starts _ _ _ c.requires _ (c.begin.auto.pending ∙ search rules) c.begin.ensures
 
 pub loop-t-preserved : goal.loop-t-preserved
 loop-t-preserved c =
-    let s = c.step-ticked in
-    running_on _ _ _ _ _ _ _ _ _ _ _ c.loop-t.invariant (omega (arith, c.loop-t-test.true)) s.ensures
-    s.auto.starts s.auto.lefts s.auto.slots (elim c.if-ticked.branch [
-      | then-ticked w ↦ inr (w.if-ticked.true, rw (w.out-is, w.end-is) w.put_job-end.ensures, c.if-ticked.auto.out)
-      | else-ticked w ↦ inl (w.if-ticked.false, w.out-is, w.end-is)
-    ])
+    let g = c.loop-t.invariant in
+    let more : c.loop-t.t < c.args.ticks = omega arith in
+    elim c.match-step.branch [
+      | in-Some w ↦ rw (w.out-is, w.end-is)
+          (running_on _ _ _ g more c.step.auto.pending _ w.in-Some.ensures
+          w.put_job-end.ensures w.put_job-end.auto.out)
+      | in_default w ↦ rw (w.out-is, w.end-is)
+          (running_idle _ _ _ g more c.step.auto.pending w.in_default.ensures)
+    ]
 
 pub returns : goal.returns
-returns c = running_ends _ _ _ _ _ _ _ _ _ _ _ c.loop-t.invariant (omega (arith, c.loop-t-test.false))
+returns c = running_ends _ _ _ c.loop-t.invariant (omega arith)

@@ -1,66 +1,69 @@
 -- The first releases are read, all in one range, and the order is laid out with them.
-use mathlib.Core.Path.{◌≡◌, refl, sym, subst, ◌∙◌}
+use mathlib.Core.Path.{◌≡◌, refl, sym, ◌∙◌}
 use Prim.Native.Nat.{ℕ}
 use native.Mathlib.Omega.{arith}
+use mathlib.Core.List.{List, [], ◌∷◌}
 use lib.ListN.{length, take, replicate}
 use lib.Seq.{length-take-le}
-use Rattle.readers.proofs.Stands.{no_number}
-use Rattle.watches.specs.inside.Lines.{ReadsNumbers}
-use Rattle.watches.proofs.Laid.{few_rows, located}
-use Rattle.watches.proofs.Stages.{zeros, array_front, refused_text, releases_refused, at_ticks_then}
+use Rattle.std.proofs.lemmas.Result.{err_from_is_err_and}
+use Rattle.rows.specs.Rows.{max_tasks}
+use Rattle.watch_demands.specs.WatchLines.{min_release, max_release}
+use Rattle.watches.specs.declared.lines.Range.{Range}
+use Rattle.watches.specs.inside.Lines.{low_of, high_of}
+use Rattle.watches.proofs.Laid.{positions_many, ordered, laid_by}
+use Rattle.watches.proofs.Stages.{zeros, refused_text, releases_refused, releases_small, releases_then}
 use Rattle.watches.proofs.watch_table.Goals as goal
 
-pub slice_bounds-ranges-end : goal.slice_bounds-ranges-end
-slice_bounds-ranges-end c = few_rows c.requires.table
+-- every number has the range of a first release
+abbrev ranges : List Range
+ranges = record { low = min_release; high = max_release } ∷ []
 
-pub slice_bounds-read_numbers-end-5 : goal.slice_bounds-read_numbers-end-5
-slice_bounds-read_numbers-end-5 c =
-    sym (length-take-le _ _ (few_rows c.requires.table))
+abbrev owners : ℕ → List ℕ
+owners n = take n (replicate max_tasks 0)
 
-pub slice_bounds-releases-end : goal.slice_bounds-releases-end
-slice_bounds-releases-end c = few_rows c.requires.table
+low_is : (n m : ℕ) → low_of ranges (owners n) m ≡ min_release
+low_is n m = rw (zeros n max_tasks m, low_of)
 
-pub read_numbers-answer-requires : goal.read_numbers-answer-requires
-read_numbers-answer-requires c =
-    let few = few_rows c.requires.table in
-    let long : length {A = ℕ} (take c.args.n (replicate 16 0)) ≡ c.args.n = length-take-le _ _ few in record {
-      key_value = refl;
-      readable = record {
-        soon = omega (arith, long, c.requires.soon, few);
-        as_many = refl;
-        owned = λ m l. (omega (arith, zeros c.args.n 16 m), omega (arith, zeros c.args.n 16 m));
-      };
+high_is : (n m : ℕ) → high_of ranges (owners n) m ≡ max_release
+high_is n m = rw (zeros n max_tasks m, high_of)
+
+pub returns-in_err-next : goal.returns-in_err-next
+returns-in_err-next c =
+    let n = c.args.front.stand.count in
+    let p = err_from_is_err_and c.from_residual.result c.from_residual.ensures.1 in
+    rw (p.1, p.2)
+    (refused_text c.args.text.now c.args.out.now _
+    (releases_refused _ _ _ _ _ c.requires ranges (owners n) (low_is n) (high_is n) _
+    (c.read_numbers.auto.numbers ∙ length-take-le _ _ c.requires.few) c.in_err-next.ensures))
+
+pub fill_ranks-requires : goal.fill_ranks-requires
+fill_ranks-requires c =
+    let rows = c.rows_from-rows in
+    let placed = rw rows.ensures.count at c.place_ranks.ensures in
+    let a = c.requires in
+    let many = positions_many a.table a.held _ rows.ensures.table _ placed in
+    record {
+      ordered = ordered a.table a.held _ rows.ensures.table _ placed;
+      releases_many = c.read_numbers.auto.numbers ∙ length-take-le _ _ a.few ∙ sym rows.ensures.count;
+      ranks_many = length-take-le _ _ a.few ∙ sym many;
+      ranges_many = length-take-le _ _ a.few ∙ sym many;
     }
-
-pub returns-in_default : goal.returns-in_default
-returns-in_default c =
-    let r = c.read_numbers-answer in
-    refused_text c.args.text.now c.args.out.now
-    (releases_refused _ _ _ _ _ c.requires (take c.args.n (replicate 16 0)) (zeros c.args.n 16)
-    r.new.numbers
-    (r.auto.numbers ∙ length-take-le _ _ (few_rows c.requires.table)) r.result
-    (no_number _ c.in_default.not-Number) r.ensures)
-    c.refused_by.ensures
-
-pub lay_out-requires : goal.lay_out-requires
-lay_out-requires c =
-    let few = few_rows c.requires.table in
-    (c.requires.table, few, omega (arith, few))
-
-pub offsets_for-offsets-requires : goal.offsets_for-offsets-requires
-offsets_for-offsets-requires c =
-    let o = c.lay_out in
-    (few_rows c.requires.table, located c.requires.table _ _ (o.ensures c.requires.table))
 
 pub watch_order-requires : goal.watch_order-requires
 watch_order-requires c =
-    let r = c.read_numbers-answer in
-    let d = c.in-Number in
-    let o = c.lay_out in
-    at_ticks_then _ _ _ _ _ c.requires (take c.args.n (replicate 16 0)) (zeros c.args.n 16)
-    r.new.numbers
-    (r.auto.numbers ∙ length-take-le _ _ (few_rows c.requires.table)) d.next
-    (subst (ReadsNumbers _ _ _ _ _ _ r.new.numbers) d.is r.ensures) _ _ _ _
-    (o.ensures c.requires.table)
-    (array_front _ _ _ (r.auto.numbers ∙ length-take-le _ _ (few_rows c.requires.table)))
-    c.offsets_for-offsets.ensures
+    let n = c.args.front.stand.count in
+    let rows = c.rows_from-rows in
+    let placed = rw rows.ensures.count at c.place_ranks.ensures in
+    let a = c.requires in
+    let f = c.fill_ranks in
+    let many : length c.read_numbers.new.numbers ≡ n = c.read_numbers.auto.numbers ∙ length-take-le _ _ a.few in
+    record {
+      front = a.front;
+      releases = c.read_numbers.new.numbers;
+      laid = laid_by a.table a.held _ rows.ensures.table _ placed _ refl refl _ many
+          (releases_small _ _ _ _ _ a ranges (owners n) (low_is n) (high_is n) _ many _ c.in_ok-next.ensures)
+          (f.auto.ranks ∙ length-take-le _ _ a.few) (f.auto.ranges ∙ length-take-le _ _ a.few) f.ensures;
+      resumes =
+          releases_then _ _ _ _ _ a ranges (owners n) (low_is n) (high_is n) _ many _ c.in_ok-next.ensures;
+      soon = omega (arith, a.soon, a.few);
+    }

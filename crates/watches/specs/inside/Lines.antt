@@ -1,12 +1,23 @@
 -- Promised between functions: numbers of lines with one key, one after another, each in the range of its owner.
-use Rattle.std.specs.Prelude.{◌≡◌, List, [], ◌∷◌, ◌++◌, ℕ, ◌+◌, ◌≤◌, ◌<◌, length, get_or}
-use Rattle.text.specs.declared.Line.{Line}
-use Rattle.text.specs.declared.Line.TheVariants as L
-use Rattle.text.specs.Lines.{line_at}
+use Rattle.std.specs.Prelude.{◌≡◌, List, [], ◌∷◌, ◌++◌, ℕ, ◌+◌, ◌≤◌, ◌<◌, length, get_or, Result, MatchResult}
+use Rattle.text.specs.Line.{Line}
+use Rattle.text.specs.Line as L
+use Rattle.text.specs.Lines.{line_at, refused}
+use Rattle.text.specs.declared.LineRefusal.{LineRefusal}
+use Rattle.watches.specs.declared.lines.Range.{Range}
 
--- the lows or highs of the owner of number m
-abbrev pub range_of : List ℕ → List ℕ → ℕ → ℕ
-range_of column owners m = get_or column (get_or owners m 0) 0
+-- the range of an owner, and of the owner of number m
+abbrev pub no_range : Range
+no_range = record { low = 0; high = 0 }
+
+abbrev pub range_at : List Range → ℕ → Range
+range_at ranges i = get_or ranges i no_range
+
+abbrev pub low_of : List Range → List ℕ → ℕ → ℕ
+low_of ranges owners m = (range_at ranges (get_or owners m 0)).low
+
+abbrev pub high_of : List Range → List ℕ → ℕ → ℕ
+high_of ranges owners m = (range_at ranges (get_or owners m 0)).high
 
 module _ (text key : List ℕ) (low high : ℕ → ℕ) where
   -- line k at an offset, if it holds number m
@@ -29,13 +40,11 @@ module _ (text key : List ℕ) (low high : ℕ → ℕ) where
     pub stopped : number_line (length numbers) past (k + length numbers) ≡ answer
 
   -- all numbers, with the offset after them; or the first refusal
-  abbrev pub ReadsNumbers : ℕ → ℕ → List ℕ → Line → Type 0
-  ReadsNumbers at k ns (L.Number v next) = Told at k ns next
-  ReadsNumbers at k ns L.End = ⊥
-  ReadsNumbers at k ns (L.Refused n j) = Stopped at k (length ns) (L.Refused n j)
+  abbrev pub ReadsNumbers : ℕ → ℕ → List ℕ → Result ℕ LineRefusal → Type 0
+  ReadsNumbers at k ns r = MatchResult r (Told at k ns) (λ e. Stopped at k (length ns) (refused e))
 
 -- each number has an owner with a range; and the line numbers stay small
-pub record Readable (line : ℕ) (lows highs owners numbers : List ℕ) : Type 0 where
+pub record Readable (line : ℕ) (ranges : List Range) (owners numbers : List ℕ) : Type 0 where
   pub soon : line + length numbers ≤ 1000000
   pub as_many : length owners ≡ length numbers
-  pub owned : (m : ℕ) → m < length owners → (get_or owners m 0 < length lows) × (get_or owners m 0 < length highs)
+  pub owned : (m : ℕ) → m < length owners → get_or owners m 0 < length ranges

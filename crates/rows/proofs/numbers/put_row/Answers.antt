@@ -1,14 +1,8 @@
 -- `rows::numbers::put_row` meets its contract: nine numbers and a curve are written, or nothing.
-use Rattle.rows.specs.inside.Records.{as_row}
-use Rattle.rows.proofs.Putting.{row_put, row_left}
+use Rattle.rows.proofs.Putting.{row_put}
 use Rattle.rows.proofs.numbers.put_row.Goals as goal
 
 pub returns-then-i-lt-MAX_TASKS : goal.returns-then-i-lt-MAX_TASKS
 returns-then-i-lt-MAX_TASKS c =
     let a = c.args in
-    row_put a.numbers.now a.i a.row c.put_curve.new.numbers c.put_curve.ensures
-
-pub returns-else-i-lt-MAX_TASKS : goal.returns-else-i-lt-MAX_TASKS
-returns-else-i-lt-MAX_TASKS c =
-    let a = c.args in
-    row_left a.numbers.now a.i (as_row a.row) c.if-i-lt-MAX_TASKS.false
+    row_put a.numbers.now a.i a.row.now c.put_curve.new.numbers c.put_curve.ensures

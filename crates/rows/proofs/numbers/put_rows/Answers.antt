@@ -1,21 +1,16 @@
 use native.Mathlib.Omega.{arith}
 use lib.ListN.{length-map}
 use Rattle.rows.specs.inside.Records.{as_row, as_rows}
-use Rattle.rows.proofs.Putting.{none_passed, next_passed, all_passed}
+use Rattle.rows.proofs.Putting.{next_passed, all_passed}
 use Rattle.rows.proofs.numbers.put_rows.Goals as goal
 
-pub loop-i-init : goal.loop-i-init
-loop-i-init c = (omega arith, none_passed (as_rows c.args.rows.now) c.args.numbers.now)
-
 pub loop-i-preserved : goal.loop-i-preserved
-loop-i-preserved c = (
-  omega arith,
-  next_passed c.args.rows.now c.args.numbers.now c.loop-i.i c.loop-i.numbers c.put_row.new.numbers _
-      c.loop-i-test.true c.loop-i.invariant.1 c.put_row.ensures,
-)
+loop-i-preserved c =
+    next_passed c.args.rows.now c.args.numbers.now c.loop-i.i c.loop-i.numbers c.put_row.new.numbers _
+    c.loop-i-test.true c.loop-i.invariant c.put_row.ensures
 
 pub returns : goal.returns
 returns c =
     let rows = as_rows c.args.rows.now in
     all_passed rows c.args.numbers.now c.loop-i.i c.loop-i.numbers
-    (omega (arith, c.loop-i-test.false, length-map c.args.rows.now as_row)) c.loop-i.invariant.1
+    (omega (arith, c.loop-i-test.false, length-map c.args.rows.now as_row)) c.loop-i.invariant

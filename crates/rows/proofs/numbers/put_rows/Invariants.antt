@@ -1,12 +1,7 @@
 -- `rows::numbers::put_rows` meets its contract. Invariant: the rows passed that have room are among the numbers.
-use Prim.Native.Nat.{◌-◌, ◌≤◌}
-use lib.ListN.{length}
 use Rattle.rows.specs.inside.Records.{as_rows}
 use Rattle.rows.proofs.Putting.{Passed}
 use Rattle.rows.proofs.numbers.put_rows.Given as goal
 
 abbrev pub invariant-loop-i : goal.invariant-loop-i
-invariant-loop-i l = (l.i ≤ length l.rows) × Passed (as_rows l.rows) l.initial.numbers l.i l.numbers
-
-abbrev pub decreases-loop-i : goal.decreases-loop-i
-decreases-loop-i l = length l.rows - l.i
+invariant-loop-i l = Passed (as_rows l.rows) l.initial.numbers l.i l.numbers

@@ -2,5 +2,5 @@
 use Rattle.std.proofs.Common.{◌≤◌}
 use Rattle.trials.proofs.generator.any_rows.Given as goal
 
-abbrev pub invariant-loop-i : goal.invariant-loop-i
-invariant-loop-i l = l.point ≤ 6
+abbrev pub invariant-loop-place : goal.invariant-loop-place
+invariant-loop-place l = l.point ≤ 6

@@ -1,31 +1,26 @@
 -- A hold is tried before the table's reader takes its line.
-use mathlib.Core.Path.{refl, sym, ◌∙◌}
-use Rattle.watches.proofs.Fronts.{takes_own, takes_unrefused, refuses_hold}
+use mathlib.Core.Path.{sym, ◌∙◌}
+use Rattle.std.proofs.lemmas.Result.{err_from_is_err_and}
+use Rattle.watches.proofs.Fronts.{takes_own, takes_no_hold, refuses_hold}
 use Rattle.watches.proofs.front.take_unheld.Goals as goal
-use Rattle.watches.proofs.front.take_unheld.Goals.{then-at_hold+in_default, else-at_hold}
+use Rattle.watches.proofs.front.take_unheld.Goals.{then-at_hold+in_ok-line_at, else-at_hold}
 
-pub returns-in-Refused : goal.returns-in-Refused
-returns-in-Refused c =
-    let a = c.args in
-    let d = c.in-Refused in
-    refuses_hold a.text.now a.before a.numbers.now c.requires.on_front c.requires.part_value
-    (sym c.at_hold.ensures ∙ c.if-at_hold.true) d.number d.place (sym c.line_at-answer.ensures ∙ d.is)
-    _ refl refl refl
-
-pub take_line-requires : goal.take_line-requires
-take_line-requires c = c.requires.on_front.0.1
+pub returns-in_err-line_at : goal.returns-in_err-line_at
+returns-in_err-line_at c =
+    let p = err_from_is_err_and c.from_residual.result c.from_residual.ensures.1 in
+    rw (p.1, p.2)
+    (refuses_hold c.args.text.now c.args.before c.args.numbers.now c.requires.on_front c.requires.before_end
+    (sym c.at_hold.ensures ∙ c.if-at_hold.true) c.in_err-line_at.field-0.0 c.in_err-line_at.ensures)
 
 pub returns : goal.returns
 returns c =
     let a = c.args in
-    let on = c.requires.on_front in
-    let open_still = c.requires.part_value in
-    let t = c.take_line in
-    let held = c.at_hold.ensures in
+    let t = c.next_line in
+    let is = sym c.at_hold.ensures in
     elim c.if-at_hold.branch [
-      | then-at_hold+in_default w ↦ takes_unrefused a.text.now a.before a.numbers.now on open_still
-          t.result t.new.numbers t.ensures (sym held ∙ w.if-at_hold.true) w.line_at-answer.result
-          w.in_default.not-Refused w.line_at-answer.ensures
-      | else-at_hold w ↦ takes_own a.text.now a.before a.numbers.now on open_still
-          t.result t.new.numbers t.ensures (sym held ∙ w.if-at_hold.false)
+      | then-at_hold+in_ok-line_at w ↦ takes_no_hold a.text.now a.before a.numbers.now c.requires.on_front
+          c.requires.before_end t.result t.new.numbers t.ensures (is ∙ w.if-at_hold.true) w.in_ok-line_at.field-0
+          w.in_ok-line_at.ensures
+      | else-at_hold w ↦ takes_own a.text.now a.before a.numbers.now c.requires.on_front
+          c.requires.before_end t.result t.new.numbers t.ensures (is ∙ w.if-at_hold.false)
     ]

@@ -1,0 +1,76 @@
+// Rows as they are lent: an array of numbers for each, those of its lines first, with room for the most points, and then
+// its switch.
+ghost use Rattle.std.specs.Prelude.{◌≡◌, ◌++◌, ◌*◌, ◌≤◌, ◌==◌, length, drop, position, slice_index_or};
+ghost use Rattle.curves.specs.Curves.{well_formed};
+ghost use Rattle.rows.specs.Rows.{task_at, max_ticks, cost, in_range};
+ghost use Rattle.rows.specs.inside.Numbers.{field_count, row_from, rows_of, positions_for};
+ghost use Rattle.rows.specs.inside.Lent.{table_of};
+
+use super::numbers::{
+    ALPHA, BEST, BETA, FIELDS, FIRST_POINT, HOLD, PERIOD, POINTS, SWITCH, TASK, WORST,
+};
+use super::{Row, full_cost};
+use curves::well_formed;
+
+// The numbers of a row.
+pub type RowNumbers = [u64; FIELDS];
+
+// The first n rows of some numbers: the last place where a count stands beside them.
+pub fn rows_from(numbers: &[u64], n: usize) -> &[RowNumbers]
+    requires { field_count * n ≤ length numbers.now }
+    ensures table { table_of result.now ≡ rows_of n numbers.now }
+    ensures count { length result.now ≡ n }
+{
+    let (rows, _) = numbers[..FIELDS * n].as_chunks::<FIELDS>();
+    rows
+}
+
+// Whether the curve of a row is well formed.
+fn curve_keeps(row: &RowNumbers) -> bool
+    ensures { result ≡ well_formed (row_from row.now).curve }
+{
+    well_formed(&row[FIRST_POINT..SWITCH], row[POINTS])
+}
+
+// Whether a row is in range.
+pub fn in_range(row: &RowNumbers) -> bool
+    ensures { result ≡ in_range (row_from row.now) }
+{
+    let kept = Row::keeps(
+        row[TASK],
+        row[PERIOD],
+        row[WORST],
+        row[BEST],
+        row[ALPHA],
+        row[BETA],
+        row[HOLD],
+        row[SWITCH],
+    );
+    kept & curve_keeps(row)
+}
+
+// The most ticks that a job of a row takes.
+pub fn cost(row: &RowNumbers) -> u64
+    requires { cost (row_from row.now) ≤ max_ticks }
+    ensures { result ≡ cost (row_from row.now) }
+{
+    full_cost(row[WORST], row[SWITCH])
+}
+
+// Where a task stands among rows, if it does.
+fn position_of(task: u16, rows: &[RowNumbers]) -> Option<usize>
+    ensures { result ≡ position (λ row. slice_index_or row task_at 0 == task) rows.now }
+{
+    let sought = task as u64;
+    rows.iter().position(|row| row[TASK] == sought)
+}
+
+// Where each of some tasks stands among the rows; their number where one does not.
+pub fn positions_for(tasks: &[u16], rows: &[RowNumbers], positions: &mut [usize])
+    requires { length tasks.now ≤ length positions.old }
+    ensures { positions.new ≡ positions_for tasks.now (table_of rows.now) ++ drop (length tasks.now) positions.old }
+{
+    for (k, task) in tasks.iter().enumerate() {
+        positions[k] = position_of(*task, rows).unwrap_or(rows.len());
+    }
+}

@@ -1,9 +1,0 @@
--- Every index is below the length of the text that is put.
-use Rattle.std.proofs.Common.{◌-◌, ◌≤◌, length}
-use Rattle.trials.proofs.texts.put_bytes.Given as goal
-
-abbrev pub invariant-loop-i : goal.invariant-loop-i
-invariant-loop-i l = l.i ≤ length l.bytes
-
-abbrev pub decreases-loop-i : goal.decreases-loop-i
-decreases-loop-i l = length l.bytes - l.i

@@ -1,0 +1,62 @@
+// The order of a table to watch: where its rows stand among the table's, and what a run knows of its ranks.
+ghost use Rattle.std.specs.Prelude.{◌≡◌, ◌+◌, ◌≤◌, length};
+ghost use Rattle.rows.specs.Rows.{max_tasks};
+ghost use Rattle.rows.specs.inside.Lent.{table_of};
+ghost use Rattle.rows.specs.inside.Numbers.{TaskNumbers, positions_for};
+ghost use Rattle.readers.specs.inside.Numbers.{row_start, behind};
+ghost use Rattle.watches.specs.inside.Rankings.{Rankable, RanksAre};
+
+use super::lines::Range;
+use readers::HEAD;
+use rows::{BEST, FIELDS, PERIOD, RowNumbers, TASK, cost, order_at, positions_for};
+use watch_runs::Rank;
+
+// The rows of a table, where those of its order stand among them, and the order's ranks, with the range of the lengths
+// of each.
+#[derive(Clone, Copy)]
+pub struct Ranking<'a> {
+    pub rows: &'a [RowNumbers],
+    pub positions: &'a [usize],
+    pub ranks: &'a [Rank],
+    pub ranges: &'a [Range],
+}
+
+// Where the rows of the rank lines stand, which name a task each behind the rows' numbers.
+pub fn place_ranks(numbers: &[u64], rows: &[RowNumbers], positions: &mut [usize])
+    requires few { (length rows.now ≤ max_tasks) × (length positions.old ≡ length rows.now) }
+    requires held { row_start (length rows.now) + length rows.now ≤ length numbers.now }
+    requires tasks { TaskNumbers (behind (length rows.now) (length rows.now) numbers.now) }
+    ensures { positions.new
+        ≡ positions_for (behind (length rows.now) (length rows.now) numbers.now) (table_of rows.now) }
+{
+    let n = rows.len();
+    let order = order_at(numbers, HEAD + FIELDS * n, n);
+    positions_for(&order.tasks[..n], rows, positions);
+}
+
+// The ranks of the rows at some positions, the first release of each that of its row, and the ranges of their lengths.
+pub fn fill_ranks(
+    rows: &[RowNumbers],
+    positions: &[usize],
+    releases: &[u64],
+    ranks: &mut [Rank],
+    ranges: &mut [Range],
+)
+    requires { Rankable rows.now positions.now releases.now ranks.old ranges.old }
+    ensures { RanksAre rows.now positions.now releases.now ranks.new ranges.new }
+{
+    for (k, position) in positions.iter().enumerate() {
+        let row = &rows[*position];
+        let cost = cost(row);
+        ranks[k] = Rank {
+            task: row[TASK],
+            offset: releases[*position],
+            period: row[PERIOD],
+            cost,
+        };
+        ranges[k] = Range {
+            low: row[BEST],
+            high: cost,
+        };
+    }
+}
