@@ -172,51 +172,6 @@ module _ (start : ℕ) (ns : List ℕ) where
   between_at n i h =
       get_or-drop start (take (start + n) ns) i 0 ∙ get_or-take (start + n) ns (start + i) 0 (omega arith)
 
--- ---- the rows from row i on, for a scan over their tasks
-abbrev pub rows_past : ℕ → ℕ → List ℕ → List Row
-rows_past n i ws = rows_of (n - i) (drop (field_count * i) ws)
-
-pub past_next : (n i : ℕ) (ws : List ℕ) → i < n → rows_past n i ws ≡ row_in ws i ∷ rows_past n (i + 1) ws
-past_next n i ws h =
-    let one_more : n - i ≡ suc (n - (i + 1)) = omega arith in
-    let next : field_count * i + field_count ≡ field_count * (i + 1) = omega arith in
-    ap (λ m. rows_of m (drop (field_count * i) ws)) one_more
-    ∙ ap (λ xs. row_in ws i ∷ rows_of (n - (i + 1)) xs)
-    (drop-drop field_count (field_count * i) ws ∙ ap (λ m. drop m ws) next)
-
-pub past_end : (n i : ℕ) (ws : List ℕ) → n ≤ i → rows_past n i ws ≡ []
-past_end n i ws h = let none : n - i ≡ 0 = omega arith in ap (λ m. rows_of m (drop (field_count * i) ws)) none
-
-pub past_all : (n : ℕ) (ws : List ℕ) → rows_of n ws ≡ rows_past n 0 ws
-past_all n ws = ap (λ m. rows_of m ws) (sym (sub-zero n))
-
--- whether a row from row i on has a task, where the rows begin at an index
-pub scan_task : (t n i start : ℕ) (ns : List ℕ) → i < n → let ws = drop start ns in
-    has_task t (rows_past n i ws)
-    ≡ (eqb t (get_or ns (start + field_count * i + task_at) 0) || has_task t (rows_past n (i + 1) ws))
-scan_task t n i start ns h =
-    let ws = drop start ns in
-    let there : start + (field_count * i + task_at) ≡ start + field_count * i + task_at = omega arith in
-    let task_is : (row_in ws i).task ≡ get_or ns (start + field_count * i + task_at) 0 =
-    line_in_lem ws i task_at (omega arith) ∙ get_or-drop start ns (field_count * i + task_at) 0
-    ∙ ap (λ m. get_or ns m 0) there in
-    ap (has_task t) (past_next n i ws h) ∙ ap (λ v. eqb t v || has_task t (rows_past n (i + 1) ws)) task_is
-
--- where a task stands from row i on: at the row, or later
-module _ (t n i : ℕ) (ws : List ℕ) (h : i < n) where
-  abbrev rest : List ℕ
-  rest = tasks_of (rows_past n (i + 1) ws)
-
-  split : position_of t (tasks_of (rows_past n i ws)) ≡ position_of t (line_in ws i task_at ∷ rest)
-  split = ap (λ rs. position_of t (tasks_of rs)) (past_next n i ws h)
-
-  pub position_here : t ≡ line_in ws i task_at → position_of t (tasks_of (rows_past n i ws)) ≡ 0
-  position_here e = split ∙ rw (eq-eqb t (line_in ws i task_at) e, position_of)
-
-  pub position_later : (t ≡ line_in ws i task_at → ⊥)
-      → position_of t (tasks_of (rows_past n i ws)) ≡ suc (position_of t rest)
-  position_later e = split ∙ rw (ne_eqb t (line_in ws i task_at) e, position_of)
-
 -- the rows at positions below n are those of n rows
 pub rows_in_lem : (n : ℕ) (ws ps : List ℕ) → Below n ps → rows_in ws ps ≡ rows_at (rows_of n ws) ps
 rows_in_lem n ws [] h = refl

@@ -2,7 +2,7 @@
 // its switch.
 ghost use Rattle.std.specs.Prelude.{◌≡◌, ◌++◌, ◌*◌, ◌≤◌, ◌==◌, length, drop, position, slice_index_or};
 ghost use Rattle.curves.specs.Curves.{well_formed};
-ghost use Rattle.rows.specs.Rows.{task_at, max_ticks, cost, in_range};
+ghost use Rattle.rows.specs.Rows.{task_at, max_ticks, cost, in_range, has_task};
 ghost use Rattle.rows.specs.inside.Numbers.{field_count, row_from, rows_of, positions_for};
 ghost use Rattle.rows.specs.inside.Lent.{table_of};
 
@@ -55,6 +55,13 @@ pub fn cost(row: &RowNumbers) -> u64
     ensures { result ≡ cost (row_from row.now) }
 {
     full_cost(row[WORST], row[SWITCH])
+}
+
+// Whether one of some rows has a task.
+pub fn has_task(rows: &[RowNumbers], task: u64) -> bool
+    ensures { result ≡ has_task task (table_of rows.now) }
+{
+    rows.iter().any(|row| row[TASK] == task)
 }
 
 // Where a task stands among rows, if it does.

@@ -1,12 +1,10 @@
 // Rows and orders as numbers: of a row those of its lines come first, with room for the most points, and then the
 // switch; and row follows row.
-ghost use Rattle.std.specs.Prelude.{◌≡◌, ◌++◌, suc, ◌+◌, ◌*◌, ◌≤◌, ◌<◌, length, take, drop, MatchOption};
-ghost use Rattle.basics.specs.Basics.{is_in};
-ghost use Rattle.curves.specs.Curves.{max_points, well_formed};
-ghost use Rattle.rows.specs.Rows.{max_ticks, max_tasks, cost, in_range, tasks_of, has_task, position_of};
+ghost use Rattle.std.specs.Prelude.{◌≡◌, ◌+◌, ◌*◌, ◌≤◌, length};
+ghost use Rattle.curves.specs.Curves.{max_points};
+ghost use Rattle.rows.specs.Rows.{max_tasks};
 ghost use Rattle.rows.specs.inside.Arrays.{ranking};
-ghost use Rattle.rows.specs.inside.Numbers.{line_count, field_count, line_in, switch_in, row_in, rows_of, positions_for};
-ghost use Rattle.rows.specs.inside.Numbers.{between, TaskNumbers};
+ghost use Rattle.rows.specs.inside.Numbers.{TaskNumbers};
 ghost use Rattle.rows.specs.inside.Records.{as_row, as_rows, numbers_room, CurvePut, RowPut, RowsPut};
 
 use super::{MAX_TASKS, Order, Row, full_cost};
@@ -78,31 +76,18 @@ pub fn put_rows(rows: &[Row], numbers: &mut [u64; NUMBERS])
     }
 }
 
-// Whether one of some rows, whose numbers begin at an index, has a task.
-pub fn has_task(numbers: &[u64], start: usize, count: usize, task: u64) -> bool
-    requires { (count ≤ max_tasks) × (start + field_count * count ≤ length numbers.now) }
-    ensures { result ≡ has_task task (rows_of count (drop start numbers.now)) }
+// The order of some task numbers.
+pub fn order_from(tasks: &[u64]) -> Order
+    requires few { length tasks.now ≤ max_tasks }
+    requires task_numbers { TaskNumbers tasks.now }
+    ensures { result ≡ ranking tasks.now }
 {
-    (0..count).any(|i| task == numbers[start + FIELDS * i + TASK])
-}
-
-// Whether a value is among some numbers from an index on.
-pub fn is_among(numbers: &[u64], start: usize, count: usize, value: u64) -> bool
-    requires { start + count ≤ length numbers.now }
-    ensures { result ≡ is_in value (between start count numbers.now) }
-{
-    numbers[start..start + count].contains(&value)
-}
-
-// The order of some task numbers from an index on.
-pub fn order_at(numbers: &[u64], start: usize, count: usize) -> Order
-    requires count_le_max_tasks { (count ≤ max_tasks) × (start + count ≤ length numbers.now) }
-    requires task_numbers { TaskNumbers (between start count numbers.now) }
-    ensures { result ≡ ranking (between start count numbers.now) }
-{
-    let mut tasks = [0u16; MAX_TASKS];
-    for i in 0..count {
-        tasks[i] = numbers[start + i] as u16;
+    let mut order = [0u16; MAX_TASKS];
+    for (i, task) in tasks.iter().enumerate() {
+        order[i] = *task as u16;
     }
-    Order { tasks, count }
+    Order {
+        tasks: order,
+        count: tasks.len(),
+    }
 }
