@@ -62,6 +62,6 @@ pub fn read_table(text: &[u8], ranked: bool, numbers: &mut [u64]) -> Result<usiz
     while reader.at.stand.part != Part::End {
         reader.at = next_line(reader.text, reader.at, numbers)?;
     }
-    end_at(reader.text, reader.at.offset, reader.at.line)?;
+    end_at(reader.at.cursor(reader.text))?;
     Ok(reader.at.stand.count)
 }

@@ -1,15 +1,13 @@
 -- Rows as their numbers: a row is found by its first number, more numbers behind the rows change none of them, and the
 -- numbers between two places grow one by one.
 use mathlib.Core.Path.{◌≡◌, refl, sym, ap, ap₂, ◌∙◌}
-use mathlib.Core.Bool.{Bool, true, false, ◌&&◌, ◌||◌}
+use mathlib.Core.Bool.{Bool, true, false, ◌&&◌}
 use mathlib.Core.List.{List, [], ◌∷◌, ◌++◌}
 use mathlib.Core.Logic.{inl, inr}
 use Prim.Native.Nat.{ℕ, zero, suc, ◌+◌, ◌-◌, ◌*◌, ◌≤◌, ◌<◌}
-use native.Mathlib.Nat.{sub-zero}
 use Rattle.basics.proofs.Tests.{le-or-lt}
 use native.Mathlib.Omega.{arith}
-use lib.Dec.{eqb}
-use borrow.Author.Tests.{eq-eqb, ne_eqb, lt-leb}
+use borrow.Author.Tests.{lt-leb}
 use lib.ListN.{length, get_or, take, drop, length-take, length-drop}
 use lib.ListN.{get_or-append, get_or-eq_default}
 use lib.Seq.{take_all, drop-drop, drop-append-le, length-take-le, get_or-take, get_or-drop, ext_get_or}
@@ -17,7 +15,7 @@ use Rattle.rows.specs.Rows.{Row}
 use Rattle.curves.specs.Curves.{Point, max_points, orderly, well_formed, points_from}
 use Rattle.curves.proofs.PointNumbers.{points_length, points_same}
 use Rattle.rows.specs.Rows.{task_at, period_at, worst_at, best_at, alpha_at, beta_at, hold_at, points_at, first_point_at}
-use Rattle.rows.specs.Rows.{lines_for, row_with, row_of, no_row, row_at, all_rows, tasks_of, has_task, position_of}
+use Rattle.rows.specs.Rows.{lines_for, row_with, row_of, no_row, row_at, all_rows}
 use Rattle.rows.specs.inside.Numbers.{line_count, switch_at, field_count, lines_from, row_from, rows_of, row_in}
 use Rattle.rows.specs.inside.Numbers.{line_in, switch_in, rows_in}
 use Rattle.rows.specs.inside.Numbers.{rows_at, Below, between}

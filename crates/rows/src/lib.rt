@@ -10,7 +10,7 @@ use curves::{ALLOW_MAX, ALLOW_MIN, DELAY_MAX, DELAY_MIN, POINTS_MAX, POINTS_MIN,
 pub use lent::{RowNumbers, cost, has_task, in_range, positions_for, rows_from};
 pub use numbers::{
     ALPHA, BEST, BETA, CURVE, FIELDS, FIRST_POINT, HOLD, NUMBERS, PERIOD, POINTS, SWITCH, TASK,
-    WORST, order_from, put_rows,
+    WORST, is_among, order_from, put_rows,
 };
 
 // numbers.rt: rows and orders as numbers. lent.rt: rows as they are lent.

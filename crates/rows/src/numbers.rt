@@ -1,6 +1,7 @@
 // Rows and orders as numbers: of a row those of its lines come first, with room for the most points, and then the
 // switch; and row follows row.
 ghost use Rattle.std.specs.Prelude.{◌≡◌, ◌+◌, ◌*◌, ◌≤◌, length};
+ghost use Rattle.basics.specs.Basics.{is_in};
 ghost use Rattle.curves.specs.Curves.{max_points};
 ghost use Rattle.rows.specs.Rows.{max_tasks};
 ghost use Rattle.rows.specs.inside.Arrays.{ranking};
@@ -74,6 +75,13 @@ pub fn put_rows(rows: &[Row], numbers: &mut [u64; NUMBERS])
     for (i, row) in rows.iter().enumerate() {
         put_row(numbers, i, row);
     }
+}
+
+// Whether a value is among some numbers.
+pub fn is_among(numbers: &[u64], value: u64) -> bool
+    ensures { result ≡ is_in value numbers.now }
+{
+    numbers.contains(&value)
 }
 
 // The order of some task numbers.

@@ -276,7 +276,7 @@ module _ (text : List ℕ) where
     front_turn q ms t = Loops.turn here (q, ms) t
 
     pub front_stop : (e : LineRefusal) (ms : List ℕ) → TakesUnheld p text ns (Err e) ms
-        → read watch_text watch_start text ≡ refused e.number e.line
+        → read watch_text watch_start text ≡ refused (fault_number e.fault) e.line
     front_stop e ms t = Loops.refused_at here e t
 
     -- ---- behind its last line

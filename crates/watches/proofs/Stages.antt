@@ -41,9 +41,9 @@ use Rattle.watches.proofs.Numbers.{line_number, line_refused, told_within, told_
 use Rattle.watches.proofs.Laid.{order, offset, period_max, few_ranks, some_ranks, rank_of, released}
 
 -- ---- a refused text is the call's refusal
-pub refused_text : (text o : List ℕ) (e : LineRefusal) → read watch_text watch_start text ≡ refused e.number e.line
+pub refused_text : (text o : List ℕ) (e : LineRefusal) → read watch_text watch_start text ≡ refused (fault_number e.fault) e.line
     → Written (watched text (length o)) o o (Err (R.Line e.number e.line))
-refused_text text o e is = stays (watched_is text (length o) (refused e.number e.line) is) (refl, refl)
+refused_text text o e is = stays (watched_is text (length o) (refused (fault_number e.fault) e.line) is) (refl, refl)
 
 -- ---- first releases
 pub zeros : (n k m : ℕ) → get_or {A = ℕ} (take n (replicate k 0)) m 0 ≡ 0
@@ -87,7 +87,7 @@ module _ (text : List ℕ) (at k : ℕ) (ns : List ℕ) (n : ℕ) (a : AtRelease
     goes vs l v = rw (still vs l)
 
     pub releases_refused : (e : LineRefusal) {m : ℕ} → m ≡ n → Stopped text key low high at k m (Lines.refused e)
-        → read watch_text watch_start text ≡ refused e.number e.line
+        → read watch_text watch_start text ≡ refused (fault_number e.fault) e.line
     releases_refused e same r =
         a.resumes
         ∙ stopped_refused text key low high watch_text (λ xs. behind a.front (releases_stage total xs)) total expects lets
@@ -108,7 +108,7 @@ module _ (text : List ℕ) (at k : ℕ) (ns : List ℕ) (n : ℕ) (a : AtRelease
 -- ---- the ticks, and how many lengths
 module _ {text : List ℕ} {at k : ℕ} {x : Ranking} (a : AtTicks text at k x) where
   pub ticks_refused : (e : LineRefusal) → told (Err e) ≡ line_at (bytes "ticks=") min_ticks max_ticks text at k
-      → read watch_text watch_start text ≡ refused e.number e.line
+      → read watch_text watch_start text ≡ refused (fault_number e.fault) e.line
   ticks_refused e is =
       a.resumes
       ∙ line_refused watch_text text (behind a.front (at_ticks a.releases)) at k (bytes "ticks=") min_ticks
@@ -130,7 +130,7 @@ module _ {text : List ℕ} {at k : ℕ} {x : Ranking} (a : AtTicks text at k x) 
 
     pub count_refused : (e : LineRefusal)
         → told (Err e) ≡ line_at (bytes "lengths=") min_lengths max_lengths text ticks.next (k + 1)
-        → read watch_text watch_start text ≡ refused e.number e.line
+        → read watch_text watch_start text ≡ refused (fault_number e.fault) e.line
     count_refused e is =
         at_count
         ∙ line_refused watch_text text (behind a.front (at_lengths a.releases ticks.value)) ticks.next (k + 1)
@@ -225,7 +225,7 @@ module _ {text : List ℕ} {at k : ℕ} {x : Ranking} {ticks : ℕ} {owners₀ l
 
     pub lengths_refused : (e : LineRefusal) → {n : ℕ} → n ≡ length lengths₀
         → Stopped text (bytes "length=") best most at k n (Lines.refused e)
-        → read watch_text watch_start text ≡ refused e.number e.line
+        → read watch_text watch_start text ≡ refused (fault_number e.fault) e.line
     lengths_refused e same r =
         a.resumes
         ∙ stopped_refused text (bytes "length=") best most watch_text stage
@@ -256,7 +256,7 @@ module _ {text : List ℕ} {at k : ℕ} {x : Ranking} {ticks : ℕ} {owners₀ l
           ∙ ap (on_answer watch_text last (k + length vs)) (sym (no_test _ _) ∙ sym e)))
 
       pub end_refused : (e : LineRefusal) → told_end (Err e) ≡ end_at text next (k + length vs)
-          → read watch_text watch_start text ≡ refused e.number e.line
+          → read watch_text watch_start text ≡ refused (fault_number e.fault) e.line
       end_refused e is = by_end (told_end (Err e)) is
 
       pub whole : {u : Unit {0}} → told_end (Ok u) ≡ end_at text next (k + length vs) → (room : ℕ)

@@ -46,4 +46,4 @@ TakesUnheld p text ns r ms =
 abbrev pub ReadsFront : List ℕ → Result Progress LineRefusal → List ℕ → Type 0
 ReadsFront text r ns =
     MatchResult r (λ p. AtReleases text p.offset p.line ns p.stand.count)
-    (λ e. read watch_text watch_start text ≡ refused e.number e.line)
+    (λ e. read watch_text watch_start text ≡ refused (fault_number e.fault) e.line)
