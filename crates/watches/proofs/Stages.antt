@@ -42,7 +42,7 @@ use Rattle.watches.proofs.Laid.{order, offset, period_max, few_ranks, some_ranks
 
 -- ---- a refused text is the call's refusal
 pub refused_text : (text o : List ℕ) (e : LineRefusal) → read watch_text watch_start text ≡ refused (fault_number e.fault) e.line
-    → Written (watched text (length o)) o o (Err (R.Line e.number e.line))
+    → Written (watched text (length o)) o o (Err (R.Line e))
 refused_text text o e is = stays (watched_is text (length o) (refused (fault_number e.fault) e.line) is) (refl, refl)
 
 -- ---- first releases
