@@ -10,12 +10,11 @@ ghost use Rattle.responses.specs.Interference.{interference, largest_fixed};
 ghost use Rattle.responses.specs.Figures.{worst_load, best_load, blocking, may_hold, margin_at};
 ghost use Rattle.rows.specs.inside.Numbers.{row_from, Below};
 ghost use Rattle.rows.specs.inside.Lent.{lent_rows};
-ghost use Rattle.fixed_points.specs.inside.Loads.{Loads};
 ghost use Rattle.analysis.specs.inside.Above.{Fillable, Filled, Under, FiguresIn};
 
 use basics::larger;
 use curves::curve_margin;
-use fixed_points::{largest_fixed, least_fixed};
+use fixed_points::{Tasks, largest_fixed, least_fixed};
 use responses::{Figures, Load, NoFigures};
 use rows::{ALPHA, BEST, BETA, FIRST_POINT, HOLD, PERIOD, POINTS, RowNumbers, SWITCH, cost};
 
@@ -51,10 +50,11 @@ pub fn margin(row: &RowNumbers, latest: u64, earliest: u64) -> i64
 }
 
 // The earliest response of a row, whose latest is known, under some rows: in a stretch of its own none of them counts.
-fn earliest(row: &RowNumbers, latest: u64, above: &[Load]) -> u64
-    requires { (in_range (row_from row.now) ≡ true) × (latest ≤ max_ticks) × Loads above.now
-        × ((row_from row.now).best + interference 1 latest above.now ≤ latest) }
-    ensures { let t = row_from row.now in result ≡ pick (may_hold t) t.best (largest_fixed t.best latest above.now) }
+fn earliest(row: &RowNumbers, latest: u64, above: Tasks) -> u64
+    requires { (in_range (row_from row.now) ≡ true) × (latest ≤ max_ticks)
+        × ((row_from row.now).best + interference 1 latest above.loads.now ≤ latest) }
+    ensures { let t = row_from row.now in
+        result ≡ pick (may_hold t) t.best (largest_fixed t.best latest above.entry.loads.now) }
 {
     let best = row[BEST];
     if LEAST_HOLD <= row[HOLD] {
@@ -133,10 +133,12 @@ pub fn figures_under(row: &RowNumbers, blocked: u64, above: Above) -> Result<Fig
     ensures { FiguresIn (row_from row.now) blocked above.entry.worst.now above.entry.best.now result }
 {
     let base = cost(row) + blocked;
-    let Some(latest) = least_fixed(base, row[PERIOD], above.worst) else {
+    let worst = Tasks { loads: above.worst };
+    let best = Tasks { loads: above.best };
+    let Some(latest) = least_fixed(base, row[PERIOD], worst) else {
         return Err(NoFigures::Late);
     };
-    let earliest = earliest(row, latest, above.best);
+    let earliest = earliest(row, latest, best);
     let margin = margin(row, latest, earliest);
     Ok(Figures {
         worst: latest as u32,
