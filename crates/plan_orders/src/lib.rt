@@ -41,21 +41,20 @@ pub fn buffer() -> [u8; ROOM]
     [0; ROOM]
 }
 
-// The ranks of the rows at some positions, the highest first, up to the first late one; their loads are lent. Where their
-// text ends, or the first late rank, counted from 1.
+// The ranks of the rows at some positions, the highest first, up to the first late one; their loads are lent. How long
+// their text is, or the first late rank, counted from 1.
 fn put_ranks(
     out: &mut [u8],
-    at: usize,
     rows: &[RowNumbers],
     positions: &[usize],
     order: Above,
 ) -> Result<usize, u32>
     requires ordered { Ordered rows.now positions.now }
     requires filled { Filled (lent_rows rows.now positions.now) order.worst.now order.best.now }
-    requires room { at + length positions.now * rank_room ≤ length out.old }
-    ensures { PutsRanks (lent_rows rows.now positions.now) at out.old out.new result }
+    requires room { length positions.now * rank_room ≤ length out.old }
+    ensures { PutsRanks (lent_rows rows.now positions.now) out.old out.new result }
 {
-    let mut end = at;
+    let mut at = 0;
     // The blocking time of the rows from index i on, and then of those behind it.
     let mut blocked = blocking_from(rows, positions);
     for (i, position) in positions.iter().enumerate() {
@@ -75,9 +74,9 @@ fn put_ranks(
             jitter: figures.jitter,
             margin: figures.margin,
         };
-        end = put_rank(out, end, i as u64 + 1, entry);
+        at += put_rank(&mut out[at..], i as u64 + 1, entry);
     }
-    Ok(end)
+    Ok(at)
 }
 
 // The plan of the rows at some positions as an order, highest rank first, up to the first late rank; with loads of so
@@ -99,8 +98,9 @@ fn put_plan<const MOST: usize>(
     let worst = &mut worst[..n];
     let best = &mut best[..n];
     fill_loads(rows, positions, worst, best);
-    let at = put_head(text, board, n);
-    put_ranks(text, at, rows, positions, Above { worst, best })
+    let head = put_head(text, board, n);
+    let ranks = put_ranks(&mut text[head..], rows, positions, Above { worst, best })?;
+    Ok(head + ranks)
 }
 
 // The first late rank of an order, counted from 1. Its plan is found as far as that rank, and is not wanted.
@@ -119,8 +119,7 @@ pub fn put_whole(out: &mut [u8], text: &[u8]) -> Result<usize, Refusal>
     if out.len() < text.len() {
         return Err(Refusal::NoRoom);
     }
-    put_bytes(out, 0, text);
-    Ok(text.len())
+    Ok(put_bytes(out, text))
 }
 
 // The plan of an order, or its refusal. It is written whole into a text of so many bytes, so that a refusal leaves out as

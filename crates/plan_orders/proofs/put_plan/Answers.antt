@@ -23,8 +23,8 @@ fill_loads-requires g c =
       times_are_in_range = all_times (lent_rows a.rows.now a.positions.now) h.is_in_range;
     }
 
-pub put_head-at-requires : goal.put_head-at-requires
-put_head-at-requires g c =
+pub put_head-head-requires : goal.put_head-head-requires
+put_head-head-requires g c =
     let few : length c.args.positions.now ≤ most_ranks = omega (arith, c.requires.ordered.few) in
     omega (arith, head_length c.args.board (length c.args.positions.now) (omega arith) few, c.requires.room)
 
@@ -32,12 +32,12 @@ pub put_ranks-requires-clause-room : goal.put_ranks-requires-clause-room
 put_ranks-requires-clause-room g c =
     let few : length c.args.positions.now ≤ most_ranks = omega (arith, c.requires.ordered.few) in
     let head = head_length c.args.board (length c.args.positions.now) (omega arith) few in
-    omega (arith, head, c.put_head-at.ensures.ends, c.requires.room)
+    omega (arith, head, c.put_head-head.ensures.long_is, c.requires.room)
 
 pub returns : goal.returns
 returns g c =
     let a = c.args in
     let h = c.requires.ordered in
-    plan_there a.board (length a.positions.now) (lent_rows a.rows.now a.positions.now) _ _ _ _ (omega arith) h.few
-    (map_long (lent_row a.rows.now) a.positions.now) h.is_in_range c.requires.room c.put_head-at.ensures
-    c.put_ranks.ensures
+    plan_there a.board (length a.positions.now) (lent_rows a.rows.now a.positions.now) _ _ _ (omega arith) h.few
+    (map_long (lent_row a.rows.now) a.positions.now) h.is_in_range c.requires.room c.put_head-head.ensures
+    c.in_ok-ranks.ensures

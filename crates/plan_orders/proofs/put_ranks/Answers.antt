@@ -10,7 +10,7 @@ use Rattle.plan_orders.proofs.put_ranks.Goals as goal
 
 pub loop-i-init : goal.loop-i-init
 loop-i-init c =
-    (starts c.requires.ordered c.args.at c.args.out.now c.requires.room, c.blocking_from-blocked.ensures)
+    (starts c.requires.ordered c.args.out.now, c.blocking_from-blocked.ensures)
 
 pub blocking_below-blocked-requires-clause-blocked_value :
     goal.blocking_below-blocked-requires-clause-blocked_value
@@ -30,8 +30,8 @@ returns-in_default c =
 pub overflow_cast-entry : goal.overflow_cast-entry
 overflow_cast-entry c = record { fits = omega (arith, task_max c.requires.ordered c.loop-i-test.true) }
 
-pub put_rank-end-requires : goal.put_rank-end-requires
-put_rank-end-requires c =
+pub put_rank-at-requires : goal.put_rank-at-requires
+put_rank-at-requires c =
     rank_fits c.requires.ordered c.loop-i-test.true c.requires.filled c.blocking_below-blocked.ensures
     c.figures_under.ensures c.loop-i.invariant.0 c.requires.room c.in-Ok.is (to_z-of_z {w = w64} (search rules))
 
@@ -39,7 +39,7 @@ pub loop-i-preserved : goal.loop-i-preserved
 loop-i-preserved c = (
   turned c.requires.ordered c.loop-i-test.true c.requires.filled c.blocking_below-blocked.ensures
       c.figures_under.ensures c.loop-i.invariant.0 c.requires.room c.in-Ok.is (to_z-of_z {w = w64} (search rules))
-      c.put_rank-end.ensures,
+      c.put_rank-at.ensures,
   c.blocking_below-blocked.ensures
       ∙ ap (λ qs. blocking (lent_rows c.args.rows.now qs)) (behind c.requires.ordered c.loop-i.i),
 )

@@ -7,5 +7,5 @@ use Rattle.plan_orders.proofs.put_ranks.Given as goal
 
 abbrev pub invariant-loop-i : goal.invariant-loop-i
 invariant-loop-i l =
-    Turning (lent_rows l.rows l.positions) l.at l.initial.out l.end l.out l.i
+    Turning (lent_rows l.rows l.positions) l.initial.out l.at l.out l.i
     × (l.blocked ≡ blocking (lent_rows l.rows (drop l.i l.positions)))
