@@ -1,20 +1,10 @@
 -- A promise between functions: what comes of an order's ranks, their text or the first late rank.
-use Rattle.std.specs.Prelude.{◌≡◌, true, List, ℕ, ◌≤◌, ◌<◌, length, Option, Some, None, Result, Ok, Err}
+use Rattle.std.specs.Prelude.{◌≡◌, List, ℕ, ◌<◌, Option, Some, None, Result, Ok, Err}
 use Rattle.text.specs.Text.{joined}
 use Rattle.text.specs.Buffers.{Wrote}
-use Rattle.rows.specs.Rows.{in_range, all_rows}
 use Rattle.rows.specs.Rows.{Row}
-use Rattle.rows.specs.inside.Numbers.{Below}
-use Rattle.rows.specs.inside.Lent.{lent_rows}
-use Rattle.fixed_points.specs.inside.Loads.{loads_max}
 use Rattle.plans.specs.Entries.{entries, first_late}
 use Rattle.plans.specs.Plans.{rank_texts, plan_text}
-
--- an order is the rows at some positions among rows, all in range, and no more than have loads
-pub record Ordered (rows : List (List ℕ)) (positions : List ℕ) : Type 0 where
-  pub few : length positions ≤ loads_max
-  pub held : Below (length rows) positions
-  pub is_in_range : all_rows in_range (lent_rows rows positions) ≡ true
 
 -- the first late rank, where there is one
 abbrev pub FirstLate : List Row → Option ℕ → Type 0
