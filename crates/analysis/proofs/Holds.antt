@@ -18,12 +18,6 @@ use Rattle.fixed_points.specs.inside.Loads.{no_load}
 use Rattle.responses.specs.Figures.{largest_hold, blocking}
 use Rattle.responses.proofs.Blocking.{blocking_is}
 
--- the rows from an index on are those at the positions from there on
-pub rows_rest : (rows : List (List ℕ)) (k : ℕ) (ps : List ℕ) → drop k (lent_rows rows ps) ≡ lent_rows rows (drop k ps)
-rows_rest rows zero ps = refl
-rows_rest rows (suc k) [] = refl
-rows_rest rows (suc k) (p ∷ ps) = rows_rest rows k ps
-
 module _ (rows : List (List ℕ)) (ps : List ℕ) where
   abbrev pub largest_from : ℕ → ℕ
   largest_from k = largest_hold (lent_rows rows (drop k ps))
@@ -42,19 +36,20 @@ module _ (rows : List (List ℕ)) (ps : List ℕ) where
       ∙ ap (larger largest) (sym (hold_more k h))
       ∙ is
 
-  -- with nothing to wait for from the first on, there is nothing behind it
-  pub none_behind : 1 ≤ length ps → blocking (lent_rows rows ps) ≡ 0 → blocking (lent_rows rows (drop 1 ps)) ≡ 0
-  none_behind h e =
-      let more = larger_right (lent_row rows (get_or ps 0 0)).hold (largest_from 1) in
-      let here = sym (blocking_is (lent_rows rows ps)) ∙ e in
-      blocking_is (lent_rows rows (drop 1 ps)) ∙ omega (arith, more, hold_more 0 h, here)
-
   -- with none to come
   pub all_passed : (k largest : ℕ) → length ps ≤ k → larger largest (largest_from k) ≡ largest_from 0
       → largest ≡ largest_hold (lent_rows rows ps)
   all_passed k largest h is =
       let none = ap (λ qs. largest_hold (lent_rows rows qs)) (drop_of_length-le ps {i = k} h) in
       sym (larger_none largest) ∙ ap (larger largest) (sym none) ∙ is
+
+-- with nothing to wait for from the first row on, there is nothing behind it
+pub none_behind : (rows : List Row) → 1 ≤ length rows → blocking rows ≡ 0 → blocking (drop 1 rows) ≡ 0
+none_behind [] h e = absurd (omega arith)
+none_behind (r ∷ rows) h e =
+    let more = larger_right r.hold (largest_hold rows) in
+    let here = sym (blocking_is (r ∷ rows)) ∙ e in
+    blocking_is rows ∙ omega (arith, more, here)
 
 -- ---- the loads of the rows at some positions
 pub position_passes : (f : Row → Bool) (rows : List (List ℕ)) (ps : List ℕ) (k : ℕ) → k < length ps

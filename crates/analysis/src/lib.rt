@@ -8,16 +8,17 @@ ghost use Rattle.basics.specs.Basics.{pick};
 ghost use Rattle.rows.specs.Rows.{max_ticks, max_alpha, max_beta, in_range, times_in_range};
 ghost use Rattle.responses.specs.Interference.{interference, largest_fixed};
 ghost use Rattle.responses.specs.Figures.{worst_load, best_load, blocking, may_hold, margin_at};
-ghost use Rattle.rows.specs.inside.Numbers.{row_from, Below};
-ghost use Rattle.rows.specs.inside.Lent.{lent_rows};
-ghost use Rattle.fixed_points.specs.inside.Loads.{Loads};
+ghost use Rattle.rows.specs.inside.Numbers.{row_from};
+ghost use Rattle.rows.specs.inside.LentOrders.{rows_in_order};
 ghost use Rattle.analysis.specs.inside.Above.{Fillable, Filled, Under, FiguresIn};
 
 use basics::larger;
 use curves::curve_margin;
-use fixed_points::{largest_fixed, least_fixed};
+use fixed_points::{Tasks, largest_fixed, least_fixed};
 use responses::{Figures, Load, NoFigures};
-use rows::{ALPHA, BEST, BETA, FIRST_POINT, HOLD, PERIOD, POINTS, RowNumbers, SWITCH, cost};
+use rows::{
+    ALPHA, BEST, BETA, FIRST_POINT, HOLD, LentOrder, PERIOD, POINTS, RowNumbers, SWITCH, cost,
+};
 
 // The least hold that keeps the processor past a tick.
 const LEAST_HOLD: u64 = 2;
@@ -51,10 +52,11 @@ pub fn margin(row: &RowNumbers, latest: u64, earliest: u64) -> i64
 }
 
 // The earliest response of a row, whose latest is known, under some rows: in a stretch of its own none of them counts.
-fn earliest(row: &RowNumbers, latest: u64, above: &[Load]) -> u64
-    requires { (in_range (row_from row.now) ≡ true) × (latest ≤ max_ticks) × Loads above.now
-        × ((row_from row.now).best + interference 1 latest above.now ≤ latest) }
-    ensures { let t = row_from row.now in result ≡ pick (may_hold t) t.best (largest_fixed t.best latest above.now) }
+fn earliest(row: &RowNumbers, latest: u64, above: Tasks) -> u64
+    requires { (in_range (row_from row.now) ≡ true) × (latest ≤ max_ticks)
+        × ((row_from row.now).best + interference 1 latest above.loads.now ≤ latest) }
+    ensures { let t = row_from row.now in
+        result ≡ pick (may_hold t) t.best (largest_fixed t.best latest above.entry.loads.now) }
 {
     let best = row[BEST];
     if LEAST_HOLD <= row[HOLD] {
@@ -70,28 +72,27 @@ pub fn blocking_time(largest: u64) -> u64
     largest.saturating_sub(1)
 }
 
-// The blocking time of the rows at some positions.
-pub fn blocking_from(rows: &[RowNumbers], positions: &[usize]) -> u64
-    requires { Below (length rows.now) positions.now }
-    ensures { result ≡ blocking (lent_rows rows.now positions.now) }
+// The blocking time of the rows of an order.
+pub fn blocking_from(order: LentOrder) -> u64
+    ensures { result ≡ blocking (rows_in_order order.entry) }
 {
     let mut largest = 0;
-    for position in positions {
-        largest = larger(largest, rows[*position][HOLD]);
+    for position in order.positions {
+        largest = larger(largest, order.rows[*position][HOLD]);
     }
     blocking_time(largest)
 }
 
-// The blocking time of the rows behind the first of some positions, by that of all: where that is 0, so is this.
-pub fn blocking_below(rows: &[RowNumbers], positions: &[usize], blocked: u64) -> u64
-    requires positions_in_bounds { (1 ≤ length positions.now) × Below (length rows.now) positions.now }
-    requires blocked_value { blocked ≡ blocking (lent_rows rows.now positions.now) }
-    ensures { result ≡ blocking (lent_rows rows.now (drop 1 positions.now)) }
+// The blocking time of the rows behind the first of an order, by that of all: where that is 0, so is this.
+pub fn blocking_below(order: LentOrder, blocked: u64) -> u64
+    requires some_row { 1 ≤ length (rows_in_order order) }
+    requires blocked_value { blocked ≡ blocking (rows_in_order order) }
+    ensures { result ≡ blocking (drop 1 (rows_in_order order.entry)) }
 {
     if blocked == 0 {
         return 0;
     }
-    blocking_from(rows, &positions[1..])
+    blocking_from(order.behind(1))
 }
 
 // What a row takes of a window at most, where it stands above another.
@@ -115,13 +116,13 @@ pub fn load_at_best(row: &RowNumbers) -> Load
     }
 }
 
-// The loads of the rows at some positions, as many places as positions.
-pub fn fill_loads(rows: &[RowNumbers], positions: &[usize], worst: &mut [Load], best: &mut [Load])
-    requires { Fillable rows.now positions.now (length worst.old) (length best.old) }
-    ensures { Filled (lent_rows rows.now positions.now) worst.new best.new }
+// The loads of the rows of an order, as many places as rows.
+pub fn fill_loads(order: LentOrder, worst: &mut [Load], best: &mut [Load])
+    requires { Fillable (rows_in_order order) (length worst.old) (length best.old) }
+    ensures { Filled (rows_in_order order.entry) worst.new best.new }
 {
-    for (k, position) in positions.iter().enumerate() {
-        let row = &rows[*position];
+    for (k, position) in order.positions.iter().enumerate() {
+        let row = &order.rows[*position];
         worst[k] = load_at_worst(row);
         best[k] = load_at_best(row);
     }
@@ -133,10 +134,12 @@ pub fn figures_under(row: &RowNumbers, blocked: u64, above: Above) -> Result<Fig
     ensures { FiguresIn (row_from row.now) blocked above.entry.worst.now above.entry.best.now result }
 {
     let base = cost(row) + blocked;
-    let Some(latest) = least_fixed(base, row[PERIOD], above.worst) else {
+    let worst = Tasks { loads: above.worst };
+    let best = Tasks { loads: above.best };
+    let Some(latest) = least_fixed(base, row[PERIOD], worst) else {
         return Err(NoFigures::Late);
     };
-    let earliest = earliest(row, latest, above.best);
+    let earliest = earliest(row, latest, best);
     let margin = margin(row, latest, earliest);
     Ok(Figures {
         worst: latest as u32,

@@ -10,7 +10,7 @@ ghost use Rattle.figures.specs.inside.Limits.{in_limits};
 
 use analysis::{Above, blocking_from, figures_under, fill_loads};
 use responses::{Figures, Load, NoFigures};
-use rows::{FIELDS, MAX_TASKS, RowNumbers, in_range, rows_from};
+use rows::{FIELDS, LentOrder, MAX_TASKS, RowNumbers, in_range, rows_from};
 
 // Whether each of some rows is in range.
 fn all_in_range(rows: &[RowNumbers]) -> bool
@@ -57,11 +57,15 @@ pub fn row_figures(numbers: &[u64], n: usize, i: usize) -> Result<Figures, NoFig
     }
     let rows = rows_from(numbers, n);
     let positions = positions();
+    let order = LentOrder {
+        rows,
+        positions: &positions[..n],
+    };
     let mut worst = [Load::NONE; MAX_TASKS];
     let mut best = [Load::NONE; MAX_TASKS];
     let worst = &mut worst[..i];
     let best = &mut best[..i];
-    fill_loads(rows, &positions[..i], worst, best);
-    let blocked = blocking_from(rows, &positions[i + 1..n]);
+    fill_loads(order.front(i), worst, best);
+    let blocked = blocking_from(order.behind(i + 1));
     figures_under(&rows[i], blocked, Above { worst, best })
 }

@@ -10,6 +10,14 @@ ghost use Rattle.fixed_points.specs.inside.Values.{first_value, next_value, foun
 
 use responses::Load;
 
+// Some tasks above a row, by what they take of a window: few enough that no sum overflows, and each with its cost within
+// its period.
+#[derive(Clone, Copy)]
+pub struct Tasks<'a> {
+    pub loads: &'a [Load],
+    pub ghost in_limits: { Loads loads.now },
+}
+
 // x / p rounded up. A window is often within the period, and a test is faster than a division; x + p is far below 2^32,
 // and division is faster there than in 64 bits.
 fn ceil(x: u64, p: u64) -> u64
@@ -23,12 +31,12 @@ fn ceil(x: u64, p: u64) -> u64
 }
 
 // The ticks that tasks take from a window, less some jobs of each.
-pub fn interference(window: u64, spared: u64, tasks: &[Load]) -> u64
-    requires { (window ≤ max_ticks) × (1 ≤ window) × (spared ≤ 1) × Loads tasks.now }
-    ensures { result ≡ interference spared window tasks.now }
+pub fn interference(window: u64, spared: u64, tasks: Tasks) -> u64
+    requires { (window ≤ max_ticks) × (1 ≤ window) × (spared ≤ 1) }
+    ensures { result ≡ interference spared window tasks.entry.loads.now }
 {
     let mut sum: u64 = 0;
-    for task in tasks {
+    for task in tasks.loads {
         sum += (ceil(window, task.period) - spared) * task.cost;
     }
     sum
@@ -42,17 +50,17 @@ pub struct Tried {
 }
 
 // The first value that it tries: the base and one job of each task, which is what a window of one tick meets.
-pub fn first_value(base: u64, tasks: &[Load]) -> u64
-    requires { (base ≤ base_max) × Loads tasks.now }
-    ensures { result ≡ first_value base tasks.now }
+pub fn first_value(base: u64, tasks: Tasks) -> u64
+    requires { base ≤ base_max }
+    ensures { result ≡ first_value base tasks.entry.loads.now }
 {
     base + interference(1, 0, tasks)
 }
 
 // The value after w, or w itself where the search ends: with a solution, or past the limit, where the task is late.
-pub fn next_value(base: u64, limit: u64, tasks: &[Load], w: u64) -> u64
-    requires { (1 ≤ w) × (base ≤ base_max) × (limit ≤ max_ticks) × Loads tasks.now }
-    ensures { result ≡ next_value base limit tasks.now w }
+pub fn next_value(base: u64, limit: u64, tasks: Tasks, w: u64) -> u64
+    requires { (1 ≤ w) × (base ≤ base_max) × (limit ≤ max_ticks) }
+    ensures { result ≡ next_value base limit tasks.entry.loads.now w }
 {
     if limit < w {
         return w;
@@ -61,9 +69,9 @@ pub fn next_value(base: u64, limit: u64, tasks: &[Load], w: u64) -> u64
 }
 
 // The search of W: from the first value on, until a value is followed by itself.
-pub fn try_values(base: u64, limit: u64, tasks: &[Load]) -> Tried
-    requires { (1 ≤ base) × (base ≤ base_max) × (limit ≤ max_ticks) × Loads tasks.now }
-    ensures { Tries base limit tasks.now result }
+pub fn try_values(base: u64, limit: u64, tasks: Tasks) -> Tried
+    requires { (1 ≤ base) × (base ≤ base_max) × (limit ≤ max_ticks) }
+    ensures { Tries base limit tasks.entry.loads.now result }
 {
     let mut last = first_value(base, tasks);
     let mut steps: u64 = 0;
@@ -78,9 +86,9 @@ pub fn try_values(base: u64, limit: u64, tasks: &[Load]) -> Tried
 }
 
 // The smallest w from 1 to the limit with w = base + interference in w, if there is one.
-pub fn least_fixed(base: u64, limit: u64, tasks: &[Load]) -> Option<u64>
-    requires { (1 ≤ base) × (base ≤ base_max) × (limit ≤ max_ticks) × Loads tasks.now }
-    ensures { result ≡ found (least_fixed base limit tasks.now) }
+pub fn least_fixed(base: u64, limit: u64, tasks: Tasks) -> Option<u64>
+    requires { (1 ≤ base) × (base ≤ base_max) × (limit ≤ max_ticks) }
+    ensures { result ≡ found (least_fixed base limit tasks.entry.loads.now) }
 {
     let tried = try_values(base, limit, tasks);
     if tried.last <= limit {
@@ -91,10 +99,9 @@ pub fn least_fixed(base: u64, limit: u64, tasks: &[Load]) -> Option<u64>
 }
 
 // The largest e from 1 to the limit with e = base + interference in e, one job less of each task.
-pub fn largest_fixed(base: u64, limit: u64, tasks: &[Load]) -> u64
-    requires { (1 ≤ base) × (limit ≤ max_ticks) × Loads tasks.now
-        × (base + interference 1 limit tasks.now ≤ limit) }
-    ensures { result ≡ largest_fixed base limit tasks.now }
+pub fn largest_fixed(base: u64, limit: u64, tasks: Tasks) -> u64
+    requires { (1 ≤ base) × (limit ≤ max_ticks) × (base + interference 1 limit tasks.loads.now ≤ limit) }
+    ensures { result ≡ largest_fixed base limit tasks.entry.loads.now }
 {
     let mut e = limit;
     loop {

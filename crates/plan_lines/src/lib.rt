@@ -1,9 +1,8 @@
 // The lines of a plan and of a refusal, put into a lent buffer.
 #![tactic(auto)]
 
-ghost use Rattle.std.specs.Prelude.{◌+◌, ◌≤◌, ◌⊎◌, length};
+ghost use Rattle.std.specs.Prelude.{◌≤◌, ◌⊎◌, length};
 ghost use Rattle.text.specs.Buffers.{Wrote};
-ghost use Rattle.text.specs.inside.Puts.{Put};
 ghost use Rattle.plans.specs.Plans.{rank_text, head_text, refusal_text};
 ghost use Rattle.plans.specs.Outcomes.{number, place};
 ghost use Rattle.plans.specs.inside.Prints.{refusal_room};
@@ -12,26 +11,28 @@ use plans::{Entry, Refusal};
 use text::put_line;
 
 // The lines of a rank.
-pub fn put_rank(out: &mut [u8], at: usize, rank: u64, e: Entry) -> usize
-    requires { at + length (rank_text rank e) ≤ length out.old }
-    ensures { Put (rank_text rank e) at out.old out.new result }
+pub fn put_rank(out: &mut [u8], rank: u64, e: Entry) -> usize
+    requires { length (rank_text rank e) ≤ length out.old }
+    ensures { Wrote (rank_text rank e) out.old out.new result }
 {
-    let at = put_line(out, at, b"rank=", rank);
-    let at = put_line(out, at, b"task=", e.task as u64);
-    let at = put_line(out, at, b"best=", e.best as u64);
-    let at = put_line(out, at, b"worst=", e.worst as u64);
-    let at = put_line(out, at, b"jitter=", e.jitter as u64);
-    put_line(out, at, b"margin=", e.margin)
+    let mut at = put_line(out, b"rank=", rank);
+    at += put_line(&mut out[at..], b"task=", e.task as u64);
+    at += put_line(&mut out[at..], b"best=", e.best as u64);
+    at += put_line(&mut out[at..], b"worst=", e.worst as u64);
+    at += put_line(&mut out[at..], b"jitter=", e.jitter as u64);
+    at += put_line(&mut out[at..], b"margin=", e.margin);
+    at
 }
 
 // The lines before the ranks.
 pub fn put_head(out: &mut [u8], board: u16, count: usize) -> usize
     requires { length (head_text board count) ≤ length out.old }
-    ensures { Put (head_text board count) 0 out.old out.new result }
+    ensures { Wrote (head_text board count) out.old out.new result }
 {
-    let at = put_line(out, 0, b"plan=", 1u64);
-    let at = put_line(out, at, b"board=", board as u64);
-    put_line(out, at, b"tasks=", count as u64)
+    let mut at = put_line(out, b"plan=", 1u64);
+    at += put_line(&mut out[at..], b"board=", board as u64);
+    at += put_line(&mut out[at..], b"tasks=", count as u64);
+    at
 }
 
 // The three lines of a refusal, with room for them or for those of every refusal.
@@ -41,7 +42,8 @@ pub fn put_refusal(out: &mut [u8], refusal: Refusal) -> usize
 {
     let number = refusal.number();
     let place = refusal.place();
-    let at = put_line(out, 0, b"plan=", 0u64);
-    let at = put_line(out, at, b"refusal=", number as u64);
-    put_line(out, at, b"line=", place as u64)
+    let mut at = put_line(out, b"plan=", 0u64);
+    at += put_line(&mut out[at..], b"refusal=", number as u64);
+    at += put_line(&mut out[at..], b"line=", place as u64);
+    at
 }

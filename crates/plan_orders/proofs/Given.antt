@@ -3,12 +3,12 @@
 use mathlib.Core.Path.{◌≡◌, refl, sym, ap, subst, ◌∙◌}
 use mathlib.Core.Bool.{true}
 use mathlib.Core.List.{List, []}
-use Prim.Native.Nat.{ℕ, ◌^◌, ◌≤◌, ◌<◌}
+use Prim.Native.Nat.{ℕ, ◌+◌, ◌^◌, ◌≤◌, ◌<◌}
 use native.Mathlib.Omega.{arith}
 use lib.ListN.{length, take}
-use Rattle.std.proofs.Common.{Result, Some, Ok, Err}
-use Rattle.text.specs.inside.Puts.{Put}
-use Rattle.text.proofs.Puts.{wrote_front}
+use Rattle.std.proofs.Common.{Some, Ok, Err}
+use Rattle.text.specs.Buffers.{Wrote}
+use Rattle.text.proofs.Puts.{lent, restored, wrote_front}
 use Rattle.fixed_points.specs.inside.Loads.{loads_max}
 use Rattle.rows.specs.Rows.{Row, in_range, all_rows}
 use Rattle.plans.specs.declared.Refusal.TheVariants.{Late}
@@ -21,13 +21,13 @@ use Rattle.plans.proofs.Outcomes.{late_outcome, timely_outcome, refused}
 use Rattle.plans.proofs.Ranks.{plan_put}
 use Rattle.plan_orders.specs.inside.Ranks.{FirstLate, PutsRanks, PutsPlan}
 
-pub plan_there : (board n : ℕ) (order : List Row) (r : Result ℕ ℕ) (text text₁ text₂ : List ℕ) {at : ℕ}
+pub plan_there : (board n : ℕ) (order : List Row) (text text₁ part : List ℕ) {m k : ℕ}
     → board < 10 ^ 5 → n ≤ loads_max → length order ≡ n → all_rows in_range order ≡ true → room_for n ≤ length text
-    → Put (head_text board n) 0 text text₁ at → PutsRanks order at text₁ text₂ r → PutsPlan board order text text₂ r
-plan_there board n order (Err late) text text₁ text₂ small few counted ok room head ranks = ranks
-plan_there board n order (Ok end) text text₁ text₂ {at = at} small few counted ok room head ranks =
+    → Wrote (head_text board n) text text₁ m → PutsRanks order (lent m text₁) part (Ok k)
+    → PutsPlan board order text (restored m text₁ part) (Ok (m + k))
+plan_there board n order text text₁ part {m} small few counted ok room head ranks =
     let many : n ≡ length (entries order) = sym (entries_length [] order ∙ counted) in
-    let head' = subst (λ (k : ℕ). Put (head_text board k) 0 text text₁ at) many head in
+    let head' = subst (λ (j : ℕ). Wrote (head_text board j) text text₁ m) many head in
     let short = rw counted at (plan_fits board order small (omega (arith, counted)) ok (first_late_none order ranks.0)) in
     (ranks.0, plan_put board (entries order) (omega (arith, short, room)) head' ranks.1)
 

@@ -4,38 +4,38 @@ use mathlib.Core.Path.{◌≡◌, refl, sym, ap, ap₂, subst, ◌∙◌}
 use mathlib.Core.Bool.{Bool, true, false}
 use mathlib.Core.List.{List, [], ◌∷◌, ◌++◌}
 use mathlib.Core.Logic.{inl, inr}
-use Prim.Native.Nat.{ℕ, suc, ◌+◌, ◌-◌, ◌*◌, ◌≤◌, ◌<◌}
+use Prim.Native.Nat.{ℕ, suc, ◌+◌, ◌*◌, ◌≤◌, ◌<◌}
 use native.Mathlib.Omega.{arith}
 use Rattle.std.proofs.Common.{Some, Ok, add-one}
-use Rattle.std.proofs.lemmas.List.{take-map}
-use lib.ListN.{length, get_or, take, drop, length-append, drop_of_length-le}
+use Rattle.std.proofs.lemmas.List.{take-map, length-map}
+use lib.ListN.{length, get_or, take, drop, drop_of_length-le}
 use lib.IntN.{ℤ}
 use lib.Seq.{take-suc, take-length, drop-cons, drop-drop, length-take-le}
 use Rattle.basics.specs.Basics.{pick}
 use Rattle.basics.proofs.Tests.{test_of}
 use Rattle.text.specs.Text.{joined}
-use Rattle.text.specs.inside.Puts.{Put}
-use Rattle.text.proofs.Puts.{begins, next, ends}
+use Rattle.text.specs.Buffers.{Wrote}
+use Rattle.text.proofs.Puts.{lent, restored, lent_length, wrote_nothing, wrote_keeps}
 use Rattle.rows.specs.Rows.{Row, max_task, task_at, in_range, no_row, row_at}
-use Rattle.rows.specs.inside.Lent.{lent_row, lent_rows}
+use Rattle.rows.specs.inside.Lent.{lent_row}
+use Rattle.rows.specs.inside.LentOrders.{rows_in_order}
 use Rattle.rows.proofs.Limits.{limits, at_passes, front_passes, rest_passes, all_times}
 use Rattle.rows.proofs.LentRows.{lent_at}
-use Rattle.rows.proofs.RowNumbers.{line_from, lent_from}
+use Rattle.rows.proofs.RowNumbers.{line_from}
 use Rattle.responses.specs.declared.Figures.{Figures}
 use Rattle.responses.specs.declared.Load.{Load}
 use Rattle.responses.specs.Figures.{rows_above, rows_below, blocking, is_late, latest, earliest, margin}
 use Rattle.responses.specs.Figures.{worst_load, best_load, Answered, late_figures, figures_at, figures_under}
 use Rattle.responses.proofs.Blocking.{blocking_max}
 use Rattle.analysis.specs.inside.Above.{Filled, Under, FiguresIn}
-use Rattle.analysis.proofs.Found.{map_long}
-use Rattle.analysis.proofs.Holds.{rows_rest}
 use Rattle.plans.specs.declared.Entry.{Entry}
 use Rattle.plans.specs.Entries.{entry, entries, no_entry, late_from, first_late}
 use Rattle.plans.specs.Plans.{rank_text, rank_texts, rank_room}
 use Rattle.plans.proofs.Entries.{InLimits, entries_length, entry_at_lem, entry_limits}
 use Rattle.plans.proofs.Lengths.{rank_length}
 use Rattle.plans.proofs.Ranks.{rank_put}
-use Rattle.plan_orders.specs.inside.Ranks.{Ordered, FirstLate, PutsRanks}
+use Rattle.plan_orders.specs.declared.OrderInLimits.{OrderInLimits}
+use Rattle.plan_orders.specs.inside.Ranks.{FirstLate, PutsRanks}
 
 -- the entry that is made of a row's figures
 abbrev entry_from : ℕ → Figures → ℤ → Entry
@@ -61,31 +61,32 @@ module _ (t : Row) (above below : List Row) where
         (e, cc)
   ]
 
--- ---- how far an order's ranks have come: they began at `at` in `o`, and end at `m` in `o₁`
-pub record Turning (order : List Row) (at : ℕ) (o : List ℕ) (m : ℕ) (o₁ : List ℕ) (i : ℕ) : Type 0 where
-  pub within : m ≤ at + i * rank_room
-  pub same : length o₁ ≡ length o
-  pub text_put : Put (joined (rank_texts 1 (take i (entries order)))) at o o₁ m
+-- ---- how far an order's ranks have come: they began in `o`, and end at `m` in `o₁`
+pub record Turning (order : List Row) (o : List ℕ) (m : ℕ) (o₁ : List ℕ) (i : ℕ) : Type 0 where
+  pub within : m ≤ i * rank_room
+  pub text_put : Wrote (joined (rank_texts 1 (take i (entries order)))) o o₁ m
   pub late_is : first_late order ≡ late_from (suc i) (rows_above order i) (drop i order)
 
-module _ {rows : List (List ℕ)} {ps : List ℕ} (h : Ordered rows ps) where
+-- the blocking time of the rows behind the first of those from an index on
+pub blocks_behind : (order : List Row) (i : ℕ) {behind : List Row} {b : ℕ} → behind ≡ drop i order
+    → b ≡ blocking (drop 1 behind) → b ≡ blocking (drop (i + 1) order)
+blocks_behind order i e is = is ∙ ap (λ rs. blocking (drop 1 rs)) e ∙ ap blocking (drop-drop 1 i order)
+
+module _ (given : OrderInLimits) where
+  abbrev rows : List (List ℕ)
+  rows = given.lent.rows.now
+
+  abbrev ps : List ℕ
+  ps = given.lent.positions.now
+
   abbrev order : List Row
-  order = lent_rows rows ps
+  order = rows_in_order given.lent
 
   counted : length order ≡ length ps
-  counted = map_long (lent_row rows) ps
+  counted = length-map ps (lent_row rows)
 
-  -- the positions behind the first of those from an index on
-  pub behind : (i : ℕ) → drop 1 (take (length ps - i) (drop i ps)) ≡ drop (i + 1) ps
-  behind i = ap (drop 1) (lent_from i ps) ∙ drop-drop 1 i ps
-
-  pub starts : (at : ℕ) (o : List ℕ) → at + length ps * rank_room ≤ length o → Turning order at o at o 0
-  starts at o room = record {
-    within = omega arith;
-    same = refl;
-    text_put = ends (begins [] at o (omega (arith, room)));
-    late_is = refl;
-  }
+  pub starts : (o : List ℕ) → Turning order o 0 o 0
+  starts o = record { within = omega arith; text_put = wrote_nothing o; late_is = refl }
 
   -- row i
   module _ {i : ℕ} (more : i < length ps) where
@@ -102,7 +103,7 @@ module _ {rows : List (List ℕ)} {ps : List ℕ} (h : Ordered rows ps) where
     placed = lent_at rows ps i more
 
     here_in_range : in_range here ≡ true
-    here_in_range = sym (ap in_range placed) ∙ at_passes in_range order i h.is_in_range (omega (arith, counted))
+    here_in_range = sym (ap in_range placed) ∙ at_passes in_range order i given.is_in_range (omega (arith, counted))
 
     -- its task, as its numbers have it
     pub task_is : get_or (get_or rows (get_or ps i 0) []) task_at 0 ≡ here.task
@@ -117,13 +118,9 @@ module _ {rows : List (List ℕ)} {ps : List ℕ} (h : Ordered rows ps) where
 
     -- the loads of the order's rows are known, and so is the blocking time of those below
     module _ {worst best : List Load} {b : ℕ} (f : Filled order worst best)
-        (b_is : b ≡ blocking (lent_rows rows (drop 1 (take (length ps - i) (drop i ps))))) where
+        (b_is : b ≡ blocking (drop (i + 1) order)) where
       blocked : b ≡ blocking below
-      blocked =
-          b_is
-          ∙ ap (λ qs. blocking (lent_rows rows qs)) (behind i)
-          ∙ ap (λ (k : ℕ). blocking (lent_rows rows (drop k ps))) (add-one i)
-          ∙ ap blocking (sym (rows_rest rows (suc i) ps))
+      blocked = b_is ∙ ap (λ (k : ℕ). blocking (drop k order)) (add-one i)
 
       filled : Filled above (take i worst) (take i best)
       filled = record {
@@ -136,16 +133,16 @@ module _ {rows : List (List ℕ)} {ps : List ℕ} (h : Ordered rows ps) where
       under = record {
         is_in_range = here_in_range;
         rows = above;
-        few = omega (arith, h.few, length-take-le i order (omega (arith, counted)));
+        few = omega (arith, given.few, counted, length-take-le i order (omega (arith, counted)));
         filled = filled;
-        times_are_in_range = all_times above (front_passes in_range i order h.is_in_range);
+        times_are_in_range = all_times above (front_passes in_range i order given.is_in_range);
         below = below;
         blocked_is = blocked;
-        blocked_max = omega (arith, blocked, blocking_max below (rest_passes in_range (suc i) order h.is_in_range));
+        blocked_max = omega (arith, blocked, blocking_max below (rest_passes in_range (suc i) order given.is_in_range));
       }
 
       module _ {x : Answered} (found : FiguresIn here b (take i worst) (take i best) x)
-          {at : ℕ} {o : List ℕ} {m : ℕ} {o₁ : List ℕ} (t : Turning order at o m o₁ i) where
+          {o : List ℕ} {m : ℕ} {o₁ : List ℕ} (t : Turning order o m o₁ i) where
         figured : x ≡ figures_under here above below
         figured = found above below filled blocked
 
@@ -156,7 +153,7 @@ module _ {rows : List (List ℕ)} {ps : List ℕ} (h : Ordered rows ps) where
             (t.late_is ∙ left ∙ rw (now, late_from) (omega arith), omega arith)
 
         -- it has some: its rank is next
-        module _ (room : at + length ps * rank_room ≤ length o) {y : Figures} (is : x ≡ Ok y) {margin : ℤ}
+        module _ (room : length order * rank_room ≤ length o) {y : Figures} (is : x ≡ Ok y) {margin : ℤ}
             (margin_is : margin ≡ y.margin) where
           abbrev e : Entry
           e = entry_from (get_or (get_or rows (get_or ps i 0) []) task_at 0) y margin
@@ -169,20 +166,21 @@ module _ {rows : List (List ℕ)} {ps : List ℕ} (h : Ordered rows ps) where
 
           short : length (rank_text (i + 1) e) ≤ rank_room
           short =
-              rank_length (i + 1) e (omega (arith, h.few))
+              rank_length (i + 1) e (omega (arith, given.few, counted))
               (subst InLimits (sym written)
-              (entry_limits here above below here_in_range (front_passes in_range i order h.is_in_range) made.0))
+              (entry_limits here above below here_in_range (front_passes in_range i order given.is_in_range) made.0))
 
-          pub rank_fits : m + length (rank_text (i + 1) e) ≤ length o₁
-          rank_fits = omega (arith, short, t.within, room, t.same)
+          pub rank_fits : length (rank_text (i + 1) e) ≤ length (lent m o₁)
+          rank_fits =
+              let kept = wrote_keeps (omega (arith, t.within, room, counted)) t.text_put in
+              omega (arith, short, t.within, room, counted, kept, lent_length m o₁)
 
           -- and it is above those that follow
-          pub turned : {m' : ℕ} {o₂ : List ℕ} → Put (rank_text (i + 1) e) m o₁ o₂ m'
-              → Turning order at o m' o₂ (i + 1)
-          turned {m'} {o₂} rank =
+          pub turned : {part : List ℕ} {k : ℕ} → Wrote (rank_text (i + 1) e) (lent m o₁) part k
+              → Turning order o (m + k) (restored m o₁ part) (i + 1)
+          turned {part} {k} rank =
               let many = entries_length [] order in
               let fits : i < length (entries order) = omega (arith, many, counted) in
-              let alone = length-append (rank_text (i + 1) e) [] in
               let before = length-take-le i (entries order) (omega arith) in
               let last : get_or (entries order) i no_entry ≡ e =
               entry_at_lem order i no_entry (omega (arith, counted))
@@ -191,28 +189,27 @@ module _ {rows : List (List ℕ)} {ps : List ℕ} (h : Ordered rows ps) where
               take-suc (entries order) i no_entry fits
               ∙ ap (λ (z : Entry). take i (entries order) ++ (z ∷ [])) last in
               let put_more = rank_put (take i (entries order)) e (i + 1) (omega (arith, before))
-              (omega (arith, rank_fits, t.same, t.text_put.ends)) t.text_put rank in
+              (omega (arith, short, t.within, room, counted, t.text_put.long_is)) t.text_put rank in
               rw (add-one i)
               record {
-                within = omega (arith, short, t.within, rank.ends);
-                same =
-                    (next (begins (rank_text (i + 1) e ∷ []) m o₁ (omega (arith, rank_fits, alone))) rank).same ∙ t.same;
+                within = omega (arith, short, t.within, rank.long_is);
                 text_put =
-                    subst (λ (es : List Entry). Put (joined (rank_texts 1 es)) at o o₂ m') (sym grown) put_more;
+                    subst (λ (es : List Entry). Wrote (joined (rank_texts 1 es)) o (restored m o₁ part) (m + k))
+                    (sym grown) put_more;
                 late_is = t.late_is ∙ left ∙ rw (made.0, late_from)
                     (ap (λ (l : List Row). late_from (suc (suc i)) l below)
                     (sym (take-suc order i no_row (omega (arith, counted)) ∙ ap (λ r. above ++ (r ∷ [])) placed)));
               }
 
   -- all ranks are passed: none is late
-  pub finished : {at : ℕ} {o : List ℕ} {m : ℕ} {o₁ : List ℕ} {i : ℕ} → Turning order at o m o₁ i → i ≡ length ps
-      → PutsRanks order at o o₁ (Ok m)
-  finished {at} {o} {m} {o₁} {i} t done =
+  pub finished : {o : List ℕ} {m : ℕ} {o₁ : List ℕ} {i : ℕ} → Turning order o m o₁ i → i ≡ length ps
+      → PutsRanks order o o₁ (Ok m)
+  finished {o} {m} {o₁} {i} t done =
       let many = entries_length [] order in
       let passed : i ≡ length (entries order) = omega (arith, counted, many, done) in
       let all : take i (entries order) ≡ entries order =
       ap (λ (k : ℕ). take k (entries order)) passed ∙ take-length (entries order) in (
         t.late_is
             ∙ ap (late_from (suc i) (rows_above order i)) (drop_of_length-le order {i = i} (omega (arith, counted, done))),
-        subst (λ (es : List Entry). Put (joined (rank_texts 1 es)) at o o₁ m) all t.text_put,
+        subst (λ (es : List Entry). Wrote (joined (rank_texts 1 es)) o o₁ m) all t.text_put,
       )

@@ -1,22 +1,22 @@
 // An order's plan: the figures of each rank are found and written in one pass. And what a program prints of an answer.
 #![tactic(auto)]
 
-ghost use Rattle.std.specs.Prelude.{◌≡◌, ◌+◌, ◌*◌, ◌≤◌, length, replicate};
+ghost use Rattle.std.specs.Prelude.{◌≡◌, true, ◌+◌, ◌*◌, ◌≤◌, length, replicate};
 ghost use Rattle.text.specs.Buffers.{Wrote};
-ghost use Rattle.rows.specs.Rows.{max_tasks};
-ghost use Rattle.rows.specs.inside.Lent.{lent_rows};
+ghost use Rattle.rows.specs.Rows.{max_tasks, in_range, all_rows};
+ghost use Rattle.rows.specs.inside.LentOrders.{rows_in_order};
 ghost use Rattle.fixed_points.specs.inside.Loads.{loads_max};
 ghost use Rattle.analysis.specs.inside.Above.{Filled};
 ghost use Rattle.plans.specs.Plans.{rank_room, room_for, plan_room};
 ghost use Rattle.plans.specs.Outcomes.{fitted, if_in_time, Written};
 ghost use Rattle.plans.specs.inside.Prints.{to_print};
-ghost use Rattle.plan_orders.specs.inside.Ranks.{Ordered, FirstLate, PutsRanks, PutsPlan};
+ghost use Rattle.plan_orders.specs.inside.Ranks.{FirstLate, PutsRanks, PutsPlan};
 
 use analysis::{Above, blocking_below, blocking_from, figures_under, fill_loads};
 use plan_lines::{put_head, put_rank, put_refusal};
 use plans::{Entry, Refusal};
 use responses::Load;
-use rows::{MAX_TASKS, RowNumbers, TASK};
+use rows::{LentOrder, MAX_TASKS, TASK};
 use text::put_bytes;
 
 // Room for the lines before a plan's ranks.
@@ -33,6 +33,14 @@ const SMALL_ORDER: usize = 8;
 
 const SMALL_ROOM: usize = HEAD_ROOM + SMALL_ORDER * RANK_ROOM;
 
+// An order of which a plan can be made: each of its rows is in range, and there are no more than have loads.
+#[derive(Clone, Copy)]
+pub struct OrderInLimits<'a> {
+    pub lent: LentOrder<'a>,
+    pub ghost few: { length (rows_in_order lent) ≤ loads_max },
+    pub ghost is_in_range: { all_rows in_range (rows_in_order lent) ≡ true },
+}
+
 // A buffer with that room. The crane and the watcher have one each, by the same line: a function of all three would ask for
 // the room, which is all that they say.
 pub fn buffer() -> [u8; ROOM]
@@ -41,29 +49,22 @@ pub fn buffer() -> [u8; ROOM]
     [0; ROOM]
 }
 
-// The ranks of the rows at some positions, the highest first, up to the first late one; their loads are lent. Where their
-// text ends, or the first late rank, counted from 1.
-fn put_ranks(
-    out: &mut [u8],
-    at: usize,
-    rows: &[RowNumbers],
-    positions: &[usize],
-    order: Above,
-) -> Result<usize, u32>
-    requires ordered { Ordered rows.now positions.now }
-    requires filled { Filled (lent_rows rows.now positions.now) order.worst.now order.best.now }
-    requires room { at + length positions.now * rank_room ≤ length out.old }
-    ensures { PutsRanks (lent_rows rows.now positions.now) at out.old out.new result }
+// The ranks of an order, the highest first, up to the first late one; the loads of its rows are lent. How long their text
+// is, or the first late rank, counted from 1.
+fn put_ranks(out: &mut [u8], order: OrderInLimits, loads: Above) -> Result<usize, u32>
+    requires filled { Filled (rows_in_order order.lent) loads.worst.now loads.best.now }
+    requires room { length (rows_in_order order.lent) * rank_room ≤ length out.old }
+    ensures { PutsRanks (rows_in_order order.entry.lent) out.old out.new result }
 {
-    let mut end = at;
+    let mut at = 0;
     // The blocking time of the rows from index i on, and then of those behind it.
-    let mut blocked = blocking_from(rows, positions);
-    for (i, position) in positions.iter().enumerate() {
-        let row = &rows[*position];
-        blocked = blocking_below(rows, &positions[i..], blocked);
+    let mut blocked = blocking_from(order.lent);
+    for (i, position) in order.lent.positions.iter().enumerate() {
+        let row = &order.lent.rows[*position];
+        blocked = blocking_below(order.lent.behind(i), blocked);
         let above = Above {
-            worst: &order.worst[..i],
-            best: &order.best[..i],
+            worst: &loads.worst[..i],
+            best: &loads.best[..i],
         };
         let Ok(figures) = figures_under(row, blocked, above) else {
             return Err(i as u32 + 1);
@@ -75,41 +76,39 @@ fn put_ranks(
             jitter: figures.jitter,
             margin: figures.margin,
         };
-        end = put_rank(out, end, i as u64 + 1, entry);
+        at += put_rank(&mut out[at..], i as u64 + 1, entry);
     }
-    Ok(end)
+    Ok(at)
 }
 
-// The plan of the rows at some positions as an order, highest rank first, up to the first late rank; with loads of so
-// many rows.
+// The plan of an order, up to the first late rank; with loads of so many rows.
 fn put_plan<const MOST: usize>(
     text: &mut [u8],
     board: u16,
-    rows: &[RowNumbers],
-    positions: &[usize],
+    order: OrderInLimits,
 ) -> Result<usize, u32>
-    requires ordered { Ordered rows.now positions.now }
-    requires room { room_for (length positions.now) ≤ length text.old }
-    requires most { (length positions.now ≤ MOST) × (MOST ≤ loads_max) }
-    ensures { PutsPlan board (lent_rows rows.now positions.now) text.old text.new result }
+    requires room { room_for (length (rows_in_order order.lent)) ≤ length text.old }
+    requires most { (length (rows_in_order order.lent) ≤ MOST) × (MOST ≤ loads_max) }
+    ensures { PutsPlan board (rows_in_order order.entry.lent) text.old text.new result }
 {
-    let n = positions.len();
+    let n = order.lent.len();
     let mut worst = [Load::NONE; MOST];
     let mut best = [Load::NONE; MOST];
     let worst = &mut worst[..n];
     let best = &mut best[..n];
-    fill_loads(rows, positions, worst, best);
-    let at = put_head(text, board, n);
-    put_ranks(text, at, rows, positions, Above { worst, best })
+    fill_loads(order.lent, worst, best);
+    let head = put_head(text, board, n);
+    let ranks = put_ranks(&mut text[head..], order, Above { worst, best })?;
+    Ok(head + ranks)
 }
 
 // The first late rank of an order, counted from 1. Its plan is found as far as that rank, and is not wanted.
-pub fn late_rank(rows: &[RowNumbers], positions: &[usize]) -> Option<u32>
-    requires { (length positions.now ≤ max_tasks) × Ordered rows.now positions.now }
-    ensures { FirstLate (lent_rows rows.now positions.now) result }
+pub fn late_rank(order: OrderInLimits) -> Option<u32>
+    requires { length (rows_in_order order.lent) ≤ max_tasks }
+    ensures { FirstLate (rows_in_order order.entry.lent) result }
 {
     let mut text = [0; ROOM];
-    put_plan::<MAX_TASKS>(&mut text, 0, rows, positions).err()
+    put_plan::<MAX_TASKS>(&mut text, 0, order).err()
 }
 
 // A text is put whole at the start of out, where it fits; else out stays as it was.
@@ -119,8 +118,7 @@ pub fn put_whole(out: &mut [u8], text: &[u8]) -> Result<usize, Refusal>
     if out.len() < text.len() {
         return Err(Refusal::NoRoom);
     }
-    put_bytes(out, 0, text);
-    Ok(text.len())
+    Ok(put_bytes(out, text))
 }
 
 // The plan of an order, or its refusal. It is written whole into a text of so many bytes, so that a refusal leaves out as
@@ -128,35 +126,28 @@ pub fn put_whole(out: &mut [u8], text: &[u8]) -> Result<usize, Refusal>
 pub fn plan_in<const MOST: usize, const TEXT: usize>(
     out: &mut [u8],
     board: u16,
-    rows: &[RowNumbers],
-    positions: &[usize],
+    order: OrderInLimits,
 ) -> Result<usize, Refusal>
-    requires ordered { Ordered rows.now positions.now }
-    requires room { (room_for (length positions.now) ≤ TEXT) × (TEXT ≤ room_for loads_max) }
-    requires most { (length positions.now ≤ MOST) × (MOST ≤ loads_max) }
-    ensures { Written (if_in_time (length out.old) board (lent_rows rows.now positions.now)) out.old out.new result }
+    requires room { (room_for (length (rows_in_order order.lent)) ≤ TEXT) × (TEXT ≤ room_for loads_max) }
+    requires most { (length (rows_in_order order.lent) ≤ MOST) × (MOST ≤ loads_max) }
+    ensures { Written (if_in_time (length out.old) board (rows_in_order order.entry.lent)) out.old out.new result }
 {
     let mut text = [0; TEXT];
-    match put_plan::<MOST>(&mut text, board, rows, positions) {
+    match put_plan::<MOST>(&mut text, board, order) {
         Ok(long) => put_whole(out, &text[..long]),
         Err(rank) => Err(Refusal::Late { rank }),
     }
 }
 
 // The same for no more rows than a table has.
-pub fn plan_order(
-    out: &mut [u8],
-    board: u16,
-    rows: &[RowNumbers],
-    positions: &[usize],
-) -> Result<usize, Refusal>
-    requires { (length positions.now ≤ max_tasks) × Ordered rows.now positions.now }
-    ensures { Written (if_in_time (length out.old) board (lent_rows rows.now positions.now)) out.old out.new result }
+pub fn plan_order(out: &mut [u8], board: u16, order: OrderInLimits) -> Result<usize, Refusal>
+    requires { length (rows_in_order order.lent) ≤ max_tasks }
+    ensures { Written (if_in_time (length out.old) board (rows_in_order order.entry.lent)) out.old out.new result }
 {
-    if positions.len() <= SMALL_ORDER {
-        return plan_in::<SMALL_ORDER, SMALL_ROOM>(out, board, rows, positions);
+    if order.lent.len() <= SMALL_ORDER {
+        return plan_in::<SMALL_ORDER, SMALL_ROOM>(out, board, order);
     }
-    plan_in::<MAX_TASKS, ROOM>(out, board, rows, positions)
+    plan_in::<MAX_TASKS, ROOM>(out, board, order)
 }
 
 // What a program prints of an answer: the plan that stands in the buffer, as long as it says and the buffer is, or the

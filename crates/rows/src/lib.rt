@@ -7,14 +7,15 @@ ghost use Rattle.rows.specs.inside.Records.{recorded, checked};
 
 use basics::within;
 use curves::{ALLOW_MAX, ALLOW_MIN, DELAY_MAX, DELAY_MIN, POINTS_MAX, POINTS_MIN, well_formed};
-pub use lent::{RowNumbers, cost, has_task, in_range, positions_for, rows_from};
+pub use lent::{LentOrder, RowNumbers, cost, has_task, in_range, positions_for, rows_from};
 pub use numbers::{
     ALPHA, BEST, BETA, CURVE, FIELDS, FIRST_POINT, HOLD, NUMBERS, PERIOD, POINTS, SWITCH, TASK,
     WORST, is_among, order_from, put_rows,
 };
 
-// numbers.rt: rows and orders as numbers. lent.rt: rows as they are lent.
+// numbers.rt: rows and orders as numbers. lent.rt: rows as they are lent. lent_order.rt: an order of them.
 mod lent;
+mod lent_order;
 mod numbers;
 
 // The most rows of a table. This and `max_tasks` in specs/Rows.antt are the two to change: every room follows from them.

@@ -1,15 +1,15 @@
-// Text out: each writer puts its text at an offset of a lent buffer and says where the text ends.
+// Text out: each writer puts its text at the front of a lent buffer and says how long the text is.
 ghost use Rattle.std.specs.Prelude.{◌≡◌, ℕ, ◌+◌, ◌<◌, ◌≤◌, List, length};
 ghost use Rattle.text.specs.Text.{digit_zero, decimal, signed, key_line};
-ghost use Rattle.text.specs.inside.Puts.{Put};
+ghost use Rattle.text.specs.Buffers.{Wrote};
 
-pub fn put_bytes(out: &mut [u8], at: usize, text: &[u8]) -> usize
-    requires { at + length text.now ≤ length out.old }
-    ensures { Put text.now at out.old out.new result }
+pub fn put_bytes(out: &mut [u8], text: &[u8]) -> usize
+    requires { length text.now ≤ length out.old }
+    ensures { Wrote text.now out.old out.new result }
 {
-    let end = at + text.len();
-    out[at..end].copy_from_slice(text);
-    end
+    let long = text.len();
+    out[..long].copy_from_slice(text);
+    long
 }
 
 // How many digits a number has.
@@ -31,46 +31,48 @@ fn digit(d: u64) -> u8
 pub trait Written: Copy {
     ghost spelled: { Self → List ℕ };
 
-    // Puts the number's text at an offset.
-    fn put(self, out: &mut [u8], at: usize) -> usize
-        requires { at + length (spelled self) ≤ length out.old }
-        ensures { Put (spelled self) at out.old out.new result };
+    // Puts the number's text.
+    fn put(self, out: &mut [u8]) -> usize
+        requires { length (spelled self) ≤ length out.old }
+        ensures { Wrote (spelled self) out.old out.new result };
 }
 
 impl Written for u64 {
     ghost spelled = { decimal };
 
     // The digits are put from the last to the first.
-    fn put(self, out: &mut [u8], at: usize) -> usize {
-        let end = at + places(self);
+    fn put(self, out: &mut [u8]) -> usize {
+        let long = places(self);
         let mut rest = self;
-        for i in (at + 1..end).rev() {
+        for i in (1..long).rev() {
             out[i] = digit(rest % 10);
             rest = rest / 10;
         }
-        out[at] = digit(rest);
-        end
+        out[0] = digit(rest);
+        long
     }
 }
 
 impl Written for i64 {
     ghost spelled = { signed };
 
-    fn put(self, out: &mut [u8], at: usize) -> usize {
-        let at = if self < 0 {
-            put_bytes(out, at, b"-")
-        } else {
-            at
-        };
-        self.unsigned_abs().put(out, at)
+    fn put(self, out: &mut [u8]) -> usize {
+        let size = self.unsigned_abs();
+        if 0 <= self {
+            return size.put(out);
+        }
+        let mut at = put_bytes(out, b"-");
+        at += size.put(&mut out[at..]);
+        at
     }
 }
 
-pub fn put_line<N: Written>(out: &mut [u8], at: usize, key: &[u8], n: N) -> usize
-    requires { at + length (key_line key.now (N.spelled n)) ≤ length out.old }
-    ensures { Put (key_line key.now (N.spelled n)) at out.old out.new result }
+pub fn put_line<N: Written>(out: &mut [u8], key: &[u8], n: N) -> usize
+    requires { length (key_line key.now (N.spelled n)) ≤ length out.old }
+    ensures { Wrote (key_line key.now (N.spelled n)) out.old out.new result }
 {
-    let at = put_bytes(out, at, key);
-    let at = n.put(out, at);
-    put_bytes(out, at, b"\n")
+    let mut at = put_bytes(out, key);
+    at += n.put(&mut out[at..]);
+    at += put_bytes(&mut out[at..], b"\n");
+    at
 }

@@ -5,11 +5,11 @@
 
 ghost use Rattle.std.specs.Prelude.{◌≡◌, true, ◌≤◌};
 ghost use Rattle.rows.specs.Rows.{max_ticks, max_switch};
-ghost use Rattle.fixed_points.specs.inside.Loads.{base_max, Loads};
+ghost use Rattle.fixed_points.specs.inside.Loads.{base_max};
 ghost use Rattle.value_cases.specs.Loads.{in_range};
 
 use analysis::blocking_time;
-use fixed_points::{first_value, least_fixed, next_value, try_values};
+use fixed_points::{Tasks, first_value, least_fixed, next_value, try_values};
 use responses::Load;
 use rows::Row;
 
@@ -22,8 +22,8 @@ fn in_range(task: Load) -> bool
 }
 
 // The first value and those after so many steps.
-fn print_values(base: u64, limit: u64, tasks: &[Load], steps: u64)
-    requires { (1 ≤ base) × (base ≤ base_max) × (limit ≤ max_ticks) × Loads tasks.now }
+fn print_values(base: u64, limit: u64, tasks: Tasks, steps: u64)
+    requires { (1 ≤ base) × (base ≤ base_max) × (limit ≤ max_ticks) }
 {
     let mut value = first_value(base, tasks);
     io::print_decimal(STDOUT, value);
@@ -35,8 +35,8 @@ fn print_values(base: u64, limit: u64, tasks: &[Load], steps: u64)
 }
 
 // The values up to the last that the search tries, and what is found.
-fn print_search(base: u64, limit: u64, tasks: &[Load])
-    requires { (1 ≤ base) × (base ≤ base_max) × (limit ≤ max_ticks) × Loads tasks.now }
+fn print_search(base: u64, limit: u64, tasks: Tasks)
+    requires { (1 ≤ base) × (base ≤ base_max) × (limit ≤ max_ticks) }
 {
     let tried = try_values(base, limit, tasks);
     print_values(base, limit, tasks, tried.steps);
@@ -55,8 +55,9 @@ fn print_between(task: Load, hold: u64, first: Load, second: Load, n: usize)
         × (hold ≤ max_ticks) × (n ≤ 2) }
 {
     let tasks = [first, second];
+    let tasks = Tasks { loads: &tasks[..n] };
     let own = task.cost + blocking_time(hold);
-    print_search(own, task.period, &tasks[..n]);
+    print_search(own, task.period, tasks);
 }
 
 // A line of its own for a task. Nothing is printed of tasks out of range.

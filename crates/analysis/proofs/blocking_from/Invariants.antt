@@ -6,4 +6,6 @@ use Rattle.analysis.proofs.blocking_from.Given as goal
 
 abbrev pub invariant-loop-position : goal.invariant-loop-position
 invariant-loop-position l =
-    larger l.largest (largest_from l.rows l.positions l.position-index) ≡ largest_from l.rows l.positions 0
+    let rows = l.order.rows.now in
+    let ps = l.order.positions.now in
+    larger l.largest (largest_from rows ps l.position-index) ≡ largest_from rows ps 0

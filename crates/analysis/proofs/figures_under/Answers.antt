@@ -34,6 +34,12 @@ module _ (ws : List ℕ) (x blocked w : ℕ) (worst best : List Load) (p : Under
   timely : Found (row_from ws) best w
   timely = found w p least (found_some _ w is).1
 
+pub invariant_of-worst : goal.invariant_of-worst
+invariant_of-worst c = record { in_limits = worst_loads c.requires }
+
+pub invariant_of-best : goal.invariant_of-best
+invariant_of-best c = record { in_limits = best_loads c.requires }
+
 pub least_fixed-requires : goal.least_fixed-requires
 least_fixed-requires c =
     let ws = c.args.row.now in
@@ -43,7 +49,6 @@ least_fixed-requires c =
       omega (arith, e, l.best_some, l.best_cost),
       omega (arith, e, l.cost_period, l.period_max, c.requires.blocked_max),
       omega (arith, period, l.period_max),
-      worst_loads c.requires,
     )
 
 pub returns-in_default : goal.returns-in_default
@@ -60,7 +65,7 @@ earliest-earliest-requires c =
     let a = c.args in
     let f = timely a.row.now c.cost.result a.blocked c.in-Some.latest a.above.worst.now a.above.best.now c.requires
     c.cost.ensures c.in-Some.ensures in
-    (c.requires.is_in_range, f.latest_max, best_loads c.requires, f.best_fits)
+    (c.requires.is_in_range, f.latest_max, f.best_fits)
 
 pub margin-margin-requires : goal.margin-margin-requires
 margin-margin-requires c =

@@ -2,8 +2,6 @@
 use Rattle.std.specs.Prelude.{◌≡◌, true, List, ℕ, ◌≤◌, length, map}
 use Rattle.rows.specs.Rows.{max_ticks, times_in_range, in_range, all_rows}
 use Rattle.rows.specs.Rows.{Row}
-use Rattle.rows.specs.inside.Numbers.{Below}
-use Rattle.rows.specs.inside.Lent.{lent_rows}
 use Rattle.fixed_points.specs.inside.Loads.{loads_max}
 use Rattle.responses.specs.declared.Load.{Load}
 use Rattle.responses.specs.Figures.{Answered, worst_load, best_load, blocking, figures_under}
@@ -13,12 +11,11 @@ pub record Filled (rows : List Row) (worst best : List Load) : Type 0 where
   pub worst_is : worst ≡ map worst_load rows
   pub best_is : best ≡ map best_load rows
 
--- the rows at some positions have loads, and there is a place for each
-pub record Fillable (rows : List (List ℕ)) (positions : List ℕ) (worst best : ℕ) : Type 0 where
-  pub worst_held : worst ≡ length positions
-  pub best_held : best ≡ length positions
-  pub held : Below (length rows) positions
-  pub times_are_in_range : all_rows times_in_range (lent_rows rows positions) ≡ true
+-- some rows have loads, and there is a place for each
+pub record Fillable (rows : List Row) (worst best : ℕ) : Type 0 where
+  pub worst_held : worst ≡ length rows
+  pub best_held : best ≡ length rows
+  pub times_are_in_range : all_rows times_in_range rows ≡ true
 
 -- a row in range, the loads of rows above it whose times are in range, and the blocking time of the rows below it
 pub record Under (t : Row) (blocked : ℕ) (worst best : List Load) : Type 0 where

@@ -6,13 +6,11 @@ use Rattle.fixed_points.proofs.first_value.Goals as goal
 
 pub overflow_add-result : goal.overflow_add-result
 overflow_add-result c =
-    let f = interference_fits c.args.tasks.now c.requires.1 0 1
-    (omega arith) in
+    let f = interference_fits c.args.tasks.loads.now c.args.tasks.in_limits 0 1 (omega arith) in
     record { fits = omega (arith, c.interference.ensures, f) }
 
 pub returns : goal.returns
 returns c =
-    let a = c.args in
-    let ls = a.tasks.now in
-    let each = one_tick ls (periods_some a.tasks.now c.requires.1) in
+    let tasks = c.args.tasks in
+    let each = one_tick tasks.loads.now (periods_some tasks.loads.now tasks.in_limits) in
     omega (arith, c.interference.ensures, each)

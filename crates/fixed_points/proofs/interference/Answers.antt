@@ -9,7 +9,7 @@ overflow_add-sum c =
     record {
       fits = omega (
         arith,
-        sum_fits a.tasks.now c.requires.3 a.spared a.window x.task-index x.sum c.ceil.result c.requires.0
+        sum_fits a.tasks.loads.now a.tasks.in_limits a.spared a.window x.task-index x.sum c.ceil.result c.requires.0
             c.loop-task-test.true c.ceil.ensures x.invariant,
       );
     }

@@ -5,4 +5,5 @@ use Rattle.fixed_points.proofs.interference.Given as goal
 
 abbrev pub invariant-loop-task : goal.invariant-loop-task
 invariant-loop-task l =
-    l.sum + interference l.spared l.window (drop l.task-index l.tasks) ≡ interference l.spared l.window l.tasks
+    let ls = l.tasks.loads.now in
+    l.sum + interference l.spared l.window (drop l.task-index ls) ≡ interference l.spared l.window ls

@@ -21,16 +21,16 @@ some_found (suc w) h = refl
 pub returns-then-tried-limit : goal.returns-then-tried-limit
 returns-then-tried-limit c =
     let a = c.args in
-    let ls = a.tasks.now in
+    let ls = a.tasks.loads.now in
     let t = c.try_values-tried in
-    let s = stands a.base a.limit ls t.result.last t.result.steps c.requires.0 c.requires.3 t.ensures.last_is in
+    let s = stands a.base a.limit ls t.result.last t.result.steps c.requires.0 a.tasks.in_limits t.ensures.last_is in
     some_found t.result.last s.some
     ∙ ap found (ends_at a.base a.limit ls t.result.last s t.ensures.ends c.if-tried-limit.true)
 
 pub returns-else-tried-limit : goal.returns-else-tried-limit
 returns-else-tried-limit c =
     let a = c.args in
-    let ls = a.tasks.now in
+    let ls = a.tasks.loads.now in
     let t = c.try_values-tried in
-    let s = stands a.base a.limit ls t.result.last t.result.steps c.requires.0 c.requires.3 t.ensures.last_is in
+    let s = stands a.base a.limit ls t.result.last t.result.steps c.requires.0 a.tasks.in_limits t.ensures.last_is in
     ap found (ends_late a.base a.limit ls t.result.last s (omega (arith, c.if-tried-limit.false)))

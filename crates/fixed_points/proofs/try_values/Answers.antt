@@ -6,19 +6,16 @@ use Rattle.fixed_points.proofs.Loads.{periods_some}
 use Rattle.fixed_points.proofs.Values.{moves, Reached, reached_first, stands, reached_next}
 use Rattle.fixed_points.proofs.try_values.Goals as goal
 
-pub first_value-last-requires : goal.first_value-last-requires
-first_value-last-requires c = let p = c.requires in (p.1, p.3)
-
 pub loop-last-init : goal.loop-last-init
 loop-last-init c =
     let a = c.args in
-    let ls = a.tasks.now in
-    reached_first a.base a.limit ls c.requires.0 (periods_some ls c.requires.3) _ c.first_value-last.ensures
+    let ls = a.tasks.loads.now in
+    reached_first a.base a.limit ls c.requires.0 (periods_some ls a.tasks.in_limits) _ c.first_value-last.ensures
 
 pub next_value-next-requires : goal.next_value-next-requires
 next_value-next-requires c =
     let p = c.requires in
-    (omega (arith, c.loop-last.invariant.few), p.1, p.2, p.3)
+    (omega (arith, c.loop-last.invariant.few), p.1, p.2)
 
 pub returns-then-next-last : goal.returns-then-next-last
 returns-then-next-last c =
@@ -41,7 +38,7 @@ pub overflow_add-steps : goal.overflow_add-steps
 overflow_add-steps c =
     let a = c.args in
     let x = c.loop-last in
-    let on = further a.base a.limit a.tasks.now x.last x.steps _ c.requires.0 c.requires.3 x.invariant
+    let on = further a.base a.limit a.tasks.loads.now x.last x.steps _ c.requires.0 a.tasks.in_limits x.invariant
     c.next_value-next.ensures c.if-next-last.false in
     record { fits = omega (arith, on, x.invariant.few, c.requires.2) }
 
@@ -51,7 +48,7 @@ loop-last-smaller c =
     let x = c.loop-last in
     omega (
       arith,
-      further a.base a.limit a.tasks.now x.last x.steps _ c.requires.0 c.requires.3 x.invariant
+      further a.base a.limit a.tasks.loads.now x.last x.steps _ c.requires.0 a.tasks.in_limits x.invariant
           c.next_value-next.ensures c.if-next-last.false,
     )
 
@@ -59,8 +56,8 @@ pub loop-last-preserved : goal.loop-last-preserved
 loop-last-preserved c =
     let a = c.args in
     let x = c.loop-last in
-    let ls = a.tasks.now in
-    let on = further a.base a.limit ls x.last x.steps _ c.requires.0 c.requires.3 x.invariant
+    let ls = a.tasks.loads.now in
+    let on = further a.base a.limit ls x.last x.steps _ c.requires.0 a.tasks.in_limits x.invariant
     c.next_value-next.ensures c.if-next-last.false in
-    reached_next a.base a.limit ls c.requires.0 (periods_some ls c.requires.3) x.last x.steps x.invariant _
+    reached_next a.base a.limit ls c.requires.0 (periods_some ls a.tasks.in_limits) x.last x.steps x.invariant _
     c.next_value-next.ensures on.1

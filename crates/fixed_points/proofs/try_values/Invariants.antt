@@ -4,7 +4,7 @@ use Rattle.fixed_points.proofs.Values.{Reached}
 use Rattle.fixed_points.proofs.try_values.Given as goal
 
 abbrev pub invariant-loop-last : goal.invariant-loop-last
-invariant-loop-last l = Reached l.base l.limit l.tasks l.last l.steps
+invariant-loop-last l = Reached l.base l.limit l.tasks.loads.now l.last l.steps
 
 abbrev pub decreases-loop-last : goal.decreases-loop-last
 decreases-loop-last l = suc l.limit - l.last

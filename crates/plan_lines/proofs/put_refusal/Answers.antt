@@ -1,11 +1,11 @@
--- The three lines of a refusal are put at the buffer's start, one after another.
+-- The three lines of a refusal are put one after another.
 use Rattle.std.proofs.Common.{◌≡◌, ℕ, ◌^◌, ◌<◌, ◌≤◌, ◌⊎◌, inl, inr, List, [], ◌∷◌, length, arith}
 use Rattle.text.specs.Text.{bytes, decimal, key_line}
 use Rattle.text.specs.Buffers.{Wrote}
 use Rattle.plans.specs.Plans.{refusal_text}
 use Rattle.plans.specs.inside.Prints.{refusal_room}
 use Rattle.plans.proofs.Lengths.{refusal_length}
-use Rattle.text.proofs.Puts.{Going, begins, fits_next, ◌▷◌, ends, from_start}
+use Rattle.text.proofs.Puts.{Going, begins, fits_first, first, fits_next, ◌▷◌, ends}
 use Rattle.plan_lines.proofs.put_refusal.Goals as goal
 
 abbrev texts : ℕ → ℕ → List (List ℕ)
@@ -19,35 +19,37 @@ texts number place =
 abbrev Room : ℕ → ℕ → List ℕ → Type 0
 Room number place o = (length (refusal_text number place) ≤ length o) ⊎ (refusal_room ≤ length o)
 
-start : (number place : ℕ) {n p : ℕ} {o : List ℕ} → number < 10 ^ 3 → place < 10 ^ 10 → number ≡ n → place ≡ p
-    → Room n p o → Going (texts number place) (texts number place) 0 o 0 o
-unfolding refusal_text
-start number place {o = o} n p e f room =
-    let room' : Room number place o = rw (e, f) room in
-    begins (texts number place) 0 o (elim room' [
-      | inl h ↦ omega (arith, h)
-      | inr h ↦ omega (arith, h, refusal_length number place n p)
-    ])
+-- the number and the place as the code holds them
+module _ {number place n p : ℕ} {o : List ℕ} (number_is : number ≡ n) (place_is : place ≡ p) where
+  start : number < 10 ^ 3 → place < 10 ^ 10 → Room n p o → Going (texts number place) (texts number place) o 0 o
+  unfolding refusal_text
+  start small low room =
+      let room' : Room number place o = rw (number_is, place_is) room in
+      begins (texts number place) o (elim room' [
+        | inl h ↦ h
+        | inr h ↦ omega (arith, h, refusal_length number place small low)
+      ])
 
-whole : (number place : ℕ) {o o' : List ℕ} {n : ℕ} → Going (texts number place) [] 0 o n o'
-    → Wrote (refusal_text number place) o o' n
-unfolding refusal_text
-whole number place g = from_start (ends g)
+  whole : {o' : List ℕ} {k : ℕ} → Going (texts number place) [] o k o' → Wrote (refusal_text n p) o o' k
+  unfolding refusal_text
+  whole g = rw (← number_is, ← place_is) (ends g)
 
 pub put_line-at-requires : goal.put_line-at-requires
 put_line-at-requires c =
-    fits_next (start _ _ (omega arith) (omega arith) c.number-number.ensures c.place-place.ensures c.requires)
+    fits_first (start c.number-number.ensures c.place-place.ensures (omega arith) (omega arith) c.requires)
 
 pub put_line-at-requires-2 : goal.put_line-at-requires-2
 put_line-at-requires-2 c =
-    fits_next (start _ _ (omega arith) (omega arith) c.number-number.ensures c.place-place.ensures c.requires ▷ c.put_line-at.ensures)
+    let g = start c.number-number.ensures c.place-place.ensures (omega arith) (omega arith) c.requires in
+    fits_next (first g c.put_line-at.ensures)
 
-pub put_line-requires : goal.put_line-requires
-put_line-requires c =
-    fits_next (start _ _ (omega arith) (omega arith) c.number-number.ensures c.place-place.ensures c.requires ▷ c.put_line-at.ensures ▷ c.put_line-at-2.ensures)
+pub put_line-at-requires-3 : goal.put_line-at-requires-3
+put_line-at-requires-3 c =
+    let g = start c.number-number.ensures c.place-place.ensures (omega arith) (omega arith) c.requires in
+    fits_next (first g c.put_line-at.ensures ▷ c.put_line-at-2.ensures)
 
 pub returns : goal.returns
 returns c =
-    rw (← c.number-number.ensures, ← c.place-place.ensures)
-    (whole _ _ (start _ _ (omega arith) (omega arith) c.number-number.ensures c.place-place.ensures c.requires
-    ▷ c.put_line-at.ensures ▷ c.put_line-at-2.ensures ▷ c.put_line.ensures))
+    let g = start c.number-number.ensures c.place-place.ensures (omega arith) (omega arith) c.requires in
+    whole c.number-number.ensures c.place-place.ensures
+    (first g c.put_line-at.ensures ▷ c.put_line-at-2.ensures ▷ c.put_line-at-3.ensures)

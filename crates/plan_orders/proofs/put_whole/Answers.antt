@@ -1,6 +1,5 @@
 -- By whether the text fits.
 use Rattle.std.proofs.Common.{refl, length}
-use Rattle.text.proofs.Puts.{from_start}
 use Rattle.plans.proofs.Outcomes.{fits, fits_not, refused}
 use Rattle.plan_orders.proofs.put_whole.Goals as goal
 
@@ -10,4 +9,4 @@ returns-then-out-text c = refused (fits_not (length c.args.out.now) c.args.text.
 pub returns : goal.returns
 returns c =
     rw (fits (length c.args.out.now) c.args.text.now c.if-out-text.false)
-    record { returns = refl; holds = (from_start c.put_bytes.ensures).holds }
+    record { returns = c.put_bytes.ensures.long_is; holds = c.put_bytes.ensures.holds }

@@ -1,35 +1,24 @@
--- A promise between functions: what comes of an order's ranks, their text, put at an offset, or the first late rank.
-use Rattle.std.specs.Prelude.{◌≡◌, true, List, ℕ, ◌≤◌, ◌<◌, length, Option, Some, None, Result, Ok, Err}
+-- A promise between functions: what comes of an order's ranks, their text or the first late rank.
+use Rattle.std.specs.Prelude.{◌≡◌, List, ℕ, ◌<◌, Option, Some, None, Result, Ok, Err}
 use Rattle.text.specs.Text.{joined}
 use Rattle.text.specs.Buffers.{Wrote}
-use Rattle.text.specs.inside.Puts.{Put}
-use Rattle.rows.specs.Rows.{in_range, all_rows}
 use Rattle.rows.specs.Rows.{Row}
-use Rattle.rows.specs.inside.Numbers.{Below}
-use Rattle.rows.specs.inside.Lent.{lent_rows}
-use Rattle.fixed_points.specs.inside.Loads.{loads_max}
 use Rattle.plans.specs.Entries.{entries, first_late}
 use Rattle.plans.specs.Plans.{rank_texts, plan_text}
-
--- an order is the rows at some positions among rows, all in range, and no more than have loads
-pub record Ordered (rows : List (List ℕ)) (positions : List ℕ) : Type 0 where
-  pub few : length positions ≤ loads_max
-  pub held : Below (length rows) positions
-  pub is_in_range : all_rows in_range (lent_rows rows positions) ≡ true
 
 -- the first late rank, where there is one
 abbrev pub FirstLate : List Row → Option ℕ → Type 0
 FirstLate order None = first_late order ≡ 0
 FirstLate order (Some late) = (first_late order ≡ late) × (0 < late)
 
--- the ranks' text is put, or one of them is late, and the bytes from the offset on are left open
-abbrev pub PutsRanks : List Row → ℕ → List ℕ → List ℕ → Result ℕ ℕ → Type 0
-PutsRanks order at buffer buffer' (Ok end) =
-    (first_late order ≡ 0) × Put (joined (rank_texts 1 (entries order))) at buffer buffer' end
-PutsRanks order at buffer buffer' (Err late) = FirstLate order (Some late)
+-- the ranks' text is written, or one of them is late, and the buffer is left open
+abbrev pub PutsRanks : List Row → List ℕ → List ℕ → Result ℕ ℕ → Type 0
+PutsRanks order buffer buffer' (Ok long) =
+    (first_late order ≡ 0) × Wrote (joined (rank_texts 1 (entries order))) buffer buffer' long
+PutsRanks order buffer buffer' (Err late) = FirstLate order (Some late)
 
--- the same of its plan, from the text's start
+-- the same of its plan
 abbrev pub PutsPlan : ℕ → List Row → List ℕ → List ℕ → Result ℕ ℕ → Type 0
-PutsPlan board order buffer buffer' (Ok end) =
-    (first_late order ≡ 0) × Wrote (plan_text board (entries order)) buffer buffer' end
+PutsPlan board order buffer buffer' (Ok long) =
+    (first_late order ≡ 0) × Wrote (plan_text board (entries order)) buffer buffer' long
 PutsPlan board order buffer buffer' (Err late) = FirstLate order (Some late)

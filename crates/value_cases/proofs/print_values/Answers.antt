@@ -7,7 +7,7 @@ use Rattle.value_cases.proofs.print_values.Goals as goal
 pub next_value-value-requires : goal.next_value-value-requires
 next_value-value-requires c =
     let a = c.args in
-    let ls = a.tasks.now in
-    let some = periods_some a.tasks.now c.requires.3 in
+    let ls = a.tasks.loads.now in
+    let some = periods_some ls a.tasks.in_limits in
     let stands = searching a.base a.limit ls c.requires.0 some c.loop.counter in
-    (omega (arith, c.loop.invariant, stands.some), c.requires.1, c.requires.2, c.requires.3)
+    (omega (arith, c.loop.invariant, stands.some), c.requires.1, c.requires.2)
