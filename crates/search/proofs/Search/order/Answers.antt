@@ -1,5 +1,5 @@
--- The whole table is the set of all bits: the record, begun empty, settles it, and the order is rebuilt from it.
-use Rattle.std.proofs.Common.{◌≡◌, true, false, Some, None, List, ℕ, ◌-◌, ◌^◌, ◌<◌, length, ap, sym, ◌∙◌, subst, arith}
+-- The whole table is the set of all bits: the record settles it, and the order is read off.
+use Rattle.std.proofs.Common.{rules, ◌≡◌, true, false, Some, None, List, ℕ, ◌-◌, ◌^◌, ◌<◌, length, ap, sym, ◌∙◌, subst, arith}
 use mathlib.Core.Bool.{Bool}
 use mathlib.Core.Option.{some}
 use lib.Pow.{pow_pos}
@@ -10,16 +10,14 @@ use Rattle.rows.specs.inside.Lent.{table_of}
 use Rattle.analysis.proofs.Found.{map_long}
 use Rattle.orders.specs.Orders.{the_order, order_of}
 use Rattle.responses.specs.Figures.{largest_hold}
-use Rattle.search.specs.inside.Sets.{others, order_at, Fresh, Settled}
+use Rattle.search.specs.inside.Sets.{others, order_at, Settled}
 use Rattle.orders.specs.Stability.{stable}
 use Rattle.search.specs.inside.Search.{choice_of, Lent, Chained, chain_tasks, Chooses}
-use Rattle.search.proofs.LentRows.{small, a_set, few_rows}
 use Rattle.search.proofs.Outside.{outside_none}
-use Rattle.search.proofs.Record.{begun}
 use Rattle.search.proofs.Chains.{chain}
 use Rattle.search.proofs.Scan.{at_whole, some_of, none_of}
 use Rattle.orders.proofs.Stability.{chosen}
-use Rattle.search.proofs.order_with.Goals as goal
+use Rattle.search.proofs.Search.order.Goals as goal
 
 -- the whole set and its record
 module _ (rows : List (List ℕ)) (lent : Lent rows) (all : ℕ) (e : all ≡ 2 ^ length rows - 1) where
@@ -42,9 +40,6 @@ module _ (rows : List (List ℕ)) (lent : Lent rows) (all : ℕ) (e : all ≡ 2 
   in_table = omega (arith, pow_pos (length rows))
 
   module _ (sets : List ℕ) (found : Bool) (s : Settled stable table all sets found) where
-    in_record : all < length sets
-    in_record = omega (arith, s.recorded.room, a_set lent all in_table)
-
     module _ (h : found ≡ true) where
       -- the order that the whole set has
       abbrev its_order : (os : List Row) × (order_at stable table all ≡ some os)
@@ -66,43 +61,36 @@ module _ (rows : List (List ℕ)) (lent : Lent rows) (all : ℕ) (e : all ≡ 2 
       chosen = chosen table lent.table.distinct;
     }
 
-pub overflow_sub-all : goal.overflow_sub-all
-overflow_sub-all c = omega (arith, c.power-all.ensures, pow_pos (length c.args.rows.now))
-
 pub settled-requires : goal.settled-requires
-settled-requires c =
-    let a = c.args in
-    let l = c.requires.0 in
-    let e = ap (λ (k : ℕ). k - 1) c.power-all.ensures in (
-      record {
-        lent = l;
-        set = in_table a.rows.now l _ e;
-        recorded = begun stable (table_of a.rows.now) (small l) a.sets.now
-            (subst (λ (k : ℕ). Fresh k a.sets.now) (sym (map_long row_from a.rows.now)) c.requires.1);
-      },
-      c.requires.2,
-      none_outside a.rows.now l _ e,
-    )
+settled-requires g c =
+    let x = c.args.self.now in
+    let e = ap (λ (k : ℕ). k - 1) c.power-all.ensures in
+    (search rules, (in_table x.rows.now x.lent _ e, none_outside x.rows.now x.lent _ e))
 
 pub read_off-requires : goal.read_off-requires
-read_off-requires c =
-    let a = c.args in
-    let l = c.requires.0 in
+read_off-requires g c =
+    let x = c.args.self.now in
     let e = ap (λ (k : ℕ). k - 1) c.power-all.ensures in
-    let w = c.settled in (
-      few_rows l,
-      in_record a.rows.now l _ e _ w.result w.ensures,
-      (chained a.rows.now l _ e _ w.result w.ensures c.if-settled.true).0,
+    let w = c.settled in
+    rw w.ensures.kept (
+      search rules,
+      (
+        in_table x.rows.now x.lent _ e,
+        (chained x.rows.now x.lent _ e w.new.self.sets w.result w.ensures.settled c.if-settled.true).0,
+      ),
     )
 
 pub returns-then-settled : goal.returns-then-settled
-returns-then-settled c =
-    let a = c.args in
+returns-then-settled g c =
+    let x = c.args.self.now in
     let e = ap (λ (k : ℕ). k - 1) c.power-all.ensures in
-    rw c.read_off.ensures (ordered a.rows.now c.requires.0 _ e _ c.settled.result c.settled.ensures c.if-settled.true)
+    let w = c.settled in
+    rw (c.read_off.ensures, w.ensures.kept)
+    (ordered x.rows.now x.lent _ e w.new.self.sets w.result w.ensures.settled c.if-settled.true)
 
 pub returns : goal.returns
-returns c =
-    let a = c.args in
+returns g c =
+    let x = c.args.self.now in
     let e = ap (λ (k : ℕ). k - 1) c.power-all.ensures in
-    unordered a.rows.now c.requires.0 _ e _ c.settled.result c.settled.ensures c.if-settled.false
+    let w = c.settled in
+    unordered x.rows.now x.lent _ e w.new.self.sets w.result w.ensures.settled c.if-settled.false
