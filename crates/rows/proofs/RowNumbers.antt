@@ -75,7 +75,7 @@ pub lent_from : (n : ℕ) (ns : List ℕ) → take (length ns - n) (drop n ns) �
 lent_from n ns = take_all (length ns - n) (drop n ns) (omega (arith, length-drop n ns))
 
 -- more points than the most are no curve, wherever their numbers stand
-too_many : (c : List Point) → max_points < length c → well_formed c ≡ false
+pub too_many : (c : List Point) → max_points < length c → well_formed c ≡ false
 unfolding well_formed
 too_many c h = ap (λ b. b && orderly c) (lt-leb (length c) max_points h)
 
