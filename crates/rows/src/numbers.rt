@@ -6,7 +6,7 @@ ghost use Rattle.rows.specs.Rows.{max_ticks, max_tasks, cost, in_range, tasks_of
 ghost use Rattle.rows.specs.inside.Arrays.{ranking};
 ghost use Rattle.rows.specs.inside.Numbers.{line_count, field_count, line_in, switch_in, row_in, rows_of, positions_for};
 ghost use Rattle.rows.specs.inside.Numbers.{between, TaskNumbers};
-ghost use Rattle.rows.specs.inside.Records.{as_row, as_rows, numbers_of, RowPut, RowsPut};
+ghost use Rattle.rows.specs.inside.Records.{as_row, as_rows, record_numbers, RowPut, RowsPut};
 
 use super::lent::RowNumbers;
 use super::{MAX_TASKS, Order, Row};
@@ -50,6 +50,7 @@ pub(crate) fn row_numbers(
 ) -> RowNumbers
     ensures { result ≡ lines ++ (curve.now ++ (switch ∷ [])) }
 {
+    // the switch is left behind what is written before it
     let mut numbers = [switch; FIELDS];
     numbers[..FIRST_POINT].copy_from_slice(&lines);
     numbers[FIRST_POINT..SWITCH].copy_from_slice(curve);
@@ -57,8 +58,8 @@ pub(crate) fn row_numbers(
 }
 
 // The numbers of a record.
-fn numbers_of(row: &Row) -> RowNumbers
-    ensures { result ≡ numbers_of row.now }
+fn record_numbers(row: &Row) -> RowNumbers
+    ensures { result ≡ record_numbers row.now }
 {
     let lines = [
         row.task as u64,
@@ -80,7 +81,7 @@ fn put_row(numbers: &mut [u64; NUMBERS], i: usize, row: &Row)
 {
     if i < MAX_TASKS {
         let at = FIELDS * i;
-        numbers[at..at + FIELDS].copy_from_slice(&numbers_of(row));
+        numbers[at..at + FIELDS].copy_from_slice(&record_numbers(row));
     }
 }
 
