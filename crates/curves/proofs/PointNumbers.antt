@@ -1,5 +1,6 @@
 -- Points whose numbers stand by turns: as many as are asked for, the one at index i of the numbers at 2 i and behind
--- it. Only those numbers count, and a curve's own numbers give the curve again. Each law by going two numbers on.
+-- it. Only those numbers count, a curve's own numbers give the curve again, and so do points that are lent one by one.
+-- Each law by going two numbers on.
 use mathlib.Core.Path.{◌≡◌, refl, ap, ap₂, sym, ◌∙◌}
 use mathlib.Core.List.{List, [], ◌∷◌, ◌++◌}
 use Prim.Native.Nat.{ℕ, zero, suc, ◌+◌, ◌*◌, ◌<◌}

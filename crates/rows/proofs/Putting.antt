@@ -17,7 +17,7 @@ use Rattle.curves.specs.Curves.{max_points}
 use Rattle.rows.specs.declared.Row.{Row as Record}
 use Rattle.rows.specs.Rows.{Row, max_tasks, first_point_at, no_row, row_of, row_at}
 use Rattle.rows.specs.inside.Numbers.{switch_at, field_count, lines_from, row_from, row_in}
-use Rattle.rows.specs.inside.Records.{as_row, as_rows, numbers_of, numbers_room, FewPoints, RowPut, RowsPut}
+use Rattle.rows.specs.inside.Records.{as_row, as_rows, record_numbers, numbers_room, FewPoints, RowPut, RowsPut}
 use Rattle.rows.proofs.RowNumbers.{row_same, rows_are}
 
 -- ---- numbers of a row put together, in an array that is filled with its switch
@@ -32,23 +32,23 @@ module _ (ls cs : List ℕ) (s : ℕ) (h : first_point_at ≡ length ls) where
       (ap (λ k. drop k (ls ++ filled)) h ∙ drop-append_seam ls filled)
 
 -- ---- the numbers of a record make its row
-module _ (r : Record) (long : length (numbers_of r) ≡ field_count) where
+module _ (r : Record) (long : length (record_numbers r) ≡ field_count) where
   abbrev lines : List ℕ
   lines = r.task ∷ r.period ∷ r.worst ∷ r.best ∷ r.alpha ∷ r.beta ∷ r.hold ∷ r.points ∷ []
 
   many : 2 * max_points ≡ length r.curve
   many = omega (arith, long, length-append r.curve (r.switch ∷ []))
 
-  switch_is : get_or (numbers_of r) switch_at 0 ≡ r.switch
+  switch_is : get_or (record_numbers r) switch_at 0 ≡ r.switch
   switch_is =
       ap (λ k. get_or (r.curve ++ (r.switch ∷ [])) k 0) many ∙ get_or-append_seam r.curve r.switch [] 0
 
-  lines_are : lines_from (numbers_of r) ≡ lines ++ r.curve
+  lines_are : lines_from (record_numbers r) ≡ lines ++ r.curve
   lines_are =
       ap (λ k. lines ++ take k (r.curve ++ (r.switch ∷ []))) many
       ∙ ap (λ vs. lines ++ vs) (take-append_seam r.curve (r.switch ∷ []))
 
-  pub numbers_make : row_from (numbers_of r) ≡ as_row r
+  pub numbers_make : row_from (record_numbers r) ≡ as_row r
   numbers_make = ap₂ row_of switch_is lines_are
 
 -- ---- a row put: its numbers stand from the first of its room on
@@ -75,7 +75,7 @@ module _ (ns : List ℕ) (i k : ℕ) (now : List ℕ) (fits : field_count * i + 
   all_long : length put ≡ length ns
   all_long = search (rules, places)
 
-  pub row_put : (r : Record) → now ≡ numbers_of r → RowPut ns i (as_row r) put
+  pub row_put : (r : Record) → now ≡ record_numbers r → RowPut ns i (as_row r) put
   row_put r is = record {
     there = λ room h few.
         row_same (drop (field_count * i) put) now here

@@ -13,7 +13,7 @@ use lib.ListN.{get_or-append, get_or-eq_default}
 use lib.Seq.{take_all, drop-drop, drop-append-le, length-take-le, get_or-take, get_or-drop, ext_get_or}
 use Rattle.rows.specs.Rows.{Row}
 use Rattle.curves.specs.Curves.{Point, max_points, orderly, well_formed, points_from}
-use Rattle.curves.proofs.PointNumbers.{points_length, points_same}
+use Rattle.curves.proofs.PointNumbers.{points_same}
 use Rattle.rows.specs.Rows.{task_at, period_at, worst_at, best_at, alpha_at, beta_at, hold_at, points_at, first_point_at}
 use Rattle.rows.specs.Rows.{lines_for, row_with, row_of, no_row, row_at, all_rows}
 use Rattle.rows.specs.inside.Numbers.{line_count, switch_at, field_count, lines_from, row_from, rows_of, row_in}
@@ -57,40 +57,14 @@ line_in_lem ns i k h = line_from (drop (field_count * i) ns) k h ∙ get_or-drop
 pub switch_in_lem : (ns : List ℕ) (i : ℕ) → switch_in ns i ≡ get_or ns (field_count * i + switch_at) 0
 switch_in_lem ns i = get_or-drop (field_count * i) ns switch_at 0
 
--- the points of a row's curve, from its first delay on
-pub curve_in : (ns : List ℕ) (i : ℕ) → line_in ns i points_at ≤ max_points
-    → (row_in ns i).curve ≡ points_from (line_in ns i points_at) (drop (field_count * i + first_point_at) ns)
-curve_in ns i few =
-    let ws = drop (field_count * i) ns in
-    points_same (line_in ns i points_at) (drop first_point_at (lines_from ws)) (drop (field_count * i + first_point_at) ns)
-    (λ k l.
-    let there : field_count * i + (first_point_at + k) ≡ field_count * i + first_point_at + k = omega arith in
-    get_or-drop first_point_at (lines_from ws) k 0
-    ∙ line_in_lem ns i (first_point_at + k) (omega arith)
-    ∙ ap (λ j. get_or ns j 0) there
-    ∙ sym (get_or-drop (field_count * i + first_point_at) ns k 0))
-
 -- numbers lent from an index on are what stands there
 pub lent_from : (n : ℕ) (ns : List ℕ) → take (length ns - n) (drop n ns) ≡ drop n ns
 lent_from n ns = take_all (length ns - n) (drop n ns) (omega (arith, length-drop n ns))
 
--- more points than the most are no curve, wherever their numbers stand
+-- more points than the most are no curve
 pub too_many : (c : List Point) → max_points < length c → well_formed c ≡ false
 unfolding well_formed
 too_many c h = ap (λ b. b && orderly c) (lt-leb (length c) max_points h)
-
-pub curve_kept : (ns : List ℕ) (i : ℕ) → well_formed (row_in ns i).curve
-    ≡ well_formed (points_from (line_in ns i points_at) (drop (field_count * i + first_point_at) ns))
-curve_kept ns i =
-    let n = line_in ns i points_at in
-    let here = drop first_point_at (lines_from (drop (field_count * i) ns)) in
-    let there = drop (field_count * i + first_point_at) ns in
-    elim (le-or-lt n max_points) [
-      | inl few ↦ ap well_formed (curve_in ns i few)
-      | inr many ↦
-          too_many (points_from n here) (omega (arith, many, points_length n here))
-          ∙ sym (too_many (points_from n there) (omega (arith, many, points_length n there)))
-    ]
 
 -- a row has no more numbers than its own
 pub row_same : (xs ys : List ℕ) → ((i : ℕ) → i < field_count → get_or xs i 0 ≡ get_or ys i 0) → row_from xs ≡ row_from ys

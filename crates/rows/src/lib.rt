@@ -26,7 +26,8 @@ pub const MAX_TASKS: usize = 16;
 
 // A task's row, as a record. Times are in ticks, alpha in thousandths, beta in thousandths of a tick. A job of it may keep
 // the processor for a stretch of at most `hold` ticks, and its board spends `switch` ticks when it first gets it. Its
-// curve has so many points, whose numbers stand by turns.
+// curve has so many points, whose numbers stand by turns in room for the most, since a row goes by value and no heap is
+// used.
 #[derive(Clone, Copy)]
 pub struct Row {
     pub task: u32,

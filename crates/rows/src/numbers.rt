@@ -1,11 +1,11 @@
 // Rows and orders as numbers: of a row those of its lines come first, with room for the most points, and then the
 // switch; and row follows row.
-ghost use Rattle.std.specs.Prelude.{◌≡◌, ◌++◌, [], ◌∷◌, suc, ◌+◌, ◌*◌, ◌≤◌, ◌<◌, length, take, drop, MatchOption};
+ghost use Rattle.std.specs.Prelude.{◌≡◌, ◌++◌, [], ◌∷◌, ◌≤◌, length};
 ghost use Rattle.basics.specs.Basics.{is_in};
 ghost use Rattle.rows.specs.Rows.{max_tasks};
 ghost use Rattle.rows.specs.inside.Arrays.{ranking};
 ghost use Rattle.rows.specs.inside.Numbers.{TaskNumbers};
-ghost use Rattle.rows.specs.inside.Records.{as_row, as_rows, numbers_of, RowPut, RowsPut};
+ghost use Rattle.rows.specs.inside.Records.{as_row, as_rows, record_numbers, RowPut, RowsPut};
 
 use super::lent::RowNumbers;
 use super::{MAX_TASKS, Order, Row};
@@ -49,6 +49,7 @@ pub(crate) fn row_numbers(
 ) -> RowNumbers
     ensures { result ≡ lines ++ (curve.now ++ (switch ∷ [])) }
 {
+    // the switch is left behind what is written before it
     let mut numbers = [switch; FIELDS];
     numbers[..FIRST_POINT].copy_from_slice(&lines);
     numbers[FIRST_POINT..SWITCH].copy_from_slice(curve);
@@ -56,8 +57,8 @@ pub(crate) fn row_numbers(
 }
 
 // The numbers of a record.
-fn numbers_of(row: &Row) -> RowNumbers
-    ensures { result ≡ numbers_of row.now }
+fn record_numbers(row: &Row) -> RowNumbers
+    ensures { result ≡ record_numbers row.now }
 {
     let lines = [
         row.task as u64,
@@ -79,7 +80,7 @@ fn put_row(numbers: &mut [u64; NUMBERS], i: usize, row: &Row)
 {
     if i < MAX_TASKS {
         let at = FIELDS * i;
-        numbers[at..at + FIELDS].copy_from_slice(&numbers_of(row));
+        numbers[at..at + FIELDS].copy_from_slice(&record_numbers(row));
     }
 }
 

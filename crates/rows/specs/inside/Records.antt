@@ -13,8 +13,8 @@ as_row r =
     r.hold r.switch
 
 -- the numbers of a record, as they are lent: those of its lines before its points, those of its points, and its switch
-abbrev pub numbers_of : Declared.Row → List ℕ
-numbers_of r =
+abbrev pub record_numbers : Declared.Row → List ℕ
+record_numbers r =
     (r.task ∷ r.period ∷ r.worst ∷ r.best ∷ r.alpha ∷ r.beta ∷ r.hold ∷ r.points ∷ [])
     ++ (r.curve ++ (r.switch ∷ []))
 

@@ -11,11 +11,12 @@ use Rattle.basics.specs.Basics.{pick}
 use Rattle.rows.specs.declared.Row.{Row}
 use Rattle.rows.specs.Rows.{in_range}
 use Rattle.rows.specs.inside.Numbers.{field_count, row_from}
-use Rattle.rows.specs.inside.Records.{numbers_of, recorded, checked}
+use Rattle.rows.specs.inside.Records.{record_numbers, recorded, checked}
 use Rattle.rows.proofs.Putting.{numbers_make}
 use Rattle.rows.proofs.Row.new.Goals as goal
 
-tested : (r : Row) (ws : List ℕ) (b : Bool) → ws ≡ numbers_of r → length (numbers_of r) ≡ field_count
+-- what the test of the numbers answers is what that of the record does
+tested : (r : Row) (ws : List ℕ) (b : Bool) → ws ≡ record_numbers r → length (record_numbers r) ≡ field_count
     → b ≡ in_range (row_from ws) → pick b (Some r) None ≡ checked r
 tested r ws b is long e = ap (λ t. pick t (Some r) None) (e ∙ ap in_range (ap row_from is ∙ numbers_make r long))
 
