@@ -8,8 +8,7 @@ use lib.Seq.{drop-cons, drop-drop, take-append_seam, drop-append_seam}
 use borrow.Author.Tests.{le-leb}
 use Rattle.text.specs.Text.{joined}
 use Rattle.text.specs.Buffers.{Wrote}
-use Rattle.text.specs.inside.Puts.{Put}
-use Rattle.text.proofs.Puts.{Going, begins, fits_next, next, ends, from_start}
+use Rattle.text.proofs.Puts.{lent, restored, Going, begins, fits_next, ◌▷◌, ends}
 use Rattle.demands.specs.Calls.{planner_prints}
 use Rattle.crane_demands.specs.Pieces.{board_key, pieces, max_pieces}
 use Rattle.crane_demands.specs.Calls.{answers, crane_text, crane_room, craned}
@@ -24,7 +23,7 @@ pub record Printing (text ends out₀ out : List ℕ) (at from i : ℕ) : Type 0
   pub from_in : from ≤ length text
   pub text_left : drop from text ≡ joined (drop i (pieces text))
   pub ends_left : drop i ends ≡ ends_from from (drop i (pieces text))
-  pub going : Going (answers (pieces text)) (answers (drop i (pieces text))) 0 out₀ at out
+  pub going : Going (answers (pieces text)) (answers (drop i (pieces text))) out₀ at out
 
 pub print_first : (text ends out : List ℕ) → AreEnds text ends → crane_room ≤ length out
     → Printing text ends out out 0 0 0
@@ -32,7 +31,7 @@ print_first text ends out e room = record {
   from_in = omega arith;
   text_left = sym (joins board_key text);
   ends_left = e.ends_are;
-  going = begins (answers (pieces text)) 0 out (omega (arith, answers_short (pieces text), e.few));
+  going = begins (answers (pieces text)) out (omega (arith, answers_short (pieces text), e.few));
 }
 
 pub as_many : {text ends : List ℕ} → AreEnds text ends → length ends ≡ length (pieces text)
@@ -70,15 +69,15 @@ module _ {text ends out₀ out : List ℕ} {at from i : ℕ} (p : Printing text 
       let long : get_or ends i 0 - from ≡ length piece = omega (arith, to_is) in
       ap₂ take long text_is ∙ take-append_seam piece (joined rest)
 
-  going_next : Going (answers (pieces text)) (planner_prints piece ∷ answers rest) 0 out₀ at out
-  going_next = subst (λ ps. Going (answers (pieces text)) (answers ps) 0 out₀ at out) next_is p.going
+  going_next : Going (answers (pieces text)) (planner_prints piece ∷ answers rest) out₀ at out
+  going_next = subst (λ ps. Going (answers (pieces text)) (answers ps) out₀ at out) next_is p.going
 
-  pub answer_fits : at + length (planner_prints piece) ≤ length out
+  pub answer_fits : length (planner_prints piece) ≤ length (lent at out)
   answer_fits = fits_next going_next
 
-  pub print_next : (out' : List ℕ) (at' : ℕ) → Put (planner_prints piece) at out out' at'
-      → Printing text ends out₀ out' at' (get_or ends i 0) (suc i)
-  print_next out' at' q = record {
+  pub print_next : {part : List ℕ} {k : ℕ} → Wrote (planner_prints piece) (lent at out) part k
+      → Printing text ends out₀ (restored at out part) (at + k) (get_or ends i 0) (suc i)
+  print_next w = record {
     from_in = to_in;
     text_left =
         ap (λ k. drop k text) to_is
@@ -86,7 +85,7 @@ module _ {text ends out₀ out : List ℕ} {at from i : ℕ} (p : Printing text 
         ∙ ap (drop (length piece)) text_is
         ∙ drop-append_seam piece (joined rest);
     ends_left = rest_ends ∙ ap (λ k. ends_from k rest) (sym to_is);
-    going = next going_next q;
+    going = going_next ▷ w;
   }
 
 pub print_ends : {text ends out₀ out : List ℕ} {at from i : ℕ} → Printing text ends out₀ out at from i
@@ -94,7 +93,7 @@ pub print_ends : {text ends out₀ out : List ℕ} {at from i : ℕ} → Printin
 unfolding crane_text
 print_ends {text} {out₀ = out₀} {out = out} {at = at} {i = i} p e h =
     let none : drop i (pieces text) ≡ [] = drop_of_length-le (pieces text) {i = i} (omega (arith, as_many e)) in
-    from_start (ends (subst (λ ps. Going (answers (pieces text)) (answers ps) 0 out₀ at out) none p.going))
+    ends (subst (λ ps. Going (answers (pieces text)) (answers ps) out₀ at out) none p.going)
 
 -- what fits comes of no more than the most pieces
 pub fitted_is : (text : List ℕ) (room : ℕ) → length (pieces text) ≤ max_pieces

@@ -79,7 +79,7 @@ fn put_answers(out: &mut [u8], text: &[u8], ends: &[usize]) -> usize
     let mut from = 0;
     for to in ends {
         let long = print_plan(&text[from..*to], &mut plan);
-        at = put_bytes(out, at, &plan[..long]);
+        at += put_bytes(&mut out[at..], &plan[..long]);
         from = *to;
     }
     at

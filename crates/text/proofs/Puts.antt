@@ -67,7 +67,7 @@ none_left : (at : ℕ) (o : List ℕ) → drop (length o - at) (drop at o) ≡ [
 none_left at o = drop_of_length-le (drop at o) {i = length o - at} (omega (arith, length-drop at o))
 
 -- what is written at the front of the part is put at the offset
-put_lent : (at : ℕ) (o : List ℕ) {t part : List ℕ} {k : ℕ} → Wrote t (lent at o) part k
+pub put_lent : (at : ℕ) (o : List ℕ) {t part : List ℕ} {k : ℕ} → Wrote t (lent at o) part k
     → Put t at o (restored at o part) (at + k)
 put_lent at o {t} {part} w = record {
   ends = ap (λ k. at + k) w.long_is;
@@ -101,7 +101,7 @@ pub record Going (all left : List (List ℕ)) (o : List ℕ) (m : ℕ) (o₁ : L
 pub begins : (all : List (List ℕ)) (o : List ℕ) → length (joined all) ≤ length o → Going all all o 0 o
 begins all o room = record { room = omega (arith, room); ending = λ p. p; same = refl }
 
-next_put : {all : List (List ℕ)} {t : List ℕ} {ts : List (List ℕ)} {o : List ℕ} {m : ℕ} {o₁ o₂ : List ℕ} {n : ℕ}
+pub next_put : {all : List (List ℕ)} {t : List ℕ} {ts : List (List ℕ)} {o : List ℕ} {m : ℕ} {o₁ o₂ : List ℕ} {n : ℕ}
     → Going all (t ∷ ts) o m o₁ → Put t m o₁ o₂ n → Going all ts o n o₂
 next_put {t = t} {ts = ts} {m = m} {o₁ = o₁} g p =
     let same = keeps (room_first m t (joined ts) o₁ g.room) p in

@@ -3,15 +3,12 @@ use mathlib.Core.Path.{◌≡◌, refl, sym, ap, subst, ◌∙◌}
 use mathlib.Core.List.{List, [], ◌∷◌, ◌++◌, append-nil, append_assoc}
 use Prim.Native.Nat.{ℕ, suc, ◌+◌, ◌*◌, ◌^◌, ◌≤◌, ◌<◌}
 use native.Mathlib.Omega.{arith}
-use native.Mathlib.Nat.{zero-add}
 use native.Mathlib.Numerals.{add-one}
-use lib.ListN.{length, get_or, length-append, take-append-drop}
+use lib.ListN.{length, get_or, length-append}
 use Rattle.std.specs.Prelude.{Option, None, Some}
-use Rattle.text.specs.inside.Puts.{Put}
-use Rattle.text.specs.Buffers.{Wrote}
 use Rattle.text.proofs.Decimals.{decimal_short}
 use Rattle.text.proofs.Spelling.{line_length}
-use Rattle.text.proofs.Puts.{begins, next, ends, from_start}
+use Rattle.text.proofs.Puts.{begins, first, next_put, ends, wrote_nothing}
 use Rattle.rows.specs.Rows.{max_ticks, row_at}
 use Rattle.rows.specs.Rows.{Row}
 use Rattle.boards.specs.Boards.{Done, no_jobs}
@@ -57,20 +54,13 @@ text-more : {text job o o₁ o₂ : List ℕ} {m n : ℕ} → WroteIf text o o�
 text-more {text} {job} {o} {o₁} {o₂} {m} {n} t p same = record {
   long_is = omega (arith, t.long_is, p.ends, length-append text job);
   fits = λ h.
-      let a : Put text 0 o o₁ m = record {
-        ends = t.long_is ∙ sym (zero-add (length text));
-        holds = t.fits (omega (arith, p.ends));
-      } in
-      let b : Put job m o₁ o₂ n = record { ends = p.ends; holds = p.fits (omega arith) } in
       let long = length-append text (job ++ []) in
       let long' = length-append job [] in
-      let g = begins (text ∷ job ∷ []) 0 o (omega (arith, h, t.long_is, p.ends)) in
-      rw (append-nil job) at (ends (next (next g a) b)).holds;
+      let start = begins (text ∷ job ∷ []) o (omega (arith, h, t.long_is, p.ends)) in
+      let here = first start (t.fits (omega (arith, p.ends))) in
+      rw (append-nil job) at
+      (ends (next_put here record { ends = p.ends; holds = p.fits (omega arith) }));
 }
-
--- a text that fits
-pub wrote_whole : {text o o' : List ℕ} {m : ℕ} → WroteIf text o o' m → m ≤ length o → Wrote text o o' m
-wrote_whole {text} t h = from_start record { ends = t.long_is ∙ sym (zero-add (length text)); holds = t.fits h }
 
 -- ---- the first jobs
 module _ {order : List Row} {offset : ℕ → ℕ} {x : Board} (d : Describes order offset x) where
@@ -143,7 +133,7 @@ module _ (ticks : ℕ) (x : Board) (o : List ℕ) where
     same = refl;
     shows = λ order offset d. (
       begun d pending as_many b,
-      record { long_is = refl; fits = λ h. sym (take-append-drop 0 o) },
+      record { long_is = refl; fits = λ h. wrote_nothing o },
     );
   }
 

@@ -3,7 +3,7 @@
 #![tactic(auto)]
 
 ghost use Rattle.std.specs.Prelude.{◌≤◌, length};
-ghost use Rattle.text.specs.inside.Puts.{Put};
+ghost use Rattle.text.specs.Buffers.{Wrote};
 ghost use Rattle.watch_demands.specs.Runs.{job_text};
 ghost use Rattle.watch_runs.specs.inside.Runs.{run_room, PutIf, Startable, Runs, RunsOrder};
 
@@ -21,28 +21,38 @@ mod steps;
 // The longest lines of a job: three keys with their line feeds, and three numbers of twenty digits.
 const JOB_ROOM: usize = 83;
 
-// A job's three lines, in a buffer that has room for any.
-fn job_lines(lines: &mut [u8], task: u64, release: u64, finish: u64) -> usize
-    requires { length (job_text task release finish) ≤ length lines.old }
-    ensures { Put (job_text task release finish) 0 lines.old lines.new result }
-{
-    let at = put_line(lines, 0, b"task=", task);
-    let at = put_line(lines, at, b"release=", release);
-    put_line(lines, at, b"finish=", finish)
+// A job that has finished.
+#[derive(Clone, Copy)]
+struct FinishedJob {
+    task: u64,
+    release: u64,
+    finish: u64,
 }
 
-// A job's lines at an offset, if they fit; and where they end, whether or not they do.
-fn put_job(out: &mut [u8], at: usize, task: u64, release: u64, finish: u64) -> usize
+// A job's three lines, in a buffer that has room for any.
+fn job_lines(lines: &mut [u8], job: FinishedJob) -> usize
+    requires { length (job_text job.task job.release job.finish) ≤ length lines.old }
+    ensures { Wrote (job_text job.task job.release job.finish) lines.old lines.new result }
+{
+    let mut at = put_line(lines, b"task=", job.task);
+    at += put_line(&mut lines[at..], b"release=", job.release);
+    at += put_line(&mut lines[at..], b"finish=", job.finish);
+    at
+}
+
+// A job's lines at an offset, if they fit; and where they end, whether or not they do. The offset is a parameter, since it
+// lies past the buffer's end where the lines before it did not fit.
+fn put_job(out: &mut [u8], at: usize, job: FinishedJob) -> usize
     requires { at ≤ run_room }
-    ensures { PutIf (job_text task release finish) at out.old out.new result }
+    ensures { PutIf (job_text job.task job.release job.finish) at out.old out.new result }
 {
     let mut lines = [0u8; JOB_ROOM];
-    let long = job_lines(&mut lines, task, release, finish);
+    let long = job_lines(&mut lines, job);
     let end = at + long;
     if out.len() < end {
         return end;
     }
-    put_bytes(out, at, &lines[..long])
+    at + put_bytes(&mut out[at..], &lines[..long])
 }
 
 // A run of some ticks from its first releases on: the text of what it finishes, as far as it fits, and its length.
@@ -56,7 +66,12 @@ fn run(out: &mut [u8], ticks: u64, board: &Board) -> usize
     let mut end = 0;
     for t in 0..ticks {
         if let Some(done) = step(t, pending, board) {
-            end = put_job(out, end, board.ranks[done.rank].task, done.release, t + 1);
+            let job = FinishedJob {
+                task: board.ranks[done.rank].task,
+                release: done.release,
+                finish: t + 1,
+            };
+            end = put_job(out, end, job);
         }
     }
     end

@@ -28,7 +28,7 @@ loop-to-preserved c =
     let more = c.loop-to-test.true in
     let printed = rw (part_is c.loop-to.invariant c.requires.ends_given more) at c.print_plan-long.ensures.wrote in
     rw (add-one c.loop-to.to-index)
-    (print_next c.loop-to.invariant c.requires.ends_given more _ _ (rw (wrote_front printed) at c.put_bytes-at.ensures))
+    (print_next c.loop-to.invariant c.requires.ends_given more (rw (wrote_front printed) at c.put_bytes-at.ensures))
 
 pub returns : goal.returns
 returns c = print_ends c.loop-to.invariant c.requires.ends_given (omega arith)

@@ -4,7 +4,6 @@ use native.Mathlib.Omega.{arith}
 use lib.ListN.{length}
 use Rattle.plans.proofs.Outcomes.{fits, fits_not, refused}
 use Rattle.watch_demands.specs.Runs.{jobs_text}
-use Rattle.watch_runs.proofs.Runs.{wrote_whole}
 use Rattle.watch_runs.proofs.run_order.Goals as goal
 
 pub returns-then-out-long : goal.returns-then-out-long
@@ -19,5 +18,5 @@ returns c order offset d =
     let second = c.run.ensures.wrote order offset d in
     let left = c.if-out-long.false in
     let text = jobs_text order offset c.args.board.now.lengths.now c.args.ticks in
-    let w = wrote_whole second (omega (arith, long, second.long_is, left)) in
+    let w = second.fits (omega (arith, long, second.long_is, left)) in
     rw (fits (length c.args.out.now) text (omega (arith, long, left))) record { returns = long; holds = w.holds }

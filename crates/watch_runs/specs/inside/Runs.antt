@@ -1,5 +1,6 @@
 -- Promises between functions: a run of some ticks, what it asks of its ranks, and the text that it writes.
 use Rattle.std.specs.Prelude.{◌≡◌, List, ℕ, ◌+◌, ◌*◌, ◌≤◌, ◌<◌, length, Result}
+use Rattle.text.specs.Buffers.{Wrote}
 use Rattle.text.specs.inside.Puts.{put}
 use Rattle.rows.specs.Rows.{max_ticks, row_at}
 use Rattle.rows.specs.Rows.{Row}
@@ -28,7 +29,7 @@ pub record PutIf (text : List ℕ) (at : ℕ) (buffer buffer' : List ℕ) (end :
 -- a text from the start on, if it fits; and its length
 pub record WroteIf (text buffer buffer' : List ℕ) (long : ℕ) : Type 0 where
   pub long_is : long ≡ length text
-  pub fits : long ≤ length buffer → buffer' ≡ put 0 text buffer
+  pub fits : long ≤ length buffer → Wrote text buffer buffer' long
 
 -- ---- runs
 -- the ranks are those of an order, none of whose tasks holds the processor, with the owners of the lengths
