@@ -12,10 +12,10 @@ use readers::HEAD;
 use rows::{BEST, FIELDS, PERIOD, RowNumbers, TASK, cost, order_at, positions_for};
 use watch_runs::Rank;
 
-// The rows of a table's order, and its ranks, with the range of the lengths of each.
+// The rows of a table's order, and its ranks, with the range of the lengths of each, which are lent later.
 #[derive(Clone, Copy)]
-pub struct Ranking<'a> {
-    pub rows: OrderInLimits<'a>,
+pub struct Ranking<'o, 'a> {
+    pub rows: OrderInLimits<'o>,
     pub ranks: &'a [Rank],
     pub ranges: &'a [Range],
 }
