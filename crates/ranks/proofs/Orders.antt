@@ -1,5 +1,6 @@
 -- What the calls plan: rows in an order of their tasks, at the positions of these tasks.
 use mathlib.Core.Path.{◌≡◌, refl, sym, ap, ap₂, subst, ◌∙◌}
+use mathlib.Core.Bool.{true}
 use mathlib.Core.List.{List, [], ◌∷◌, ◌++◌, append-nil}
 use Prim.Native.Nat.{ℕ, suc, ◌≤◌}
 use native.Mathlib.Omega.{arith}
@@ -8,10 +9,9 @@ use Rattle.rows.specs.Rows.{max_tasks, in_range, all_rows, rows_for}
 use Rattle.rows.specs.declared.Order.{Order}
 use Rattle.rows.specs.inside.Arrays.{ranked}
 use Rattle.rows.specs.inside.Numbers.{row_from, rows_at, positions_for, Below}
-use Rattle.rows.specs.inside.Lent.{table_of, lent_rows}
+use Rattle.rows.specs.inside.Lent.{table_of, lent_row, lent_rows}
 use Rattle.rows.proofs.LentRows.{table_at}
 use Rattle.rows.proofs.Tasks.{positions_below, positions_length, positions_rows, at_all_pass}
-use Rattle.plan_orders.specs.inside.Ranks.{Ordered}
 use Rattle.ranks.specs.inside.Tasks.{Tasked}
 
 -- rows at positions are those of the table
@@ -34,7 +34,7 @@ module _ (rows : List (List ℕ)) {order : Order} (t : Tasked (table_of rows) or
   below : Below (length (table_of rows)) qs
   below = subst (Below (length (table_of rows))) (sym placed) (positions_below (ranked order) (table_of rows) t.there)
 
-  held : Below (length rows) qs
+  pub held : Below (length rows) qs
   held k l = omega (arith, below k l, length-map rows row_from)
 
   -- the rows at the positions are those of the tasks
@@ -44,10 +44,11 @@ module _ (rows : List (List ℕ)) {order : Order} (t : Tasked (table_of rows) or
       ∙ ap (rows_at (table_of rows)) placed
       ∙ positions_rows (ranked order) (table_of rows)
 
-  pub few_positions : length qs ≤ max_tasks
-  few_positions =
+  pub few_planned : length (lent_rows rows qs) ≤ max_tasks
+  few_planned =
       omega (
         arith,
+        length-map qs (lent_row rows),
         t.few,
         t.as_many,
         length-take order.count order.tasks,
@@ -55,10 +56,6 @@ module _ (rows : List (List ℕ)) {order : Order} (t : Tasked (table_of rows) or
         ap length placed,
       )
 
-  pub ordered : Ordered rows qs
-  ordered = record {
-    few = omega (arith, few_positions);
-    held = held;
-    is_in_range =
-        ap (all_rows in_range) (at_positions rows qs held) ∙ at_all_pass in_range (table_of rows) qs below t.is_in_range;
-  }
+  pub planned_in_range : all_rows in_range (lent_rows rows qs) ≡ true
+  planned_in_range =
+      ap (all_rows in_range) (at_positions rows qs held) ∙ at_all_pass in_range (table_of rows) qs below t.is_in_range

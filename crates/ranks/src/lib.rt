@@ -15,13 +15,13 @@ ghost use Rattle.ranks.specs.inside.Tasks.{Tasked, RoomFor};
 
 pub use figures::row_figures;
 pub use plan_orders::{ROOM, buffer};
-use plan_orders::{plan_order, printed};
+use plan_orders::{OrderInLimits, plan_order, printed};
 pub use plans::Refusal;
 use readers::{
     BOARD, FEW_NUMBERS, HEAD, MANY_NUMBERS, MORE_NUMBERS, MOST_NUMBERS, SOME_NUMBERS, fits_in,
     read_table,
 };
-use rows::{FIELDS, MAX_TASKS, Order, RowNumbers, order_at, positions_for, rows_from};
+use rows::{FIELDS, LentOrder, MAX_TASKS, Order, RowNumbers, order_at, positions_for, rows_from};
 use search::choose;
 
 // The plan of a table's rows, in an order of their tasks.
@@ -38,7 +38,8 @@ fn plan_tasks(
     let mut positions = [0usize; MAX_TASKS];
     let positions = &mut positions[..order.count];
     positions_for(&order.tasks[..order.count], rows, positions);
-    plan_order(out, board, rows, positions)
+    let lent = LentOrder { rows, positions };
+    plan_order(out, board, OrderInLimits { lent })
 }
 
 // The planner, with room for the numbers of the text's lines.

@@ -14,6 +14,7 @@ use Rattle.rows.specs.Rows.{Row}
 use Rattle.rows.specs.inside.Numbers.{row_from, rows_at, positions_for, Below}
 use Rattle.rows.specs.inside.Numbers as Numbers
 use Rattle.rows.specs.inside.Lent.{table_of, lent_row, lent_rows}
+use Rattle.rows.specs.inside.LentOrders.{rows_in_order}
 use Rattle.rows.proofs.Limits.{Limits}
 use Rattle.rows.proofs.LentRows.{table_at, lent_at}
 use Rattle.rows.proofs.Tasks.{positions_below, positions_length, positions_rows}
@@ -24,7 +25,7 @@ use Rattle.readers.specs.inside.Numbers as TableNumbers
 use Rattle.readers.specs.inside.Readings.{Held}
 use Rattle.tables.proofs.Readings as Tables
 use Rattle.readers.proofs.Tables.{ranks_counted, few, ranks_are, all_there}
-use Rattle.plan_orders.specs.inside.Ranks.{Ordered, FirstLate}
+use Rattle.plan_orders.specs.inside.Ranks.{FirstLate}
 use Rattle.watch_demands.specs.WatchLines.{max_release, offset_of}
 use Rattle.watch_demands.proofs.Given.{order_long, order_in_range, order_limits, order_unheld}
 use Rattle.plans.specs.Entries.{first_late}
@@ -37,7 +38,7 @@ use Rattle.watch_runs.specs.inside.Owners.{rank_at, Released, Owned}
 use Rattle.watch_runs.specs.inside.Runs.{Describes, Startable}
 use Rattle.watches.specs.declared.ranking.Ranking.{Ranking}
 use Rattle.watches.specs.inside.Lines.{range_at}
-use Rattle.watches.specs.inside.Rankings.{RankIs, RanksAre}
+use Rattle.watches.specs.inside.Rankings.{RankIs}
 use Rattle.watches.specs.inside.Stages.{rows_of, tasks_of, order_of, Unheld, LaidBy}
 
 -- ---- the table
@@ -74,7 +75,7 @@ module _ {front ns : List ℕ} {n : ℕ} (t : Unheld front) (h : Held true front
   rows_many : length rows ≡ length (rows_of front)
   rows_many = sym (length-map rows row_from) ∙ ap length table_is
 
-  below : Below (length rows) ps
+  pub below : Below (length rows) ps
   below =
       subst (λ k. Below k ps) (sym rows_many)
       (subst (Below (length (rows_of front))) (sym positions_are)
@@ -86,12 +87,14 @@ module _ {front ns : List ℕ} {n : ℕ} (t : Unheld front) (h : Held true front
       ∙ ap₂ rows_at table_is positions_are
       ∙ positions_rows (tasks_of front) (rows_of front)
 
-  pub ordered : Ordered rows ps
-  ordered = record {
-    few = omega (arith, positions_many, few h);
-    held = below;
-    is_in_range = ap (all_rows in_range) order_is ∙ order_in_range (read_table true front) (table_sound t);
-  }
+  pub few_rows : length (lent_rows rows ps) ≤ max_tasks
+  few_rows = omega (arith, length-map ps (lent_row rows), positions_many, few h)
+
+  pub rows_in_range : all_rows in_range (lent_rows rows ps) ≡ true
+  rows_in_range = ap (all_rows in_range) order_is ∙ order_in_range (read_table true front) (table_sound t)
+
+  counted : length (order_of front) ≡ length ps
+  counted = omega (arith, ap length order_is, length-map ps (lent_row rows))
 
   -- where the task of a rank stands
   position_at : (j : ℕ) → j < length ps
@@ -106,25 +109,27 @@ module _ {front ns : List ℕ} {n : ℕ} (t : Unheld front) (h : Held true front
       map_at f (v ∷ vs) (suc i) l = map_at f vs i (omega arith)
 
   -- with the first releases of the rows
-  pub laid_by : (x : Ranking) → x.rows.now ≡ rows → x.positions.now ≡ ps → (releases : List ℕ)
+  pub laid_by : (x : Ranking) → rows_in_order x.rows.lent ≡ lent_rows rows ps → (releases : List ℕ)
       → length releases ≡ n → ((i : ℕ) → i < length releases → get_or releases i 0 ≤ max_release)
-      → length x.ranks.now ≡ n → length x.ranges.now ≡ n → RanksAre rows ps releases x.ranks.now x.ranges.now
+      → length x.ranks.now ≡ n → length x.ranges.now ≡ n 
+      → ((j : ℕ) → j < length ps → let p = get_or ps j 0 in
+        RankIs (lent_row rows p) (get_or releases p 0) (rank_at x.ranks.now j) (range_at x.ranges.now j))
       → LaidBy front releases x
-  laid_by x rows_same ps_same releases releases_many small ranks_many ranges_many are =
-      rw (rows_same, ps_same) record {
-        table = t;
-        few = omega (arith, positions_many, few h);
-        ordered = ordered;
-        order_is = order_is;
-        ranks_many = omega (arith, ranks_many, positions_many);
-        ranges_many = omega (arith, ranges_many, positions_many);
-        rank_is = λ j l.
-            let row = sym (lent_at rows ps j l) ∙ ap (λ rs. row_at rs j) order_is in
-            let release = ap (λ (p : ℕ). get_or releases p 0) (position_at j l) in
-            rw row at (rw release at (are j l));
-        offset_max = λ j l.
-            omega (arith, (are j l).offset_is, small (get_or ps j 0) (omega (arith, releases_many, below j l, rows_many, h.count_is)));
-      }
+  laid_by x same releases releases_many small ranks_many ranges_many are = record {
+    table = t;
+    few = omega (arith, counted, positions_many, few h);
+    order_is = same ∙ order_is;
+    ranks_many = omega (arith, ranks_many, counted, positions_many);
+    ranges_many = omega (arith, ranges_many, counted, positions_many);
+    rank_is = λ j k.
+        let l : j < length ps = omega (arith, counted) in
+        let row = sym (lent_at rows ps j l) ∙ ap (λ rs. row_at rs j) order_is in
+        let release = ap (λ (p : ℕ). get_or releases p 0) (position_at j l) in
+        rw row at (rw release at (are j l));
+    offset_max = λ j k.
+        let l : j < length ps = omega (arith, counted) in
+        omega (arith, (are j l).offset_is, small (get_or ps j 0) (omega (arith, releases_many, below j l, rows_many, h.count_is)));
+  }
 
 -- ---- what the run asks
 module _ {front releases : List ℕ} {x : Ranking} (l : LaidBy front releases x) where
@@ -135,8 +140,7 @@ module _ {front releases : List ℕ} {x : Ranking} (l : LaidBy front releases x)
   offset = offset_of (rows_of front) (tasks_of front) releases
 
   pub order_many : length order ≡ length x.ranks.now
-  order_many =
-      ap length (sym l.order_is) ∙ length-map x.positions.now (lent_row x.rows.now) ∙ sym l.ranks_many
+  order_many = sym l.ranks_many
 
   limits_at : (j : ℕ) → j < length x.ranks.now → Limits (row_at order j)
   limits_at j h = order_limits (read_table true front) (table_sound l.table) j (omega (arith, order_many))
@@ -186,11 +190,11 @@ module _ {front releases : List ℕ} {x : Ranking} (l : LaidBy front releases x)
 
   -- ---- by its first late rank
   module _ (room : ℕ) (lengths : List ℕ) (ticks : ℕ) where
-    pub late_outcome : (late : ℕ) → FirstLate (lent_rows x.rows.now x.positions.now) (Some late)
+    pub late_outcome : (late : ℕ) → FirstLate (rows_in_order x.rows.lent) (Some late)
         → run_in_time room order offset lengths ticks ≡ refuses 7 late
     late_outcome zero is = absurd (omega (arith, is.1))
     late_outcome (suc k) is = late_run room order offset lengths ticks k (ap first_late (sym l.order_is) ∙ is.0)
 
-    pub timely_outcome : FirstLate (lent_rows x.rows.now x.positions.now) None
+    pub timely_outcome : FirstLate (rows_in_order x.rows.lent) None
         → run_in_time room order offset lengths ticks ≡ fitted room (jobs_text order offset lengths ticks)
     timely_outcome none = timely_run room order offset lengths ticks (ap first_late (sym l.order_is) ∙ none)

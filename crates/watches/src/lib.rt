@@ -12,11 +12,11 @@ ghost use Rattle.watches.specs.inside.Stages.{AtReleases, Laid, AtTicks, AtLengt
 
 use front::read_front;
 use lines::{Range, read_numbers};
-use plan_orders::{late_rank, printed};
+use plan_orders::{OrderInLimits, late_rank, printed};
 use plans::Refusal;
 use ranking::{Ranking, fill_ranks, place_ranks};
 use readers::{HEAD, MOST_NUMBERS, Progress};
-use rows::{MAX_TASKS, rows_from};
+use rows::{LentOrder, MAX_TASKS, rows_from};
 use text::{end_at, line_at};
 use watch_runs::{Board, Rank, fill_owners, run_order};
 
@@ -63,7 +63,7 @@ fn watch_run(
     requires few_ticks { ticks ≤ max_ticks }
     ensures { RunsLaid order.now ticks owners.now lengths.now out.old out.new result }
 {
-    if let Some(rank) = late_rank(order.rows, order.positions) {
+    if let Some(rank) = late_rank(order.rows) {
         return Err(Refusal::Late { rank });
     }
     let board = Board {
@@ -160,14 +160,15 @@ fn watch_table(
     let mut positions = [0usize; MAX_TASKS];
     let positions = &mut positions[..n];
     place_ranks(numbers, rows, positions);
+    let lent = LentOrder { rows, positions };
+    let rows = OrderInLimits { lent };
     let mut ranks = [Rank::NONE; MAX_TASKS];
     let ranks = &mut ranks[..n];
     let mut ranges = [Range::NONE; MAX_TASKS];
     let ranges = &mut ranges[..n];
-    fill_ranks(rows, positions, releases, ranks, ranges);
+    fill_ranks(rows, releases, ranks, ranges);
     let order = Ranking {
         rows,
-        positions,
         ranks,
         ranges,
     };

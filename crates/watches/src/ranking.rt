@@ -7,16 +7,15 @@ ghost use Rattle.readers.specs.inside.Numbers.{row_start, behind};
 ghost use Rattle.watches.specs.inside.Rankings.{Rankable, RanksAre};
 
 use super::lines::Range;
+use plan_orders::OrderInLimits;
 use readers::HEAD;
 use rows::{BEST, FIELDS, PERIOD, RowNumbers, TASK, cost, order_at, positions_for};
 use watch_runs::Rank;
 
-// The rows of a table, where those of its order stand among them, and the order's ranks, with the range of the lengths
-// of each.
+// The rows of a table's order, and its ranks, with the range of the lengths of each, which are lent later.
 #[derive(Clone, Copy)]
-pub struct Ranking<'a> {
-    pub rows: &'a [RowNumbers],
-    pub positions: &'a [usize],
+pub struct Ranking<'o, 'a> {
+    pub rows: OrderInLimits<'o>,
     pub ranks: &'a [Rank],
     pub ranges: &'a [Range],
 }
@@ -34,19 +33,18 @@ pub fn place_ranks(numbers: &[u64], rows: &[RowNumbers], positions: &mut [usize]
     positions_for(&order.tasks[..n], rows, positions);
 }
 
-// The ranks of the rows at some positions, the first release of each that of its row, and the ranges of their lengths.
+// The ranks of an order, the first release of each that of its row, and the ranges of their lengths.
 pub fn fill_ranks(
-    rows: &[RowNumbers],
-    positions: &[usize],
+    order: OrderInLimits,
     releases: &[u64],
     ranks: &mut [Rank],
     ranges: &mut [Range],
 )
-    requires { Rankable rows.now positions.now releases.now ranks.old ranges.old }
-    ensures { RanksAre rows.now positions.now releases.now ranks.new ranges.new }
+    requires { Rankable order.lent releases.now ranks.old ranges.old }
+    ensures { RanksAre order.entry.lent releases.now ranks.new ranges.new }
 {
-    for (k, position) in positions.iter().enumerate() {
-        let row = &rows[*position];
+    for (k, position) in order.lent.positions.iter().enumerate() {
+        let row = &order.lent.rows[*position];
         let cost = cost(row);
         ranks[k] = Rank {
             task: row[TASK],

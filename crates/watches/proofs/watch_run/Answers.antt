@@ -1,5 +1,6 @@
 -- An order with a late rank is refused with it; any other is run.
-use mathlib.Core.Path.{refl, sym, subst}
+use mathlib.Core.Path.{refl, sym, ap, subst}
+use native.Mathlib.Omega.{arith}
 use lib.ListN.{length}
 use Rattle.plans.specs.Outcomes.{Outcome, Written}
 use Rattle.plans.proofs.Outcomes.{refused}
@@ -7,7 +8,7 @@ use Rattle.watches.proofs.Laid.{startable, describes, late_outcome, timely_outco
 use Rattle.watches.proofs.watch_run.Goals as goal
 
 pub late_rank-requires : goal.late_rank-requires
-late_rank-requires c = let l = c.requires.laid.laid in (l.few, l.ordered)
+late_rank-requires c = let l = c.requires.laid.laid in omega (arith, l.few, ap length l.order_is)
 
 pub returns-in-Some : goal.returns-in-Some
 returns-in-Some c front releases l owned many =

@@ -10,7 +10,7 @@ use Rattle.rows.specs.Rows.{max_tasks}
 use Rattle.watch_demands.specs.WatchLines.{min_release, max_release}
 use Rattle.watches.specs.declared.lines.Range.{Range}
 use Rattle.watches.specs.inside.Lines.{low_of, high_of}
-use Rattle.watches.proofs.Laid.{positions_many, ordered, laid_by}
+use Rattle.watches.proofs.Laid.{below, few_rows, rows_in_range, positions_many, laid_by}
 use Rattle.watches.proofs.Stages.{zeros, refused_text, releases_refused, releases_small, releases_then}
 use Rattle.watches.proofs.watch_table.Goals as goal
 
@@ -36,6 +36,22 @@ returns-in_err-next c =
     (releases_refused _ _ _ _ _ c.requires ranges (owners n) (low_is n) (high_is n) _
     (c.read_numbers.auto.numbers ∙ length-take-le _ _ c.requires.few) c.in_err-next.ensures))
 
+pub invariant_of-lent : goal.invariant_of-lent
+invariant_of-lent c =
+    let rows = c.rows_from-rows in
+    let placed = rw rows.ensures.count at c.place_ranks.ensures in
+    record { held = below c.requires.table c.requires.held _ rows.ensures.table _ placed }
+
+pub invariant_of-rows : goal.invariant_of-rows
+invariant_of-rows c =
+    let rows = c.rows_from-rows in
+    let placed = rw rows.ensures.count at c.place_ranks.ensures in
+    let a = c.requires in
+    record {
+      few = omega (arith, few_rows a.table a.held _ rows.ensures.table _ placed);
+      is_in_range = rows_in_range a.table a.held _ rows.ensures.table _ placed;
+    }
+
 pub fill_ranks-requires : goal.fill_ranks-requires
 fill_ranks-requires c =
     let rows = c.rows_from-rows in
@@ -43,7 +59,6 @@ fill_ranks-requires c =
     let a = c.requires in
     let many = positions_many a.table a.held _ rows.ensures.table _ placed in
     record {
-      ordered = ordered a.table a.held _ rows.ensures.table _ placed;
       releases_many = c.read_numbers.auto.numbers ∙ length-take-le _ _ a.few ∙ sym rows.ensures.count;
       ranks_many = length-take-le _ _ a.few ∙ sym many;
       ranges_many = length-take-le _ _ a.few ∙ sym many;
@@ -60,7 +75,7 @@ watch_order-requires c =
     record {
       front = a.front;
       releases = c.read_numbers.new.numbers;
-      laid = laid_by a.table a.held _ rows.ensures.table _ placed _ refl refl _ many
+      laid = laid_by a.table a.held _ rows.ensures.table _ placed _ refl _ many
           (releases_small _ _ _ _ _ a ranges (owners n) (low_is n) (high_is n) _ many _ c.in_ok-next.ensures)
           (f.auto.ranks ∙ length-take-le _ _ a.few) (f.auto.ranges ∙ length-take-le _ _ a.few) f.ensures;
       resumes =

@@ -5,13 +5,12 @@ use Rattle.grammars.specs.Grammars.{read, read_from}
 use Rattle.grammars.specs.Sequences.{second}
 use Rattle.rows.specs.Rows.{max_tasks, max_ticks, rows_for, row_at}
 use Rattle.rows.specs.Rows.{Row}
-use Rattle.rows.specs.inside.Lent.{lent_rows}
+use Rattle.rows.specs.inside.LentOrders.{rows_in_order}
 use Rattle.tables.specs.TableLines.{at-end, read_table}
 use Rattle.rows.specs.inside.Numbers.{TaskNumbers}
 use Rattle.readers.specs.inside.Numbers.{row_start}
 use Rattle.readers.specs.inside.Numbers as TableNumbers
 use Rattle.readers.specs.inside.Readings.{Held}
-use Rattle.plan_orders.specs.inside.Ranks.{Ordered}
 use Rattle.watch_demands.specs.WatchLines.{max_release, max_lengths, RunStage, at_ticks, releases_stage}
 use Rattle.watch_demands.specs.WatchLines.{lengths_stage, offset_of, WatchStage, watch_text, watch_start}
 use Rattle.plans.specs.declared.Refusal.{Refusal}
@@ -59,16 +58,15 @@ pub record AtReleases (text : List ℕ) (at k : ℕ) (ns : List ℕ) (n : ℕ) :
 -- ---- the order of a table, with the first releases of its rows, and those of its ranks
 pub record LaidBy (front releases : List ℕ) (x : Ranking) : Type 0 where
   pub table : Unheld front
-  pub few : length x.positions.now ≤ max_tasks
-  pub ordered : Ordered x.rows.now x.positions.now
-  pub order_is : lent_rows x.rows.now x.positions.now ≡ order_of front
-  pub ranks_many : length x.ranks.now ≡ length x.positions.now
-  pub ranges_many : length x.ranges.now ≡ length x.positions.now
+  pub few : length (order_of front) ≤ max_tasks
+  pub order_is : rows_in_order x.rows.lent ≡ order_of front
+  pub ranks_many : length x.ranks.now ≡ length (order_of front)
+  pub ranges_many : length x.ranges.now ≡ length (order_of front)
   pub rank_is :
-      (j : ℕ) → j < length x.positions.now
+      (j : ℕ) → j < length (order_of front)
       → RankIs (row_at (order_of front) j) (offset_of (rows_of front) (tasks_of front) releases j)
       (rank_at x.ranks.now j) (range_at x.ranges.now j)
-  pub offset_max : (j : ℕ) → j < length x.positions.now → (rank_at x.ranks.now j).offset ≤ max_release
+  pub offset_max : (j : ℕ) → j < length (order_of front) → (rank_at x.ranks.now j).offset ≤ max_release
 
 pub record Laid (x : Ranking) : Type 0 where
   pub front : List ℕ

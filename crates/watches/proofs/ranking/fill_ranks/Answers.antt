@@ -10,10 +10,10 @@ use Rattle.watches.proofs.ranking.fill_ranks.Goals as goal
 
 pub cost-cost-requires : goal.cost-cost-requires
 cost-cost-requires c =
-    let rows = c.args.rows.now in
-    let ps = c.args.positions.now in
+    let rows = c.args.order.lent.rows.now in
+    let ps = c.args.order.lent.positions.now in
     let k = c.loop-k.k in
     let is = lent_at rows ps k (omega arith) in
-    let l = limits (row_at (lent_rows rows ps) k) (at_passes in_range (lent_rows rows ps) k c.requires.ordered.is_in_range (omega (arith, length-map ps (lent_row rows)))) in
+    let l = limits (row_at (lent_rows rows ps) k) (at_passes in_range (lent_rows rows ps) k c.args.order.is_in_range (omega (arith, length-map ps (lent_row rows)))) in
     let small : cost (row_at (lent_rows rows ps) k) ≤ max_ticks = omega (arith, l.cost_period, l.period.le_high) in
     rw is at small

@@ -10,5 +10,5 @@ use Rattle.watches.proofs.ranking.fill_ranks.Given as goal
 abbrev pub invariant-loop-k : goal.invariant-loop-k
 invariant-loop-k l =
     (j : ℕ) → j < l.k
-    → let p = get_or l.positions j 0 in
-    RankIs (lent_row l.rows p) (get_or l.releases p 0) (rank_at l.ranks j) (range_at l.ranges j)
+    → let p = get_or l.order.lent.positions.now j 0 in
+    RankIs (lent_row l.order.lent.rows.now p) (get_or l.releases p 0) (rank_at l.ranks j) (range_at l.ranges j)
