@@ -12,7 +12,7 @@ use lib.ListN.{length, get_or, take, set, length-append, length-set, get_or-appe
 use lib.Seq.{take-suc-set, take_all, length-take-le, get_or_at}
 use Rattle.basics.proofs.Tests.{le-or-lt, Within}
 use Rattle.std.specs.Prelude.{Ok, Err}
-use Rattle.text.specs.Lines.{line_at, told}
+use Rattle.text.specs.Lines.{fault_number, line_at, told}
 use Rattle.text.specs.Lines as Lines
 use Rattle.text.specs.Line.{Line}
 use Rattle.text.specs.Line as L

@@ -9,7 +9,7 @@ ghost use Rattle.watches.specs.inside.Rankings.{Rankable, RanksAre};
 use super::lines::Range;
 use plan_orders::OrderInLimits;
 use readers::HEAD;
-use rows::{BEST, FIELDS, PERIOD, RowNumbers, TASK, cost, order_at, positions_for};
+use rows::{BEST, FIELDS, PERIOD, RowNumbers, TASK, cost, order_from, positions_for};
 use watch_runs::Rank;
 
 // The rows of a table's order, and its ranks, with the range of the lengths of each, which are lent later.
@@ -29,7 +29,8 @@ pub fn place_ranks(numbers: &[u64], rows: &[RowNumbers], positions: &mut [usize]
         ≡ positions_for (behind (length rows.now) (length rows.now) numbers.now) (table_of rows.now) }
 {
     let n = rows.len();
-    let order = order_at(numbers, HEAD + FIELDS * n, n);
+    let ranks = HEAD + FIELDS * n;
+    let order = order_from(&numbers[ranks..ranks + n]);
     positions_for(&order.tasks[..n], rows, positions);
 }
 

@@ -20,7 +20,7 @@ returns-in_err-next c =
     let f = c.fill_owners in
     let p = err_from_is_err_and c.from_residual.result c.from_residual.ensures.1 in
     rw (p.1, p.2)
-    (refused_text c.args.text.now c.args.out.now _
+    (refused_text c.args.from.text.now c.args.out.now _
     (lengths_refused c.requires f.ensures f.auto.owners _ c.read_numbers.auto.numbers c.in_err-next.ensures))
 
 pub returns-in_err-end_at : goal.returns-in_err-end_at
@@ -28,7 +28,7 @@ returns-in_err-end_at c =
     let f = c.fill_owners in
     let p = err_from_is_err_and c.from_residual-in_err-end_at.result c.from_residual-in_err-end_at.ensures.1 in
     rw (p.1, p.2)
-    (refused_text c.args.text.now c.args.out.now _
+    (refused_text c.args.from.text.now c.args.out.now _
     (end_refused c.requires f.ensures f.auto.owners c.read_numbers.auto.numbers c.in_ok-next.ensures
     _ c.in_err-end_at.ensures))
 

@@ -1,6 +1,7 @@
 -- Promised between functions: the table at the front of a text to watch, read line by line as the reviewer's, but that
 -- no task holds.
 use Rattle.std.specs.Prelude.{◌≡◌, Bool, true, false, List, ℕ, eqb, drop, Result, MatchResult}
+use Rattle.text.specs.Lines.{fault_number}
 use Rattle.text.specs.declared.LineRefusal.{LineRefusal}
 use Rattle.grammars.specs.Grammars.{refused, step, read}
 use Rattle.grammars.specs.Reasons.{Reaches}
