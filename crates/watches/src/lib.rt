@@ -59,12 +59,7 @@ struct Extent {
 }
 
 // What the run of an order comes to: refused with its first late rank, or the lines of the jobs that it finishes.
-fn watch_run(
-    out: &mut [u8],
-    order: &Ranking,
-    ticks: u64,
-    board: &Board,
-) -> Result<usize, Refusal>
+fn watch_run(out: &mut [u8], order: &Ranking, ticks: u64, board: &Board) -> Result<usize, Refusal>
     requires laid { Laid order.now }
     requires ranks { board.now.ranks.now ≡ order.now.ranks.now }
     requires few_ticks { ticks ≤ max_ticks }
@@ -96,10 +91,10 @@ fn watch_lengths(
         ranges: order.ranges,
         owners,
     };
-    let next = read_numbers(from, &lines, lengths)?;
+    let end = read_numbers(from, &lines, lengths)?;
     end_at(Cursor {
         text: from.text,
-        offset: next,
+        offset: end,
         line: from.line + run.lengths as u32,
     })?;
     let board = Board {

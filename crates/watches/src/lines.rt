@@ -27,11 +27,7 @@ pub struct Lines<'a> {
 }
 
 // The numbers of the lines from a place on, as many as there is room for: the offset after them.
-pub fn read_numbers(
-    from: Cursor,
-    lines: &Lines,
-    numbers: &mut [u64],
-) -> Result<usize, LineRefusal>
+pub fn read_numbers(from: Cursor, lines: &Lines, numbers: &mut [u64]) -> Result<usize, LineRefusal>
     requires key_value { is_in line_feed lines.now.key.now ≡ false }
     requires readable { Readable from.line lines.now.ranges.now lines.now.owners.now numbers.old }
     ensures { ReadsNumbers from.entry.text.now lines.now.key.now

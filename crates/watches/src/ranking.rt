@@ -8,8 +8,8 @@ ghost use Rattle.watches.specs.inside.Rankings.{Rankable, RanksAre};
 
 use super::lines::Range;
 use plan_orders::OrderInLimits;
-use readers::HEAD;
-use rows::{BEST, FIELDS, PERIOD, RowNumbers, TASK, cost, order_from, positions_for};
+use readers::given_order;
+use rows::{BEST, PERIOD, RowNumbers, TASK, cost, positions_for};
 use watch_runs::Rank;
 
 // The rows of a table's order, and its ranks, with the range of the lengths of each, which are lent later.
@@ -29,18 +29,12 @@ pub fn place_ranks(numbers: &[u64], rows: &[RowNumbers], positions: &mut [usize]
         ≡ positions_for (behind (length rows.now) (length rows.now) numbers.now) (table_of rows.now) }
 {
     let n = rows.len();
-    let ranks = HEAD + FIELDS * n;
-    let order = order_from(&numbers[ranks..ranks + n]);
+    let order = given_order(numbers, n);
     positions_for(&order.tasks[..n], rows, positions);
 }
 
 // The ranks of an order, the first release of each that of its row, and the ranges of their lengths.
-pub fn fill_ranks(
-    order: OrderInLimits,
-    releases: &[u64],
-    ranks: &mut [Rank],
-    ranges: &mut [Range],
-)
+pub fn fill_ranks(order: OrderInLimits, releases: &[u64], ranks: &mut [Rank], ranges: &mut [Range])
     requires { Rankable order.lent releases.now ranks.old ranges.old }
     ensures { RanksAre order.entry.lent releases.now ranks.new ranges.new }
 {
