@@ -111,9 +111,9 @@ module _ {front ns : List ℕ} {n : ℕ} (t : Unheld front) (h : Held true front
   -- with the first releases of the rows
   pub laid_by : (x : Ranking) → rows_in_order x.rows.lent ≡ lent_rows rows ps → (releases : List ℕ)
       → length releases ≡ n → ((i : ℕ) → i < length releases → get_or releases i 0 ≤ max_release)
-      → length x.ranks.now ≡ n → length x.ranges.now ≡ n 
+      → length x.ranks.now ≡ n → length x.ranges.now ≡ n
       → ((j : ℕ) → j < length ps → let p = get_or ps j 0 in
-        RankIs (lent_row rows p) (get_or releases p 0) (rank_at x.ranks.now j) (range_at x.ranges.now j))
+      RankIs (lent_row rows p) (get_or releases p 0) (rank_at x.ranks.now j) (range_at x.ranges.now j))
       → LaidBy front releases x
   laid_by x same releases releases_many small ranks_many ranges_many are = record {
     table = t;

@@ -34,12 +34,7 @@ pub fn place_ranks(numbers: &[u64], rows: &[RowNumbers], positions: &mut [usize]
 }
 
 // The ranks of an order, the first release of each that of its row, and the ranges of their lengths.
-pub fn fill_ranks(
-    order: OrderInLimits,
-    releases: &[u64],
-    ranks: &mut [Rank],
-    ranges: &mut [Range],
-)
+pub fn fill_ranks(order: OrderInLimits, releases: &[u64], ranks: &mut [Rank], ranges: &mut [Range])
     requires { Rankable order.lent releases.now ranks.old ranges.old }
     ensures { RanksAre order.entry.lent releases.now ranks.new ranges.new }
 {
