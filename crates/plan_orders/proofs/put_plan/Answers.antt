@@ -1,5 +1,5 @@
 -- The loads are those of the order's rows; then its first lines and its ranks are put one behind the other.
-use Rattle.std.proofs.Common.{◌≤◌, length, replicate, sym, arith}
+use Rattle.std.proofs.Common.{◌≤◌, replicate, sym, arith}
 use lib.ListN.{length-replicate}
 use lib.Seq.{length-take-le}
 use Rattle.fixed_points.specs.inside.Loads.{no_load}
