@@ -1,5 +1,5 @@
 -- The loads are those of the rows of the rest of the set.
-use Rattle.std.proofs.Common.{rules, ℕ, ◌-◌, ◌^◌, sym, subst, arith}
+use Rattle.std.proofs.Common.{rules, ℕ, ◌-◌, ◌^◌, subst, arith}
 use Rattle.rows.specs.Rows.{in_range}
 use Rattle.rows.specs.inside.Lent.{table_of}
 use Rattle.rows.proofs.LentRows.{table_at}
@@ -19,7 +19,7 @@ figures_under-requires g c =
     let o = c.gather-count in
     let new = o.new.self in
     let found =
-        subst (λ (k : ℕ). Gathered table (a.m - k) new.worst new.best o.result) c.power.ensures o.ensures.gathered in
+    subst (λ (k : ℕ). Gathered table (a.m - k) new.worst new.best o.result) c.power.ensures o.ensures.gathered in
     let above = members (a.m - 2 ^ a.i) table in
     let below = others a.m table in
     record {
@@ -44,8 +44,8 @@ returns-clause-fits g c =
     let o = c.gather-count in
     let new = o.new.self in
     let found =
-        subst (λ (k : ℕ). Gathered table (a.m - k) new.worst new.best o.result) c.power.ensures o.ensures.gathered in
+    subst (λ (k : ℕ). Gathered table (a.m - k) new.worst new.best o.result) c.power.ensures o.ensures.gathered in
     let e =
-        c.figures_under.ensures (members (a.m - 2 ^ a.i) table) (others a.m table) found.filled c.requires.2 in
+    c.figures_under.ensures (members (a.m - 2 ^ a.i) table) (others a.m table) found.filled c.requires.2 in
     let row = table_at a.self.now.rows.now a.i c.requires.0 in
     search (rules, e, row)
