@@ -50,6 +50,7 @@ lowest-may_go-requires g t c =
       ),
     )
 
+-- answered whole, lifetimes first: the part of it that Rattle makes by itself does not fit a type that holds a reference
 pub lowest-settled-requires-whole : goal.lowest-settled-requires-whole
 lowest-settled-requires-whole g t c =
     let a = c.args in

@@ -26,6 +26,7 @@ overflow_sub-m g t c =
     let row = row_of x.rows.now x.sets a.m (length a.tasks.now) c.if-count-gt0.true c.requires.1 in
     omega (arith, c.power.ensures, bit_le a.m (get_or x.sets a.m 0) row.3)
 
+-- answered whole, lifetimes first: the part of it that Rattle makes by itself does not fit a type that holds a reference
 pub rebuild-requires-whole : goal.rebuild-requires-whole
 rebuild-requires-whole g t c =
     let a = c.args in
