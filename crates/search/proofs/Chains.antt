@@ -4,18 +4,18 @@ use mathlib.Core.Path.{◌≡◌, refl, ap, ap₂, sym, ◌∙◌}
 use mathlib.Core.Bool.{true}
 use mathlib.Core.Option.{some}
 use mathlib.Core.List.{List, [], ◌∷◌, ◌++◌, append-nil}
-use Prim.Native.Nat.{ℕ, zero, suc, ◌+◌, ◌-◌, ◌/◌, ◌%◌, ◌^◌, ◌≤◌, ◌<◌}
+use Prim.Native.Nat.{ℕ, zero, suc, ◌-◌, ◌/◌, ◌%◌, ◌^◌, ◌<◌}
 use native.Mathlib.Decide.{ℕ_discrete}
 use native.Mathlib.Omega.{arith}
-use lib.ListN.{length, get_or, set, replicate, length-append, replicate-append-replicate}
-use lib.Seq.{append_snoc}
+use lib.ListN.{length, get_or, set, drop, length-append}
 use lib.Pow.{pow_pos}
+use lib.Seq.{drop-length}
 use Rattle.rows.specs.Rows.{Row}
 use Rattle.rows.specs.Rows.{max_tasks, in_range, row_at, tasks_of}
-use Rattle.rows.specs.inside.Arrays.{ranking}
 use Rattle.rows.specs.inside.Numbers.{row_from}
 use Rattle.rows.specs.inside.Lent.{table_of, lent_row}
 use Rattle.rows.proofs.Tasks.{tasks_last}
+use Rattle.rows.proofs.Arrays.{front_next}
 use Rattle.rows.proofs.LentRows.{table_at}
 use Rattle.analysis.proofs.Found.{map_long}
 use Rattle.orders.specs.Orders.{the_order}
@@ -51,67 +51,27 @@ module _ (rows : List (List ℕ)) (sets : List ℕ) where
       let above = chain_tasks rows sets k (m - 2 ^ i) in
       omega (arith, length-append above ((lent_row rows i).task ∷ []), chain_length k (m - 2 ^ i))
 
--- ---- the tasks read off along the chain, the lowest row's first, into an array that had nothing in it
--- the last of the places with nothing in them is filled
-fill_last : (k : ℕ) (nothing task : ℕ) (tasks : List ℕ)
-    → set (replicate (suc k) nothing ++ tasks) k task ≡ replicate k nothing ++ (task ∷ tasks)
-fill_last zero nothing task tasks = refl
-fill_last (suc k) nothing task tasks = ap (λ l. nothing ∷ l) (fill_last k nothing task tasks)
-
--- what is read off stands behind the places of the k rows that are left, those of set m
-pub record Reading (rows : List (List ℕ)) (sets : List ℕ) (all k m : ℕ) (tasks : List ℕ) : Type 0 where
-  pub within : m ≤ all
-  pub few : k ≤ length rows
-  pub rest : Chained rows sets k m
-  pub read : List ℕ
-  pub read_is : chain_tasks rows sets (length rows) all ≡ chain_tasks rows sets k m ++ read
-  pub there : tasks ≡ replicate k 0 ++ (read ++ replicate (max_tasks - length rows) 0)
-
-module _ {rows : List (List ℕ)} {sets : List ℕ} {all : ℕ} where
-  pub reading_none : length rows ≤ max_tasks → Chained rows sets (length rows) all
-      → Reading rows sets all (length rows) all (replicate max_tasks 0)
-  reading_none few chained = record {
-    within = omega arith;
-    few = omega arith;
-    rest = chained;
-    read = [];
-    read_is = sym (append-nil (chain_tasks rows sets (length rows) all));
-    there =
-        let whole : max_tasks ≡ length rows + (max_tasks - length rows) = omega arith in
-        ap (λ (j : ℕ). replicate j 0) whole ∙ sym (replicate-append-replicate (length rows) (max_tasks - length rows) 0);
-  }
-
-  pub reading_next : {k m : ℕ} {tasks : List ℕ} (task : ℕ) → Reading rows sets all k m tasks → 0 < k
-      → let i = get_or sets m 0 in task ≡ (lent_row rows i).task
-      → Reading rows sets all (k - 1) (m - 2 ^ i) (set tasks (k - 1) task)
-  reading_next {k = zero} task r more is = absurd (omega arith)
-  reading_next {k = suc k} {m = m} {tasks = tasks} task r more is =
+  -- the lowest row's task goes below those of the rest, in the last place
+  pub chain_lowest :
+      (m k : ℕ) (above tasks : List ℕ) (task : ℕ) →
+      0 < k →
+      length tasks ≡ k →
+      let i = get_or sets m 0 in
+      task ≡ (lent_row rows i).task →
+      above ≡ chain_tasks rows sets (k - 1) (m - 2 ^ i) →
+      set (above ++ drop (k - 1) tasks) (k - 1) task ≡ chain_tasks rows sets k m
+  chain_lowest m zero above tasks task more many is h = absurd (omega arith)
+  chain_lowest m (suc k) above tasks task more many is h =
       let e : suc k - 1 ≡ k = omega arith in
       let i = get_or sets m 0 in
-      let above = chain_tasks rows sets k (m - 2 ^ i) in
-      let row = (lent_row rows i).task in
-      rw e (record {
-        within = omega (arith, r.within);
-        few = omega (arith, r.few);
-        rest = r.rest.4;
-        read = row ∷ r.read;
-        read_is = r.read_is ∙ append_snoc above row r.read;
-        there =
-            ap (λ (l : List ℕ). set l k task) r.there
-            ∙ fill_last k 0 task (r.read ++ replicate (max_tasks - length rows) 0)
-            ∙ ap (λ (t : ℕ). replicate k 0 ++ (t ∷ (r.read ++ replicate (max_tasks - length rows) 0))) is;
-      })
-
-  -- all are read
-  pub reading_ends : {k m : ℕ} {tasks : List ℕ} → Reading rows sets all k m tasks → k ≡ 0
-      → record { tasks = tasks; count = length rows } ≡ ranking (chain_tasks rows sets (length rows) all)
-  reading_ends {k = zero} r none =
-      let whole = chain_tasks rows sets (length rows) all in
-      let many = sym (chain_length rows sets (length rows) all) in
-      ap₂ (λ (l : List ℕ) (k : ℕ). record { tasks = l; count = k })
-      (r.there ∙ ap₂ (λ (l : List ℕ) (k : ℕ). l ++ replicate (max_tasks - k) 0) (sym r.read_is) many)
-      many
-  reading_ends {k = suc k} r none = absurd (omega arith)
+      let rest = chain_tasks rows sets k (m - 2 ^ i) in
+      let last = (lent_row rows i).task ∷ [] in
+      let whole : above ≡ rest = rw e at h in
+      rw (is, e, whole)
+      (front_next 0 rest tasks k (lent_row rows i).task (chain_length k (m - 2 ^ i)) (omega (arith, many))
+      ∙ ap (λ (j : ℕ). (rest ++ last) ++ drop j tasks) (sym many)
+      ∙ ap (λ (l : List ℕ). (rest ++ last) ++ l) (drop-length tasks)
+      ∙ append-nil (rest ++ last))
 
 -- ---- the chain of a set that has an order, and is in the record
 module _ (rows : List (List ℕ)) (lent : Lent rows) (sets : List ℕ) (rec : Recorded stable (table_of rows) sets) where

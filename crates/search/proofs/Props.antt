@@ -27,6 +27,7 @@ module _ (test : Row → List Row → List Row → Bool) (table : List Row) wher
   abbrev order_at : ℕ → Option (List Row)
   order_at = S.order_at test table
 
+  -- the rest of a set has one order, so in one way is a row the lowest of the set's
   lowest_prop : (m i : ℕ) → IsProp (S.LowestIs test table m i)
   lowest_prop m i x y =
       let e : x.above ≡ y.above = some-injective x.above y.above (sym x.above_is ∙ y.above_is) in
@@ -42,6 +43,7 @@ module _ (test : Row → List Row → List Row → Bool) (table : List Row) wher
             (λ k. order_set (order_at m) (some (e k ++ (row_at table i ∷ [])))) x.order_is y.order_is k;
       }
 
+  -- a set that has no order has no lowest row
   says_prop : (m v : ℕ) → IsProp (S.Says test table m v)
   says_prop m v (inl x) (inl y) = ap inl (×_prop (ℕ_set v no_order) (order_set (order_at m) none) x y)
   says_prop m v (inl x) (inr y) = absurd (none-ne-some (y.above ++ (row_at table v ∷ [])) (sym x.1 ∙ y.order_is))
@@ -49,14 +51,15 @@ module _ (test : Row → List Row → List Row → Bool) (table : List Row) wher
   says_prop m v (inr x) (inr y) = ap inr (lowest_prop m v x y)
 
   module _ (few : length table < unknown) where
-    told : (m : ℕ) → S.Says test table m unknown → ⊥
-    told m (inl x) = let e : ◌≡◌ {A = ℕ} 254 255 = x.0 in omega arith
-    told m (inr x) = omega arith
+    -- the byte of a set that is not known says nothing of it
+    unsaid : (m : ℕ) → S.Says test table m unknown → ⊥
+    unsaid m (inl x) = let e : ◌≡◌ {A = ℕ} 254 255 = x.0 in omega arith
+    unsaid m (inr x) = omega arith
 
     entry_prop : (m v : ℕ) → IsProp ((v ≡ unknown) ⊎ S.Says test table m v)
     entry_prop m v (inl x) (inl y) = ap inl (ℕ_set v unknown x y)
-    entry_prop m v (inl x) (inr y) = absurd (told m (subst (λ (k : ℕ). S.Says test table m k) x y))
-    entry_prop m v (inr x) (inl y) = absurd (told m (subst (λ (k : ℕ). S.Says test table m k) y x))
+    entry_prop m v (inl x) (inr y) = absurd (unsaid m (subst (λ (k : ℕ). S.Says test table m k) x y))
+    entry_prop m v (inr x) (inl y) = absurd (unsaid m (subst (λ (k : ℕ). S.Says test table m k) y x))
     entry_prop m v (inr x) (inr y) = ap inr (says_prop m v x y)
 
     recorded_prop : (sets : List ℕ) → IsProp (S.Recorded test table sets)

@@ -157,21 +157,31 @@ impl<const SETS: usize, const TASKS: usize> Search<'_, SETS, TASKS> {
         found.is_some()
     }
 
-    // The order of all rows, those of set all, read off the record: the lowest row of each set is below those of the
-    // rest.
-    fn read_off(&self, all: usize) -> Order
-        requires { (all < 2 ^ length self.now.rows.now)
-            × Chained self.now.rows.now self.now.sets (length self.now.rows.now) all }
-        ensures { result ≡ ranking (chain_tasks self.now.rows.now self.now.sets (length self.now.rows.now) all) }
+    // The tasks of set m's order, read off the record into as many places as the set has rows: those of the set without
+    // its lowest row, then that row's.
+    fn rebuild(&self, m: usize, tasks: &mut [u16])
+        requires { (m < 2 ^ length self.now.rows.now)
+            × Chained self.now.rows.now self.now.sets (length tasks.old) m }
+        ensures { tasks.new ≡ chain_tasks self.now.rows.now self.now.sets (length tasks.old) m }
+    {
+        let count = tasks.len();
+        if 0 < count {
+            let above = count - 1;
+            let i = self.sets[m] as usize;
+            self.rebuild(m - power(i), &mut tasks[..above]);
+            tasks[above] = self.rows[i][TASK] as u16;
+        }
+    }
+
+    // The order of all rows, those of set m, read off the record.
+    fn read_off(&self, m: usize) -> Order
+        requires { (m < 2 ^ length self.now.rows.now)
+            × Chained self.now.rows.now self.now.sets (length self.now.rows.now) m }
+        ensures { result ≡ ranking (chain_tasks self.now.rows.now self.now.sets (length self.now.rows.now) m) }
     {
         let count = self.rows.len();
         let mut tasks = [0u16; MAX_TASKS];
-        let mut m = all;
-        for above in (0..count).rev() {
-            let i = self.sets[m] as usize;
-            tasks[above] = self.rows[i][TASK] as u16;
-            m -= power(i);
-        }
+        self.rebuild(m, &mut tasks[..count]);
         Order { tasks, count }
     }
 

@@ -6,12 +6,10 @@ use Rattle.std.specs.Prelude as Code
 use lib.Pow.{pow_pos}
 use Rattle.basics.specs.Basics.{larger}
 use Rattle.rows.specs.Rows.{Row}
-use Rattle.rows.specs.inside.Numbers.{row_from}
 use Rattle.rows.specs.inside.Lent.{table_of}
 use Rattle.rows.specs.Rows.{hold_at}
 use Rattle.rows.proofs.RowNumbers.{line_from}
 use Rattle.rows.proofs.LentRows.{table_at}
-use Rattle.analysis.proofs.Found.{map_long}
 use Rattle.responses.specs.Figures.{largest_hold}
 use Rattle.responses.proofs.Blocking.{blocking_is}
 use Rattle.orders.specs.Orders.{the_order}
@@ -22,7 +20,7 @@ use Rattle.search.specs.inside.Search.{Lent}
 use Rattle.search.proofs.LentRows.{small, a_set, a_row, recorded_of}
 use Rattle.search.proofs.Sets.{bit_le}
 use Rattle.search.proofs.Outside.{outside_more}
-use Rattle.search.proofs.Scan.{scan, scan_start, scan-end, scan_no, scan_yes}
+use Rattle.search.proofs.Scan.{scan, scan_start, scan_no, scan_yes}
 use Rattle.search.proofs.Record.{goes_then, settled_new, settled_old, settled_empty}
 use Rattle.search.proofs.Search.+lowest_settled.Goals as goal
 use Rattle.search.proofs.Search.+lowest_settled.Goals.{lowest-then-may_go+else-settled, lowest-else-may_go}
@@ -52,6 +50,7 @@ lowest-may_go-requires g t c =
       ),
     )
 
+-- answered whole, lifetimes first: the part of it that Rattle makes by itself does not fit a type that holds a reference
 pub lowest-settled-requires-whole : goal.lowest-settled-requires-whole
 lowest-settled-requires-whole g t c =
     let a = c.args in
@@ -148,8 +147,9 @@ settled-invariant_of-self g t c =
     let new = o.new.self in
     let kept = o.ensures.kept in
     let written =
-        settles new.lent new.sets new.recorded a.m o.result (rw kept c.requires.0) (rw kept o.ensures.found) in
-    let known = rw (sym c.unwrap_or.ensures) at written.recorded in
+    settles new.lent new.sets new.recorded a.m o.result (rw kept c.requires.0) (rw kept o.ensures.found) in
+    let known : Recorded stable (table_of new.rows.now) (set new.sets a.m c.unwrap_or.result) =
+    rw c.unwrap_or.ensures written.recorded in
     record {
       lent = new.lent;
       sets_held = new.sets_held;

@@ -1,5 +1,5 @@
 -- A row of which the rest of the set is known to have no order does not go lowest.
-use Rattle.std.proofs.Common.{ℕ, ◌-◌, ◌^◌, ◌<◌, ap, sym, ◌∙◌, false, length, get_or, arith}
+use Rattle.std.proofs.Common.{ℕ, ◌-◌, ◌^◌, ◌<◌, ap, sym, ◌∙◌, length, get_or, arith}
 use Rattle.basics.proofs.Tests.{never}
 use Rattle.rows.specs.inside.Lent.{table_of}
 use Rattle.orders.specs.Stability.{stable}

@@ -1,5 +1,5 @@
 -- The whole table is the set of all bits: the record settles it, and the order is read off.
-use Rattle.std.proofs.Common.{rules, ◌≡◌, true, false, Some, None, List, ℕ, ◌-◌, ◌^◌, ◌<◌, length, ap, sym, ◌∙◌, subst, arith}
+use Rattle.std.proofs.Common.{rules, ◌≡◌, true, false, Some, None, List, ℕ, ◌-◌, ◌^◌, ◌<◌, length, ap, sym, ◌∙◌, arith}
 use mathlib.Core.Bool.{Bool}
 use mathlib.Core.Option.{some}
 use lib.Pow.{pow_pos}

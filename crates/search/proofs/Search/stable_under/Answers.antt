@@ -1,12 +1,11 @@
 -- The loads are those of the rows of the rest of the set.
-use Rattle.std.proofs.Common.{rules, ℕ, ◌-◌, ◌^◌, sym, subst, arith}
+use Rattle.std.proofs.Common.{rules, ◌-◌, ◌^◌, arith}
 use Rattle.rows.specs.Rows.{in_range}
 use Rattle.rows.specs.inside.Lent.{table_of}
 use Rattle.rows.proofs.LentRows.{table_at}
 use Rattle.rows.proofs.Limits.{all_times}
 use Rattle.responses.proofs.Blocking.{blocking_max}
 use Rattle.search.specs.inside.Sets.{members, others}
-use Rattle.search.specs.inside.Search.{Gathered}
 use Rattle.search.proofs.LentRows.{ranged}
 use Rattle.search.proofs.Gathering.{some_pass}
 use Rattle.search.proofs.Search.stable_under.Goals as goal
@@ -16,10 +15,7 @@ figures_under-requires g c =
     let a = c.args in
     let p = a.self.now.lent in
     let table = table_of a.self.now.rows.now in
-    let o = c.gather-count in
-    let new = o.new.self in
-    let found =
-        subst (λ (k : ℕ). Gathered table (a.m - k) new.worst new.best o.result) c.power.ensures o.ensures.gathered in
+    let found = rw c.power.ensures at c.gather-count.ensures.gathered in
     let above = members (a.m - 2 ^ a.i) table in
     let below = others a.m table in
     record {
@@ -41,11 +37,8 @@ pub returns-clause-fits : goal.returns-clause-fits
 returns-clause-fits g c =
     let a = c.args in
     let table = table_of a.self.now.rows.now in
-    let o = c.gather-count in
-    let new = o.new.self in
-    let found =
-        subst (λ (k : ℕ). Gathered table (a.m - k) new.worst new.best o.result) c.power.ensures o.ensures.gathered in
+    let found = rw c.power.ensures at c.gather-count.ensures.gathered in
     let e =
-        c.figures_under.ensures (members (a.m - 2 ^ a.i) table) (others a.m table) found.filled c.requires.2 in
+    c.figures_under.ensures (members (a.m - 2 ^ a.i) table) (others a.m table) found.filled c.requires.2 in
     let row = table_at a.self.now.rows.now a.i c.requires.0 in
     search (rules, e, row)
