@@ -50,7 +50,8 @@ fn power(i: usize) -> usize
     1 << i
 }
 
-// The search of a table's order: its rows, what is known of each set of them, and places for the loads above a row.
+// The search of a table's order: its rows, what is known of each set of them, and places for the loads above a row. A
+// ghost field has one proof at most, so what the record knows stands between bars; that it is known in one way is proved.
 #[derive(Drop)]
 struct Search<'a, const SETS: usize, const TASKS: usize> {
     rows: &'a [RowNumbers],
