@@ -1,7 +1,7 @@
 // The order of a table's tasks by the rule, found from the whole set down with a byte for each set.
 #![tactic(auto)]
 
-ghost use Rattle.std.specs.Prelude.{◌≡◌, ◌++◌, ◌*◌, ◌/◌, ◌%◌, ◌^◌, ◌≤◌, ◌<◌, length, drop};
+ghost use Rattle.std.specs.Prelude.{◌≡◌, ◌/◌, ◌%◌, ◌^◌, ◌≤◌, ◌<◌, length};
 ghost use Rattle.rows.specs.Rows.{max_buffer, max_tasks};
 ghost use Rattle.rows.specs.inside.Arrays.{ranking};
 ghost use Rattle.rows.specs.inside.Lent.{table_of};
@@ -50,7 +50,8 @@ fn power(i: usize) -> usize
     1 << i
 }
 
-// The search of a table's order: its rows, what is known of each set of them, and places for the loads above a row.
+// The search of a table's order: its rows, what is known of each set of them, and places for the loads above a row. A
+// ghost field has one proof at most, so what the record knows stands between bars.
 #[derive(Drop)]
 struct Search<'a, const SETS: usize, const TASKS: usize> {
     rows: &'a [RowNumbers],
@@ -99,7 +100,8 @@ impl<const SETS: usize, const TASKS: usize> Search<'_, SETS, TASKS> {
         figures_under(&rows[i], blocked, above).is_ok_and(|figures| figures.stable)
     }
 
-    // Whether row i may go lowest in set m: it is in the set and stable there, and the rest isn't known to have no order.
+    // Whether row i may go lowest in set m: it is in the set and stable there, and the rest isn't known to have no
+    // order.
     fn may_go(&mut self, m: usize, i: usize, blocked: u64) -> bool
         requires { (m < 2 ^ length self.old.rows.now) × (i < length self.old.rows.now)
             × (blocked ≡ blocking (others m (table_of self.old.rows.now))) }
