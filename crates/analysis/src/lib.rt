@@ -13,7 +13,7 @@ ghost use Rattle.rows.specs.inside.LentOrders.{rows_in_order};
 ghost use Rattle.analysis.specs.inside.Above.{Fillable, Filled, Under, FiguresIn};
 
 use basics::larger;
-use curves::curve_margin;
+use curves::{curve_margin, points_from};
 use fixed_points::{Tasks, largest_fixed, least_fixed};
 use responses::{Figures, Load, NoFigures};
 use rows::{
@@ -48,7 +48,8 @@ pub fn margin(row: &RowNumbers, latest: u64, earliest: u64) -> i64
     if points == 0 {
         return line_margin(row[ALPHA], row[BETA], latest, earliest);
     }
-    curve_margin(&row[FIRST_POINT..SWITCH], points as usize, latest, earliest)
+    let curve = points_from(&row[FIRST_POINT..SWITCH], points as usize);
+    curve_margin(curve, latest, earliest)
 }
 
 // The earliest response of a row, whose latest is known, under some rows: in a stretch of its own none of them counts.

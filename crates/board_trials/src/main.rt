@@ -3,7 +3,7 @@
 #![tactic(auto)]
 
 use trial_calls::{Differs, Trials};
-use trials::{Dice, Finishes, Lengths, Question, Table};
+use trials::{Dice, Finishes, Lengths, Question, Run, Table};
 
 const TABLES: u32 = 2000;
 
@@ -14,8 +14,13 @@ fn runs_of(ranked: &Table, dice: &mut Dice) -> Finishes {
     let mut shown = Finishes::default();
     for lengths in [Lengths::Worst, Lengths::Best, Lengths::Any] {
         let spread = dice.between(1, 200);
-        shown += trials::run(ranked, TICKS, 0, lengths, dice);
-        shown += trials::run(ranked, TICKS, spread, lengths, dice);
+        let at_once = Run {
+            ticks: TICKS,
+            spread: 0,
+            lengths,
+        };
+        shown += at_once.on_board(ranked, dice);
+        shown += Run { spread, ..at_once }.on_board(ranked, dice);
     }
     shown
 }

@@ -4,20 +4,20 @@ use mathlib.Core.Path.{◌≡◌, refl, ap, ap₂, sym, ◌∙◌}
 use mathlib.Core.Bool.{Bool, true, false, ◌&&◌}
 use mathlib.Core.List.{List, [], ◌∷◌}
 use mathlib.Core.Logic.{inl, inr}
-use Prim.Native.Nat.{ℕ, suc, ◌+◌, ◌-◌, ◌*◌, ◌≤◌, ◌<◌}
+use Prim.Native.Nat.{ℕ, suc, ◌+◌, ◌≤◌, ◌<◌}
 use native.Mathlib.Numerals.{add-one}
-use native.Mathlib.Nat.{sub-zero}
 use native.Mathlib.Omega.{arith}
 use borrow.Author.Tests.{le-leb, lt-leb, lt-ltb}
 use lib.Dec.{leb, ltb}
-use lib.ListN.{length, drop}
+use lib.ListN.{length, get_or, drop}
+use lib.Seq.{drop-cons}
 use Rattle.basics.specs.Basics.{within}
 use Rattle.basics.proofs.Tests.{test_of, true_not_false, false_of, and_left, and_right, and_both}
 use Rattle.basics.proofs.Tests.{Within, within_true, true_within}
-use Rattle.curves.specs.Curves.{Point, min_delay, max_delay, min_allow, max_allow, max_points}
-use Rattle.curves.specs.Curves.{in_limits, follows, orderly_from, orderly, well_formed, points_from}
+use Rattle.curves.specs.Curves.{Point, no_point, min_delay, max_delay, min_allow, max_allow, max_points}
+use Rattle.curves.specs.Curves.{in_limits, follows, orderly_from, orderly, well_formed, point_from, points_of}
 use Rattle.curves.proofs.Lines.{step, head_in, head_limited}
-use Rattle.curves.proofs.PointNumbers.{point_read, points_left, points_length}
+use Rattle.curves.proofs.PointNumbers.{points_long, point_at}
 
 -- one point: a delay from `low` on, an allow up to `high`
 abbrev pub passes : ℕ → ℕ → Point → Bool
@@ -80,41 +80,43 @@ orderly_keeps (p ∷ ps) =
       | inr e ↦ false_of (orderly_from p ps) (λ t. true_not_false (in_limits p) (head_in p ps t) e) ∙ sym (ap rest e)
     ]
 
--- ---- n points whose numbers stand by turns
-module _ (vs : List ℕ) (n : ℕ) where
-  pub too_many : max_points < n → well_formed (points_from n vs) ≡ false
+-- ---- points that are lent one by one
+module _ (points : List (List ℕ)) where
+  abbrev curve : List Point
+  curve = points_of points
+
+  pub too_many : max_points < length points → well_formed curve ≡ false
   unfolding well_formed
-  too_many h =
-      ap (λ (b : Bool). b && orderly (points_from n vs))
-      (lt-leb (length (points_from n vs)) max_points (omega (arith, points_length n vs)))
+  too_many h = ap (λ (b : Bool). b && orderly curve) (lt-leb (length curve) max_points (omega (arith, points_long points)))
 
   -- from index i on
   module _ (i low high : ℕ) where
     abbrev pub left : Bool
-    left = keeps low high (points_from (n - i) (drop (2 * i) vs))
+    left = keeps low high (drop i curve)
 
-    -- the point at index i, with its numbers as the code reads them
-    module _ (l : i < n) where
+    -- the point at index i
+    module _ (l : i < length points) where
       abbrev here : Point
-      here = point_read i vs
+      here = point_from (get_or points i [])
 
       abbrev behind : List Point
-      behind = points_from (n - (i + 1)) (drop (2 * (i + 1)) vs)
+      behind = drop (i + 1) curve
 
       opened : left ≡ keeps low high (here ∷ behind)
-      opened = rw (add-one i, add-one (2 * i)) (ap (keeps low high) (points_left vs n i l))
+      opened =
+          rw (add-one i) (ap (keeps low high) (drop-cons curve i no_point (omega (arith, points_long points))
+          ∙ ap (λ (p : Point). p ∷ drop (suc i) curve) (point_at points i)))
 
       pub fails_left : passes low high here ≡ false → left ≡ false
       fails_left h = opened ∙ ap (λ (b : Bool). b && keeps (suc here.delay) here.allow behind) h
 
-      pub next-left : (d : ℕ) → passes low high here ≡ true → d ≡ suc here.delay
+      pub next_left : (d : ℕ) → passes low high here ≡ true → d ≡ suc here.delay
           → left ≡ keeps d here.allow behind
-      next-left d h e = opened ∙ ap₂ (λ (b : Bool) (k : ℕ). b && keeps k here.allow behind) h (sym e)
+      next_left d h e = opened ∙ ap₂ (λ (b : Bool) (k : ℕ). b && keeps k here.allow behind) h (sym e)
 
   -- all are left at first
-  pub all_left : n ≤ max_points → well_formed (points_from n vs) ≡ left 0 min_delay max_allow
+  pub all_left : length points ≤ max_points → well_formed curve ≡ left 0 min_delay max_allow
   unfolding well_formed
   all_left h =
-      rw (sub-zero n) (ap (λ (b : Bool). b && orderly (points_from n vs))
-      (le-leb (length (points_from n vs)) max_points (omega (arith, points_length n vs)))
-      ∙ orderly_keeps (points_from n vs))
+      ap (λ (b : Bool). b && orderly curve) (le-leb (length curve) max_points (omega (arith, points_long points)))
+      ∙ orderly_keeps curve

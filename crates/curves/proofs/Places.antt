@@ -1,55 +1,52 @@
--- What a curve permits, and its last delay, by the numbers that the code reads: those of the point at the index that
--- was found, and of the one before it.
+-- What a curve permits by the index of the first point whose delay a response is not past, and its last delay.
 use mathlib.Core.Path.{◌≡◌, ap, ap₂, sym, ◌∙◌, subst}
 use mathlib.Core.Bool.{true}
 use mathlib.Core.List.{List}
-use Prim.Native.Nat.{ℕ, suc, ◌-◌, ◌*◌, ◌≤◌, ◌<◌}
+use Prim.Native.Nat.{ℕ, suc, ◌-◌, ◌≤◌, ◌<◌}
 use native.Mathlib.Omega.{arith}
-use lib.ListN.{get_or}
-use Rattle.curves.specs.Curves.{Point, no_point, well_formed, points_from}
+use lib.ListN.{length, get_or}
+use Rattle.curves.specs.Curves.{Point, no_point, well_formed, points_of}
 use Rattle.curves.specs.Curves.{whole, on_line, permitted, last_delay}
-use Rattle.curves.specs.inside.Places.{Passed, Reached}
+use Rattle.curves.specs.inside.Places.{lent_point, Passed, Reached}
 use Rattle.curves.proofs.Lines.{Limited, orderly_of}
 use Rattle.curves.proofs.Permits.{orderly_limits, permitted_none, permitted_first, permitted_next, last_at}
-use Rattle.curves.proofs.PointNumbers.{point_read, read_is, points_at_lem, points_length}
+use Rattle.curves.proofs.PointNumbers.{point_at, points_long}
 
--- ---- n points whose numbers stand by turns
-module _ (n : ℕ) (vs : List ℕ) where
+-- ---- points that are lent one by one
+module _ (points : List (List ℕ)) where
   abbrev curve : List Point
-  curve = points_from n vs
+  curve = points_of points
 
-  read_at : (i : ℕ) → i < n → get_or curve i no_point ≡ point_read i vs
-  read_at i l = points_at_lem n vs i l ∙ sym (read_is i vs)
+  delay_at : (i : ℕ) → (get_or curve i no_point).delay ≡ (lent_point points i).delay
+  delay_at i = ap (λ (p : Point). p.delay) (point_at points i)
 
-  delay_at : (i : ℕ) → i < n → (get_or curve i no_point).delay ≡ get_or vs (2 * i) 0
-  delay_at i l = ap (λ (p : Point). p.delay) (read_at i l)
-
-  pub limited_at : well_formed curve ≡ true → (i : ℕ) → i < n → Limited (point_read i vs)
+  pub limited_at : well_formed curve ≡ true → (i : ℕ) → i < length points → Limited (lent_point points i)
   limited_at h i l =
-      subst Limited (read_at i l) (orderly_limits curve i (orderly_of curve h) (omega (arith, points_length n vs)))
+      subst Limited (point_at points i) (orderly_limits curve i (orderly_of curve h) (omega (arith, points_long points)))
 
-  pub last_is : 1 ≤ n → last_delay curve ≡ get_or vs (2 * (n - 1)) 0
-  last_is l = last_at curve (n - 1) (omega (arith, points_length n vs)) ∙ delay_at (n - 1) (omega arith)
+  pub last_is : 1 ≤ length points → last_delay curve ≡ (lent_point points (length points - 1)).delay
+  last_is l =
+      last_at curve (length points - 1) (omega (arith, points_long points)) ∙ delay_at (length points - 1)
 
   module _ (e : ℕ) where
-    passed_points : (r : ℕ) → r ≤ n → Passed r vs e → (k : ℕ) → k < r → (get_or curve k no_point).delay < e
-    passed_points r m h k l = omega (arith, h k l, delay_at k (omega arith))
+    passed_points : (n : ℕ) → Passed n points e → (k : ℕ) → k < n → (get_or curve k no_point).delay < e
+    passed_points n h k l = omega (arith, h k l, delay_at k)
 
-    pub permits_none : Passed n vs e → whole 0 ≡ permitted curve e
+    pub permits_none : Passed (length points) points e → whole 0 ≡ permitted curve e
     permits_none h =
-        sym (permitted_none curve e (λ k l. passed_points n (omega arith) h k (omega (arith, points_length n vs))))
+        sym (permitted_none curve e (λ k l. passed_points (length points) h k (omega (arith, points_long points))))
 
-    module _ (r : ℕ) (h : Reached n vs e r) where
-      pub permits_first : r ≡ 0 → whole (get_or vs 1 0) ≡ permitted curve e
-      permits_first z =
-          sym (permitted_first curve e (omega (arith, points_length n vs, h.held)) (omega (arith, delay_at r h.held, h.reached, ap (λ (j : ℕ). (get_or curve j no_point).delay) z))
-          ∙ ap (λ (p : Point). whole p.allow) (points_at_lem n vs 0 (omega (arith, h.held))))
+    pub permits_first : Reached points e 0 → whole (lent_point points 0).allow ≡ permitted curve e
+    permits_first h =
+        sym (permitted_first curve e (omega (arith, h.held, points_long points)) (omega (arith, h.reached, delay_at 0))
+        ∙ ap (λ (p : Point). whole p.allow) (point_at points 0))
 
-      -- past the first delay: on the line from the point before
-      pub permits_line : (j : ℕ) → r ≡ suc j → on_line (point_read j vs) (point_read r vs) e ≡ permitted curve e
-      permits_line j q =
-          ap₂ (λ (p₁ p₂ : Point). on_line p₁ p₂ e) (sym (read_at j (omega (arith, h.held))))
-          (sym (read_at r h.held) ∙ ap (λ (k : ℕ). get_or curve k no_point) q)
-          ∙ sym (permitted_next curve j e (omega (arith, points_length n vs, h.held))
-          (λ k m. passed_points r (omega (arith, h.held)) h.passed k (omega arith))
-          (subst (λ (k : ℕ). e ≤ (get_or curve k no_point).delay) q (omega (arith, delay_at r h.held, h.reached))))
+    -- past the first delay: on the line from the point before
+    pub permits_line : (i j : ℕ) → i ≡ suc j → Reached points e i
+        → on_line (lent_point points j) (lent_point points i) e ≡ permitted curve e
+    permits_line i j q h =
+        ap₂ (λ (p₁ p₂ : Point). on_line p₁ p₂ e) (sym (point_at points j))
+        (sym (point_at points i) ∙ ap (λ (k : ℕ). get_or curve k no_point) q)
+        ∙ sym (permitted_next curve j e (omega (arith, h.held, points_long points))
+        (λ k l. passed_points i h.passed k (omega arith))
+        (subst (λ (k : ℕ). e ≤ (get_or curve k no_point).delay) q (omega (arith, h.reached, delay_at i))))

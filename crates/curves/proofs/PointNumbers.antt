@@ -1,24 +1,18 @@
 -- Points whose numbers stand by turns: as many as are asked for, the one at index i of the numbers at 2 i and behind
--- it. Only those numbers count, and a curve's own numbers give the curve again. Each law by going two numbers on.
+-- it. Only those numbers count, a curve's own numbers give the curve again, and so do points that are lent one by one.
+-- Each law by going two numbers on.
 use mathlib.Core.Path.{◌≡◌, refl, ap, ap₂, sym, ◌∙◌}
 use mathlib.Core.List.{List, [], ◌∷◌, ◌++◌}
-use Prim.Native.Nat.{ℕ, zero, suc, ◌+◌, ◌-◌, ◌*◌, ◌<◌}
-use native.Mathlib.Numerals.{add-one}
+use Prim.Native.Nat.{ℕ, zero, suc, ◌+◌, ◌*◌, ◌<◌}
 use native.Mathlib.Omega.{arith}
-use lib.ListN.{length, get_or, drop}
-use lib.Seq.{get_or-drop, drop-drop}
-use Rattle.curves.specs.Curves.{Point, point, no_point, points_from, numbers_of}
+use lib.ListN.{length, get_or, take, drop, length-map, get_or-map}
+use lib.Seq.{get_or-take, get_or-drop}
+use Rattle.std.specs.Simd.{first_chunks}
+use Rattle.curves.specs.Curves.{Point, point, no_point, points_from, point_from, points_of, numbers_of}
 
 -- the numbers of point i
 abbrev pub point_in : ℕ → List ℕ → Point
 point_in i vs = point (get_or vs (2 * i) 0) (get_or vs (suc (2 * i)) 0)
-
--- and as the code reads them
-abbrev pub point_read : ℕ → List ℕ → Point
-point_read i vs = point (get_or vs (2 * i) 0) (get_or vs (2 * i + 1) 0)
-
-pub read_is : (i : ℕ) (vs : List ℕ) → point_read i vs ≡ point_in i vs
-read_is i vs = rw (add-one (2 * i)) refl
 
 -- two numbers on
 number_on : (vs : List ℕ) (i j : ℕ) → 2 + i ≡ j → get_or (drop 2 vs) i 0 ≡ get_or vs j 0
@@ -54,23 +48,30 @@ points_same (suc n) xs ys h =
     (points_same n (drop 2 xs) (drop 2 ys)
     (λ k l. number_on xs k (2 + k) refl ∙ (h (2 + k) (omega arith) ∙ sym (number_on ys k (2 + k) refl))))
 
-pub points_of : (c : List Point) → points_from (length c) (numbers_of c) ≡ c
-points_of [] = refl
-points_of (p ∷ ps) = ap (λ (c : List Point). p ∷ c) (points_of ps)
+pub points_again : (c : List Point) → points_from (length c) (numbers_of c) ≡ c
+points_again [] = refl
+points_again (p ∷ ps) = ap (λ (c : List Point). p ∷ c) (points_again ps)
 
--- ---- the points that are left at index i
-pub points_left : (vs : List ℕ) (n i : ℕ) → i < n
-    → points_from (n - i) (drop (2 * i) vs) ≡ point_in i vs ∷ points_from (n - suc i) (drop (2 * suc i) vs)
-points_left vs n i l =
-    let m : n - i ≡ suc (n - suc i) = omega arith in
-    let front : 2 * i + 0 ≡ 2 * i = omega arith in
-    let behind : 2 * i + 1 ≡ suc (2 * i) = omega arith in
-    let next : 2 * i + 2 ≡ 2 * suc i = omega arith in
-    ap (λ (k : ℕ). points_from k (drop (2 * i) vs)) m
-    ∙ ap₂ (λ (p : Point) (xs : List ℕ). p ∷ points_from (n - suc i) xs)
-    (ap₂ point (get_or-drop (2 * i) vs 0 0 ∙ ap (λ (k : ℕ). get_or vs k 0) front)
-    (get_or-drop (2 * i) vs 1 0 ∙ ap (λ (k : ℕ). get_or vs k 0) behind))
-    (drop-drop 2 (2 * i) vs ∙ ap (λ (k : ℕ). drop k vs) next)
+-- ---- points that are lent one by one
+pub points_long : (points : List (List ℕ)) → length (points_of points) ≡ length points
+points_long points = length-map points point_from
+
+pub point_at : (points : List (List ℕ)) (i : ℕ) → get_or (points_of points) i no_point ≡ point_from (get_or points i [])
+point_at points i = get_or-map point_from points i []
+
+-- those of numbers that stand by turns
+chunks_from : (n : ℕ) (vs : List ℕ) → points_of (first_chunks 2 n vs) ≡ points_from n vs
+chunks_from zero vs = refl
+chunks_from (suc n) vs =
+    ap₂ (λ (p : Point) (c : List Point). p ∷ c)
+    (ap₂ point (get_or-take 2 vs 0 0 (omega arith)) (get_or-take 2 vs 1 0 (omega arith)))
+    (chunks_from n (drop 2 vs))
+
+pub chunks_are : (n m : ℕ) (vs : List ℕ) → m ≡ n → points_of (first_chunks 2 m (take (2 * n) vs)) ≡ points_from n vs
+chunks_are n m vs e =
+    ap (λ (k : ℕ). points_of (first_chunks 2 k (take (2 * n) vs))) e
+    ∙ chunks_from n (take (2 * n) vs)
+    ∙ points_same n (take (2 * n) vs) vs (λ k l. get_or-take (2 * n) vs k 0 l)
 
 -- ---- the numbers of a curve
 pub numbers_length : (c : List Point) → length (numbers_of c) ≡ 2 * length c
@@ -84,4 +85,4 @@ numbers_last (q ∷ qs) p = ap (λ (l : List ℕ). q.delay ∷ q.allow ∷ l) (n
 -- the numbers of point i
 pub numbers_at : (c : List Point) (i : ℕ) → i < length c → get_or c i no_point ≡ point_in i (numbers_of c)
 numbers_at c i h =
-    ap (λ (l : List Point). get_or l i no_point) (sym (points_of c)) ∙ points_at_lem (length c) (numbers_of c) i h
+    ap (λ (l : List Point). get_or l i no_point) (sym (points_again c)) ∙ points_at_lem (length c) (numbers_of c) i h

@@ -1,6 +1,6 @@
 -- A curve: the jitter that a task is permitted at each earliest response, point by point, and the margin that this
 -- leaves to its responses.
-use Rattle.std.specs.Prelude.{Bool, true, ◌&&◌, List, [], ◌∷◌, ℕ, zero, suc, ◌+◌, ◌-◌, ◌*◌, ◌/◌, leb, ltb, ℤ, pos, negsuc, length, get_or, drop}
+use Rattle.std.specs.Prelude.{Bool, true, ◌&&◌, List, [], ◌∷◌, map, ℕ, zero, suc, ◌+◌, ◌-◌, ◌*◌, ◌/◌, leb, ltb, ℤ, pos, negsuc, length, get_or, drop}
 use Rattle.std.proofs.Math.IntN.{sub_ℕ}
 use Rattle.basics.specs.Basics.{pick, within}
 use Rattle.curves.specs.declared.Fraction.{Fraction}
@@ -64,6 +64,13 @@ well_formed c = leb (length c) max_points && orderly c
 abbrev pub points_from : ℕ → List ℕ → List Point
 points_from zero vs = []
 points_from (suc n) vs = point (get_or vs 0 0) (get_or vs 1 0) ∷ points_from n (drop 2 vs)
+
+-- points that are lent one by one, each as its two numbers
+abbrev pub point_from : List ℕ → Point
+point_from vs = point (get_or vs 0 0) (get_or vs 1 0)
+
+abbrev pub points_of : List (List ℕ) → List Point
+points_of points = map point_from points
 
 -- and the numbers of points, by turns
 abbrev pub numbers_of : List Point → List ℕ

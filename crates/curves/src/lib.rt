@@ -1,16 +1,23 @@
 // Curves of permitted jitter: whether their points keep the limits, and the margin of responses under one. A curve's
-// numbers stand by turns: a delay, its allow, the next delay, and so on.
+// points are lent as they follow one another, each as its two numbers.
 #![tactic(auto)]
 
 ghost use Rattle.std.specs.Prelude.{◌≡◌, true, ◌*◌, ◌≤◌, ◌<◌, ◌^◌, length, MatchOption};
 ghost use Rattle.std.proofs.Math.IntN.{sub_ℕ};
-ghost use Rattle.curves.specs.Curves.{point, max_points, max_delay, max_allow, max_response, well_formed};
-ghost use Rattle.curves.specs.Curves.{points_from, on_line, permitted, floor_of, thousandths, curve_margin};
+ghost use Rattle.curves.specs.Curves.{max_delay, max_allow, max_response, well_formed, point_from, points_of, points_from};
+ghost use Rattle.curves.specs.Curves.{on_line, permitted, floor_of, thousandths, curve_margin};
 ghost use Rattle.curves.specs.inside.Places.{Passed, Reached};
 
 use basics::within;
 
-// The most points of a curve, and so half of the numbers that are lent of one.
+// A point's numbers, and where each stands among them.
+pub type PointNumbers = [u64; 2];
+
+pub const DELAY: usize = 0;
+
+pub const ALLOW: usize = 1;
+
+// The most points of a curve.
 pub const MAX_POINTS: usize = 8;
 
 // A curve's limits: how many points, and the ticks of a delay and of an allow.
@@ -26,21 +33,29 @@ pub const ALLOW_MIN: u64 = 0;
 
 pub const ALLOW_MAX: u64 = 1_000_000;
 
-// Whether n points keep the limits of a curve.
-pub fn well_formed(points: &[u64], n: u64) -> bool
-    requires { 2 * max_points ≤ length points.now }
-    ensures { result ≡ well_formed (points_from n points.now) }
+// The first n points of numbers that stand by turns: the last place where a count stands beside them.
+pub fn points_from(numbers: &[u64], n: usize) -> &[PointNumbers]
+    requires { 2 * n ≤ length numbers.now }
+    ensures points { points_of result.now ≡ points_from n numbers.now }
+    ensures count { length result.now ≡ n }
 {
-    if POINTS_MAX < n {
+    let (points, _) = numbers[..2 * n].as_chunks::<2>();
+    points
+}
+
+// Whether points keep the limits of a curve.
+pub fn well_formed(points: &[PointNumbers]) -> bool
+    ensures { result ≡ well_formed (points_of points.now) }
+{
+    if MAX_POINTS < points.len() {
         return false;
     }
-    let count = n as usize;
     // the least delay and the largest allow that the next point may have
     let mut low = DELAY_MIN;
     let mut high = ALLOW_MAX;
-    for i in 0..count {
-        let delay = points[2 * i];
-        let allow = points[2 * i + 1];
+    for point in points {
+        let delay = point[DELAY];
+        let allow = point[ALLOW];
         if !(within(low, DELAY_MAX, delay) & within(ALLOW_MIN, high, allow)) {
             return false;
         }
@@ -76,61 +91,51 @@ fn thousandths(f: Fraction, jitter: u64) -> i64
     floor_of(1000 * f.over, 1000 * (jitter * f.under), f.under)
 }
 
-// The index of the first of n points whose delay the response is not past; none where it is past all.
-fn place_of(points: &[u64], n: usize, earliest: u64) -> Option<usize>
-    requires { 2 * n ≤ length points.now }
-    ensures { MatchOption result (Passed n points.now earliest) (Reached n points.now earliest) }
+// The index of the first point whose delay the response is not past; none where it is past all.
+fn place_of(points: &[PointNumbers], earliest: u64) -> Option<usize>
+    ensures { MatchOption result (Passed (length points.now) points.now earliest) (Reached points.now earliest) }
 {
-    for i in 0..n {
-        if earliest <= points[2 * i] {
-            return Some(i);
-        }
-    }
-    None
+    points.iter().position(|point| earliest <= point[DELAY])
 }
 
-// What the line permits that falls from `high` at `from` to `low` at `to`.
-fn on_line(from: u64, high: u64, to: u64, low: u64, earliest: u64) -> Fraction
-    requires { (from ≤ earliest) × (earliest ≤ to) × (to ≤ max_delay) × (low ≤ max_allow) × (high ≤ max_allow) }
-    ensures { result ≡ on_line (point from high) (point to low) earliest }
+// What the line from one point to the next permits.
+fn on_line(left: &PointNumbers, right: &PointNumbers, earliest: u64) -> Fraction
+    requires { let p = point_from left.now in let q = point_from right.now in
+        (p.delay ≤ earliest) × (earliest ≤ q.delay) × (q.delay ≤ max_delay) × (p.allow ≤ max_allow) × (q.allow ≤ max_allow) }
+    ensures { result ≡ on_line (point_from left.now) (point_from right.now) earliest }
 {
-    let over = high * (to - earliest) + low * (earliest - from);
+    let from = left[DELAY];
+    let to = right[DELAY];
+    let over = left[ALLOW] * (to - earliest) + right[ALLOW] * (earliest - from);
     let under = to - from;
     Fraction { over, under }
 }
 
-// What a curve of n points permits.
-fn permitted(points: &[u64], n: usize, earliest: u64) -> Fraction
-    requires { (1 ≤ n) × (2 * n ≤ length points.now) × (well_formed (points_from n points.now) ≡ true) }
-    ensures { result ≡ permitted (points_from n points.now) earliest }
+// What a curve permits.
+fn permitted(points: &[PointNumbers], earliest: u64) -> Fraction
+    requires { (1 ≤ length points.now) × (well_formed (points_of points.now) ≡ true) }
+    ensures { result ≡ permitted (points_of points.now) earliest }
 {
-    match place_of(points, n, earliest) {
+    match place_of(points, earliest) {
         None => Fraction { over: 0, under: 1 },
         Some(0) => Fraction {
-            over: points[1],
+            over: points[0][ALLOW],
             under: 1,
         },
-        Some(i) => {
-            let j = i - 1;
-            let from = points[2 * j];
-            let high = points[2 * j + 1];
-            let to = points[2 * i];
-            let low = points[2 * i + 1];
-            on_line(from, high, to, low, earliest)
-        }
+        Some(i) => on_line(&points[i - 1], &points[i], earliest),
     }
 }
 
-// The margin of responses under a curve of n points.
-pub fn curve_margin(points: &[u64], n: usize, latest: u64, earliest: u64) -> i64
-    requires { (1 ≤ n) × (2 * n ≤ length points.now) × (well_formed (points_from n points.now) ≡ true)
+// The margin of responses under a curve.
+pub fn curve_margin(points: &[PointNumbers], latest: u64, earliest: u64) -> i64
+    requires { (1 ≤ length points.now) × (well_formed (points_of points.now) ≡ true)
         × (latest ≤ max_response) × (earliest ≤ latest) }
-    ensures { result ≡ curve_margin (points_from n points.now) latest earliest }
+    ensures { result ≡ curve_margin (points_of points.now) latest earliest }
 {
-    let last = points[2 * (n - 1)];
+    let last = points[points.len() - 1][DELAY];
     if last < earliest {
         return floor_of(1000 * last, 1000 * earliest, 1);
     }
-    let f = permitted(points, n, earliest);
+    let f = permitted(points, earliest);
     thousandths(f, latest - earliest)
 }

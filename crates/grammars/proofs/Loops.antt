@@ -4,6 +4,7 @@ use mathlib.Core.List.{List}
 use Prim.Native.Nat.{ℕ, ◌-◌, ◌<◌}
 use native.Mathlib.Omega.{arith}
 use lib.ListN.{length}
+use Rattle.text.specs.Lines.{fault_number}
 use Rattle.text.specs.declared.LineRefusal.{LineRefusal}
 use Rattle.grammars.specs.Grammars.{Grammar, accepted, refused}
 use Rattle.grammars.specs.Grammars.{Step, goes_on, stops, on_step, step}
@@ -50,7 +51,7 @@ module _ {P S : Type 0} {r : Reader P S} {On : P → Type 0} {g : Grammar S} {st
 
   -- where its line is refused, so is the text
   pub refused_at : (e : LineRefusal) → Refuses (step g text (r.shows p) (r.offset p) (r.line p)) e
-      → read g start text ≡ refused e.number e.line
+      → read g start text ≡ refused (fault_number e.fault) e.line
   refused_at e is = here.same ∙ step_same g text (r.shows p) (r.offset p) (r.line p) _ is
 
   -- where its line ends the text, that is accepted

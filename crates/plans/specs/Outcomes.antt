@@ -1,5 +1,6 @@
 -- What a call comes to, what it returns and leaves in its buffer, and what a program prints of it.
 use Rattle.std.specs.Prelude.{◌≡◌, true, false, List, ◌++◌, ℕ, zero, suc, leb, length, drop, Result, Ok, Err}
+use Rattle.text.specs.Lines.{fault_number}
 use Rattle.rows.specs.Rows.{Row}
 use Rattle.plans.specs.declared.Refusal.{Refusal}
 use Rattle.plans.specs.declared.Refusal.TheVariants as R
@@ -25,14 +26,14 @@ if_in_time room board order = elim (first_late order) [ zero ↦ plan_of room bo
 
 -- a refusal's number, as it is listed, and its place: the line, the rank, or 0
 abbrev pub number : Refusal → ℕ
-number (R.Line n line) = n
+number (R.Line refused) = fault_number refused.fault
 number (R.Late rank) = 7
 number R.NoOrder = 8
 number R.NoRoom = 9
 number R.ManyPieces = 10
 
 abbrev pub place : Refusal → ℕ
-place (R.Line n line) = line
+place (R.Line refused) = refused.line
 place (R.Late rank) = rank
 place R.NoOrder = 0
 place R.NoRoom = 0

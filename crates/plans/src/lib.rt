@@ -18,12 +18,11 @@ pub struct Entry {
     pub margin: i64,
 }
 
-// Why a call writes nothing: a line of its text is refused, with the number of what is wrong with it; an order's first
-// late rank, counted from 1; no order of the tasks is stable; the buffer is shorter than the text; a crane's text has too
-// many pieces.
+// Why a call writes nothing: a line of its text is refused; an order's first late rank, counted from 1; no order of the
+// tasks is stable; the buffer is shorter than the text; a crane's text has too many pieces.
 #[derive(Clone, Copy, Debug, PartialEq, Eq)]
 pub enum Refusal {
-    Line { number: u8, line: u32 },
+    Line(LineRefusal),
     Late { rank: u32 },
     NoOrder,
     NoRoom,
@@ -36,7 +35,7 @@ impl Refusal {
         ensures { result ≡ number self }
     {
         match self {
-            Refusal::Line { number, .. } => number,
+            Refusal::Line(refused) => refused.fault.number(),
             Refusal::Late { .. } => 7,
             Refusal::NoOrder => 8,
             Refusal::NoRoom => 9,
@@ -49,7 +48,7 @@ impl Refusal {
         ensures { result ≡ place self }
     {
         match self {
-            Refusal::Line { line, .. } => line,
+            Refusal::Line(refused) => refused.line,
             Refusal::Late { rank } => rank,
             Refusal::NoOrder | Refusal::NoRoom | Refusal::ManyPieces => 0,
         }
@@ -58,12 +57,9 @@ impl Refusal {
 
 // A refused line refuses its text.
 impl From<LineRefusal> for Refusal {
-    ghost from_gives = { λ refused r. r ≡ Line refused.number refused.line };
+    ghost from_gives = { λ refused r. r ≡ Line refused };
 
     fn from(refused: LineRefusal) -> Refusal {
-        Refusal::Line {
-            number: refused.number,
-            line: refused.line,
-        }
+        Refusal::Line(refused)
     }
 }

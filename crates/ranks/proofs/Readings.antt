@@ -15,7 +15,7 @@ use Rattle.demands.proofs.Outcomes.{on_turned_down}
 
 -- a refused line, whatever comes of an accepted table
 pub turned_down : {asked : Bool} {text o : List ℕ} {e : LineRefusal} → Refused asked text e → (next : Outcome)
-    → Written (on_table (read_table asked text) next) o o (Err (Line e.number e.line))
+    → Written (on_table (read_table asked text) next) o o (Err (Line e))
 turned_down {asked} {text} t next =
     refused (on_turned_down (read_table asked text) next (λ z. t.some (t.refused_is ∙ z))) (t.refused_is, t.line_is)
 

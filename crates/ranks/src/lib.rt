@@ -19,9 +19,9 @@ use plan_orders::{OrderInLimits, plan_order, printed};
 pub use plans::Refusal;
 use readers::{
     BOARD, FEW_NUMBERS, HEAD, MANY_NUMBERS, MORE_NUMBERS, MOST_NUMBERS, SOME_NUMBERS, fits_in,
-    read_table,
+    given_order, read_table,
 };
-use rows::{FIELDS, LentOrder, MAX_TASKS, Order, RowNumbers, order_at, positions_for, rows_from};
+use rows::{LentOrder, MAX_TASKS, Order, RowNumbers, positions_for, rows_from};
 use search::choose;
 
 // The plan of a table's rows, in an order of their tasks.
@@ -82,7 +82,7 @@ fn review_text(text: &[u8], out: &mut [u8], numbers: &mut [u64]) -> Result<usize
     ensures { ReviewSays text.now out.old out.new result }
 {
     let n = read_table(text, true, numbers)?;
-    let order = order_at(numbers, HEAD + FIELDS * n, n);
+    let order = given_order(numbers, n);
     let rows = rows_from(&numbers[HEAD..], n);
     plan_tasks(out, numbers[BOARD] as u16, rows, order)
 }

@@ -18,7 +18,7 @@ use Rattle.grammars.proofs.Decision.{refused_some}
 use Rattle.grammars.proofs.Loops as Loops
 use Rattle.grammars.proofs.Steps.{no_line}
 use Rattle.std.specs.Prelude.{Ok, Err}
-use Rattle.text.specs.Lines.{end_at, told_end}
+use Rattle.text.specs.Lines.{fault_number, end_at, told_end}
 use Rattle.text.specs.declared.LineRefusal.{LineRefusal}
 use Rattle.rows.specs.Rows.{max_tasks, all_tasks}
 use Rattle.rows.specs.inside.Numbers.{TaskNumbers}
@@ -120,13 +120,13 @@ in_numbers ranked text s ns fit is =
 -- ---- how the text reads
 module _ (ranked : Bool) (text : List ℕ) where
   -- it is refused
-  pub as_refused : (e : LineRefusal) → verdict ranked text ≡ refused e.number e.line → (ns : List ℕ)
+  pub as_refused : (e : LineRefusal) → verdict ranked text ≡ refused (fault_number e.fault) e.line → (ns : List ℕ)
       → ReadAs ranked text ns (Err e)
   as_refused e is ns =
-      let read_so = read_is ranked text (refused e.number e.line) is in
+      let read_so = read_is ranked text (refused (fault_number e.fault) e.line) is in
       record {
         answer = record {
-          some = λ z. omega (arith, refused_some ((decided ranked text).reason e.number e.line is).condition);
+          some = λ z. omega (arith, refused_some ((decided ranked text).reason (fault_number e.fault) e.line is).condition);
           refused_is = rw read_so;
           line_is = rw read_so;
         };

@@ -8,6 +8,7 @@ use Rattle.std.specs.Prelude.{Ok, Err}
 use Rattle.grammars.specs.Grammars.{refused, step, read}
 use Rattle.grammars.specs.inside.Readers.{Takes, Refuses}
 use Rattle.grammars.proofs.Loops as Loops
+use Rattle.text.specs.Lines.{fault_number}
 use Rattle.text.specs.declared.LineRefusal.{LineRefusal}
 use Rattle.readers.specs.declared.progress.Progress.{Progress}
 use Rattle.tables.specs.TableLines.{at_board, table}
@@ -47,6 +48,6 @@ module _ (ranked : Bool) (text : List ℕ) where
 
     -- or the text is refused
     pub stop : (e : LineRefusal) (ms : List ℕ) → TakesLine p text ns (Err e) ms
-        → read (table ranked) at_board text ≡ refused e.number e.line
+        → read (table ranked) at_board text ≡ refused (fault_number e.fault) e.line
     stop e ms t = Loops.refused_at here e
         (subst (λ b. Refuses (step (table b) text (stage_of p.stand ns) p.offset p.line) e) here.stands.0 t)

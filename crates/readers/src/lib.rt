@@ -1,12 +1,15 @@
 // A table as text: what is read, and what is refused on which line.
 #![tactic(auto)]
 
-ghost use Rattle.std.specs.Prelude.{◌≡◌, ◌≤◌, leb, length};
-ghost use Rattle.readers.specs.inside.Numbers.{most_numbers, bytes_for, Room};
+ghost use Rattle.std.specs.Prelude.{◌≡◌, ◌+◌, ◌≤◌, leb, length};
+ghost use Rattle.rows.specs.Rows.{max_tasks};
+ghost use Rattle.rows.specs.inside.Arrays.{ranking};
+ghost use Rattle.rows.specs.inside.Numbers.{TaskNumbers};
+ghost use Rattle.readers.specs.inside.Numbers.{most_numbers, bytes_for, Room, row_start, behind};
 ghost use Rattle.readers.specs.inside.Readings.{ReadAs};
 
 pub use progress::{Part, Progress, Stand, next_line};
-use rows::{FIELDS, MAX_TASKS};
+use rows::{FIELDS, MAX_TASKS, Order, order_from};
 use text::{LineRefusal, end_at};
 
 mod lines;
@@ -62,6 +65,16 @@ pub fn read_table(text: &[u8], ranked: bool, numbers: &mut [u64]) -> Result<usiz
     while reader.at.stand.part != Part::End {
         reader.at = next_line(reader.text, reader.at, numbers)?;
     }
-    end_at(reader.text, reader.at.offset, reader.at.line)?;
+    end_at(reader.at.cursor(reader.text))?;
     Ok(reader.at.stand.count)
+}
+
+// The order that a table's rank lines give, by the numbers of the table, which has n rows.
+pub fn given_order(numbers: &[u64], n: usize) -> Order
+    requires held { (n ≤ max_tasks) × (row_start n + n ≤ length numbers.now) }
+    requires task_numbers { TaskNumbers (behind n n numbers.now) }
+    ensures { result ≡ ranking (behind n n numbers.now) }
+{
+    let ranks = HEAD + FIELDS * n;
+    order_from(&numbers[ranks..ranks + n])
 }

@@ -11,7 +11,7 @@ ghost use Rattle.readers.specs.inside.Stands.{read_by, ends_row, PutAt, with_num
 use super::lines::expected_line;
 use super::{HEAD, HEAD_SWITCH};
 use rows::{FIELDS, POINTS, SWITCH};
-use text::LineRefusal;
+use text::{Cursor, LineRefusal};
 
 // The line that is expected next: one of the head, of a row, a rank, or none.
 #[derive(Clone, Copy, PartialEq, Eq)]
@@ -62,6 +62,19 @@ impl Progress {
             offset: 0,
         }
     }
+
+    // The place of the next line in the text.
+    pub fn cursor(self, text: &[u8]) -> Cursor
+        ensures text { result.text.now ≡ text.now }
+        ensures offset { result.offset ≡ self.offset }
+        ensures line { result.line ≡ self.line }
+    {
+        Cursor {
+            text,
+            offset: self.offset,
+            line: self.line,
+        }
+    }
 }
 
 // Where so many rank lines are left.
@@ -109,12 +122,13 @@ fn rows_next(ranked: bool, count: usize, left: usize) -> Stand
     }
 }
 
-// Whether a number at a position of the row whose numbers begin at an index is its last: there are two lines for each
-// of its points, which the line `points` says.
-fn is_last(numbers: &[u64], start: usize, position: usize, value: u64) -> bool
-    requires { (position < line_count) × (start + position ≤ length numbers.now) }
-    ensures { result ≡ is_whole (between start position numbers.now ++ (value ∷ [])) }
+// Whether a number is the last of its row, by those before it: there are two lines for each of its points, which the
+// line `points` says.
+fn is_last(before: &[u64], value: u64) -> bool
+    requires { length before.now < line_count }
+    ensures { result ≡ is_whole (before.now ++ (value ∷ [])) }
 {
+    let position = before.len();
     if position < POINTS {
         return false;
     }
@@ -125,7 +139,7 @@ fn is_last(numbers: &[u64], start: usize, position: usize, value: u64) -> bool
     if behind % 2 == 1 {
         return false;
     }
-    numbers[start + POINTS] == (behind / 2) as u64
+    before[POINTS] == (behind / 2) as u64
 }
 
 impl Stand {
@@ -169,8 +183,24 @@ impl Stand {
     {
         let part = self.part;
         match part {
-            Part::Row => is_last(numbers, HEAD + FIELDS * self.count, self.position, value),
+            Part::Row => {
+                let start = HEAD + FIELDS * self.count;
+                is_last(&numbers[start..start + self.position], value)
+            }
             _ => false,
+        }
+    }
+
+    // A number is put behind those before it, and the table's switch where it stands in a row whose last it is.
+    fn put(self, numbers: &mut [u64], value: u64, last: bool)
+        requires counted { Counted self.part self }
+        requires room { PutAt last (read_by self.part self) (row_start self.count + switch_at) numbers.old }
+        ensures { numbers.new
+            ≡ with_number last (read_by self.part self) (row_start self.count + switch_at) value numbers.old }
+    {
+        numbers[self.read()] = value;
+        if last {
+            numbers[self.switch_index()] = numbers[HEAD_SWITCH];
         }
     }
 
@@ -221,17 +251,6 @@ impl Stand {
     }
 }
 
-// A number is put at an index, and the table's switch at another where it is the last of its row.
-fn put_number(numbers: &mut [u64], at: usize, switch: usize, value: u64, last: bool)
-    requires { PutAt last at switch numbers.old }
-    ensures { numbers.new ≡ with_number last at switch value numbers.old }
-{
-    numbers[at] = value;
-    if last {
-        numbers[switch] = numbers[HEAD_SWITCH];
-    }
-}
-
 // The reading past the line that is expected, whose number stands behind those before it.
 pub fn next_line(
     text: &[u8],
@@ -243,14 +262,12 @@ pub fn next_line(
     ensures { TakesLine before text.now numbers.old result numbers.new }
 {
     let stand = before.stand;
-    let number = match expected_line(text, before.offset, before.line, stand, numbers) {
+    let number = match expected_line(before.cursor(text), stand, numbers) {
         Ok(number) => number,
         Err(refusal) => return Err(refusal),
     };
     let last = stand.ends_row(number.value, numbers);
-    let at = stand.read();
-    let switch = stand.switch_index();
-    put_number(numbers, at, switch, number.value, last);
+    stand.put(numbers, number.value, last);
     Ok(Progress {
         stand: stand.after(number.value, last),
         line: before.line + 1,

@@ -1,142 +1,87 @@
 -- Rows put among numbers: a row that is put is there and the others stay, so rows put one after another are all there.
-use mathlib.Core.Path.{◌≡◌, refl, sym, ap, subst, ◌∙◌}
+use mathlib.Core.Path.{◌≡◌, refl, sym, ap, ap₂, subst, ◌∙◌}
 use mathlib.Core.List.{List, [], ◌∷◌, ◌++◌}
 use mathlib.Core.Logic.{inl, inr}
-use Prim.Native.Nat.{ℕ, zero, suc, ◌+◌, ◌-◌, ◌*◌, ◌≤◌, ◌<◌}
-use native.Mathlib.Nat.{zero-add}
+use Prim.Native.Nat.{ℕ, ◌+◌, ◌-◌, ◌*◌, ◌≤◌, ◌<◌}
 use native.Mathlib.Decide.{ℕ_discrete}
 use native.Mathlib.Omega.{arith}
-use lib.ListN.{length, get_or, drop, set, length-set, length-map, get_or-map, get_or-append}
+use lib.ListN.{length, get_or, take, drop, replicate, length-append, length-map, get_or-map}
 use Rattle.std.proofs.lemmas.List.{get_or_default}
 use borrow.Author.Rules.{rules}
-use borrow.Rule.Slice.PartMut.{put_mid, mid_of}
+use borrow.Rule.Slice.PartMut.{put_mid}
 use Rattle.std.proofs.lemmas.List.{places}
-use lib.Seq.{get_or-drop, get_or-set_same, get_or-set_other}
+use Rattle.std.proofs.lemmas.Slice.{drop-put_mid}
+use lib.Seq.{get_or-drop, get_or-append_seam, take-append_seam, drop-append_seam}
 use Rattle.basics.proofs.Tests.{le-or-lt}
 use Rattle.curves.specs.Curves.{max_points}
-use Rattle.curves.proofs.PointNumbers.{points_length}
 use Rattle.rows.specs.declared.Row.{Row as Record}
 use Rattle.rows.specs.Rows.{Row, max_tasks, first_point_at, no_row, row_of, row_at}
-use Rattle.rows.specs.inside.Numbers.{line_count, switch_at, field_count, lines_from, row_in}
-use Rattle.rows.specs.inside.Records.{as_row, as_rows, numbers_room, CurvePut, FewPoints, RowPut, RowsPut}
-use Rattle.rows.proofs.RowNumbers.{lines_same, line_in_lem, switch_in_lem, row_same, rows_are}
+use Rattle.rows.specs.inside.Numbers.{switch_at, field_count, lines_from, row_from, row_in}
+use Rattle.rows.specs.inside.Records.{as_row, as_rows, record_numbers, numbers_room, FewPoints, RowPut, RowsPut}
+use Rattle.rows.proofs.RowNumbers.{row_same, rows_are}
 
--- ---- numbers written one after another, from index at + d on
-abbrev written : List ℕ → ℕ → ℕ → List ℕ → List ℕ
-written ns at d [] = ns
-written ns at d (v ∷ vs) = written (set ns (at + d) v) at (suc d) vs
+-- ---- numbers of a row put together, in an array that is filled with its switch
+module _ (ls cs : List ℕ) (s : ℕ) (h : first_point_at ≡ length ls) where
+  abbrev filled : List ℕ
+  filled = replicate (field_count - first_point_at) s
 
-written_long : (ns : List ℕ) (at d : ℕ) (vs : List ℕ) → length (written ns at d vs) ≡ length ns
-written_long ns at d [] = refl
-written_long ns at d (v ∷ vs) = written_long (set ns (at + d) v) at (suc d) vs ∙ length-set ns (at + d) v
+  pub put_together : put_mid first_point_at (2 * max_points) (ls ++ filled) cs ≡ ls ++ (cs ++ (s ∷ []))
+  put_together =
+      ap₂ (λ front back. front ++ (cs ++ drop (2 * max_points) back))
+      (ap (λ k. take k (ls ++ filled)) h ∙ take-append_seam ls filled)
+      (ap (λ k. drop k (ls ++ filled)) h ∙ drop-append_seam ls filled)
 
--- what stood elsewhere stays
-written_others : (ns : List ℕ) (at d : ℕ) (vs : List ℕ) (j : ℕ)
-    → ((k : ℕ) → d ≤ k → k < d + length vs → j ≡ at + k → ⊥)
-    → get_or (written ns at d vs) j 0 ≡ get_or ns j 0
-written_others ns at d [] j out = refl
-written_others ns at d (v ∷ vs) j out =
-    written_others (set ns (at + d) v) at (suc d) vs j (λ k l m. out k (omega arith) (omega arith))
-    ∙ get_or-set_other ns (at + d) j v 0 (out d (omega arith) (omega arith))
+-- ---- the numbers of a record make its row
+module _ (r : Record) (long : length (record_numbers r) ≡ field_count) where
+  abbrev lines : List ℕ
+  lines = r.task ∷ r.period ∷ r.worst ∷ r.best ∷ r.alpha ∷ r.beta ∷ r.hold ∷ r.points ∷ []
 
-written_there : (ns : List ℕ) (at d : ℕ) (vs : List ℕ) (k : ℕ) → at + (d + length vs) ≤ length ns → k < length vs
-    → get_or (written ns at d vs) (at + (d + k)) 0 ≡ get_or vs k 0
-written_there ns at d [] k fits l = absurd (omega arith)
-written_there ns at d (v ∷ vs) zero fits l =
-    let here : at + (d + 0) ≡ at + d = omega arith in
-    rw here (written_others (set ns (at + d) v) at (suc d) vs (at + d) (λ k m n q. omega (arith, q))
-    ∙ get_or-set_same ns (at + d) v 0 (omega arith))
-written_there ns at d (v ∷ vs) (suc k) fits l =
-    let next : at + (d + suc k) ≡ at + (suc d + k) = omega arith in
-    rw next (written_there (set ns (at + d) v) at (suc d) vs k
-    (omega (arith, length-set ns (at + d) v)) (omega arith))
+  many : 2 * max_points ≡ length r.curve
+  many = omega (arith, long, length-append r.curve (r.switch ∷ []))
 
--- ---- a curve's numbers put together
-pub curve_put : (ns : List ℕ) (at : ℕ) (curve : List ℕ) (n k : ℕ) (now : List ℕ) → at + n ≤ length ns
-    → n ≡ k → length now ≡ length (mid_of at k ns) → now ≡ curve → CurvePut ns at curve n (put_mid at k ns now)
-curve_put ns at curve n k now fits e many same =
-    let front : length (mid_of at k ns) ≡ k = search (rules, places) in
-    let long : length now ≡ n = omega arith in record {
-      there = λ held k h. search (rules, places);
-      others = λ j out. elim (le-or-lt at j) [
-        | inl past ↦ elim (le-or-lt (at + n) j) [
-          | inl behind ↦ search (rules, places)
-          | inr here ↦ absurd (out (j - at) (omega arith) (omega arith))
-        ]
-        | inr before ↦ search (rules, places)
-      ];
-      long = search (rules, places);
-    }
+  switch_is : get_or (record_numbers r) switch_at 0 ≡ r.switch
+  switch_is =
+      ap (λ k. get_or (r.curve ++ (r.switch ∷ [])) k 0) many ∙ get_or-append_seam r.curve r.switch [] 0
 
--- ---- a row put: its nine numbers, and then its curve's
-abbrev own_numbers : Record → List ℕ
-own_numbers r =
-    r.task ∷ r.period ∷ r.worst ∷ r.best ∷ r.alpha ∷ r.beta ∷ r.hold ∷ r.points ∷ []
+  lines_are : lines_from (record_numbers r) ≡ lines ++ r.curve
+  lines_are =
+      ap (λ k. lines ++ take k (r.curve ++ (r.switch ∷ []))) many
+      ∙ ap (λ vs. lines ++ vs) (take-append_seam r.curve (r.switch ∷ []))
 
-abbrev pub with_own : List ℕ → ℕ → Record → List ℕ
-with_own ns at r = set (written ns at 0 (own_numbers r)) (at + switch_at) r.switch
+  pub numbers_make : row_from (record_numbers r) ≡ as_row r
+  numbers_make = ap₂ row_of switch_is lines_are
 
-module _ (ns : List ℕ) (i : ℕ) (r : Record) (ns' : List ℕ)
-    (put : CurvePut (with_own ns (field_count * i) r) (field_count * i + first_point_at) r.curve (2 * max_points) ns') where
-  abbrev at : ℕ
-  at = field_count * i
+-- ---- a row put: its numbers stand from the first of its room on
+module _ (ns : List ℕ) (i k : ℕ) (now : List ℕ) (fits : field_count * i + field_count ≤ length ns)
+    (e : k ≡ field_count) (long : length now ≡ field_count) where
+  abbrev pub put : List ℕ
+  put = put_mid (field_count * i) k ns now
 
-  abbrev front : List ℕ
-  front = written ns at 0 (own_numbers r)
+  here : (d : ℕ) → d < field_count → get_or (drop (field_count * i) put) d 0 ≡ get_or now d 0
+  here d l = get_or-drop (field_count * i) put d 0 ∙ search (rules, places)
 
-  own_long : length (with_own ns at r) ≡ length ns
-  own_long = length-set front (at + switch_at) r.switch ∙ written_long ns at 0 (own_numbers r)
+  before : (j : ℕ) → j < field_count * i → get_or put j 0 ≡ get_or ns j 0
+  before j l = search (rules, places)
 
-  -- the number of a line that is no point's
-  line_there : numbers_room ≤ length ns → i < max_tasks → (k : ℕ) → k < first_point_at
-      → get_or ns' (at + k) 0 ≡ get_or (own_numbers r) k 0
-  line_there room l k h =
-      put.others (at + k) (λ j m e. omega (arith, e, h))
-      ∙ get_or-set_other front (at + switch_at) (at + k) r.switch 0 (λ e. omega (arith, e, h))
-      ∙ ap (λ m. get_or front (at + m) 0) (sym (zero-add k))
-      ∙ written_there ns at 0 (own_numbers r) k (omega (arith, room, l)) h
+  others : (j : ℕ) → (j ≡ i → ⊥) → row_in put j ≡ row_in ns j
+  others j ne = elim (le-or-lt i j) [
+    | inl past ↦
+        ap row_from (drop-put_mid (field_count * i) k ns now (field_count * j) (omega (arith, ne)) (omega arith) (omega arith))
+    | inr less ↦ row_same (drop (field_count * j) put) (drop (field_count * j) ns) (λ d l.
+        get_or-drop (field_count * j) put d 0 ∙ before (field_count * j + d) (omega arith)
+        ∙ sym (get_or-drop (field_count * j) ns d 0))
+  ]
 
-  switch_there : numbers_room ≤ length ns → i < max_tasks → get_or ns' (at + switch_at) 0 ≡ r.switch
-  switch_there room l =
-      put.others (at + switch_at) (λ j m e. omega (arith, e, m))
-      ∙ get_or-set_same front (at + switch_at) r.switch 0
-      (omega (arith, written_long ns at 0 (own_numbers r), room, l))
+  all_long : length put ≡ length ns
+  all_long = search (rules, places)
 
-  lines_there : numbers_room ≤ length ns → i < max_tasks → (k : ℕ) → k < line_count
-      → get_or (lines_from (drop at ns')) k 0 ≡ get_or (own_numbers r ++ r.curve) k 0
-  lines_there room l k h =
-      line_in_lem ns' i k h ∙ elim (le-or-lt first_point_at k) [
-        | inl past ↦
-            let j = k - first_point_at in
-            let same : at + k ≡ at + first_point_at + j = omega (arith, past) in
-            let here : k ≡ length (own_numbers r) + j = omega (arith, past) in
-            ap (λ m. get_or ns' m 0) same
-            ∙ put.there (omega (arith, own_long, room, l)) j (omega (arith, h, past))
-            ∙ sym (ap (λ m. get_or (own_numbers r ++ r.curve) m 0) here ∙ get_d_behind (own_numbers r) r.curve j)
-        | inr few ↦
-            line_there room l k few ∙ sym (get_or-append (own_numbers r) r.curve 0 k (omega (arith, few)))
-      ]
-    where
-      get_d_behind : (xs ys : List ℕ) (j : ℕ) → get_or (xs ++ ys) (length xs + j) 0 ≡ get_or ys j 0
-      get_d_behind [] ys j = ap (λ m. get_or ys m 0) (zero-add j)
-      get_d_behind (x ∷ xs) ys j =
-          let next : suc (length xs) + j ≡ suc (length xs + j) = omega arith in
-          ap (λ m. get_or (x ∷ xs ++ ys) m 0) next ∙ get_d_behind xs ys j
-
-  pub row_put : RowPut ns i (as_row r) ns'
-  row_put = record {
-    there = λ room l few.
-        let many : r.points ≤ max_points = omega (arith, few, points_length r.points r.curve) in
-        ap (λ s. row_of s (lines_from (drop at ns'))) (switch_in_lem ns' i ∙ switch_there room l)
-        ∙ sym (lines_same r.switch (own_numbers r ++ r.curve) (lines_from (drop at ns'))
-        (λ k h. sym (lines_there room l k (omega (arith, h, many)))));
-    others = λ k ne. row_same (drop (field_count * k) ns') (drop (field_count * k) ns) (λ d h.
-        get_or-drop (field_count * k) ns' d 0
-        ∙ put.others (field_count * k + d) (λ j m e. ne (omega (arith, e, h, m)))
-        ∙ get_or-set_other front (at + switch_at) (field_count * k + d) r.switch 0 (λ e. ne (omega (arith, e, h)))
-        ∙ written_others ns at 0 (own_numbers r) (field_count * k + d) (λ j l m q. ne (omega (arith, q, h, m)))
-        ∙ sym (get_or-drop (field_count * k) ns d 0));
-    long = put.long ∙ own_long;
+  pub row_put : (r : Record) → now ≡ record_numbers r → RowPut ns i (as_row r) put
+  row_put r is = record {
+    there = λ room h few.
+        row_same (drop (field_count * i) put) now here
+        ∙ ap row_from is ∙ numbers_make r (omega (arith, ap length is));
+    others = others;
+    long = all_long;
   }
 
 -- a row for which there is no room

@@ -1,23 +1,21 @@
 -- Rows as their numbers: a row is found by its first number, more numbers behind the rows change none of them, and the
 -- numbers between two places grow one by one.
 use mathlib.Core.Path.{◌≡◌, refl, sym, ap, ap₂, ◌∙◌}
-use mathlib.Core.Bool.{Bool, true, false, ◌&&◌, ◌||◌}
+use mathlib.Core.Bool.{Bool, true, false, ◌&&◌}
 use mathlib.Core.List.{List, [], ◌∷◌, ◌++◌}
 use mathlib.Core.Logic.{inl, inr}
 use Prim.Native.Nat.{ℕ, zero, suc, ◌+◌, ◌-◌, ◌*◌, ◌≤◌, ◌<◌}
-use native.Mathlib.Nat.{sub-zero}
 use Rattle.basics.proofs.Tests.{le-or-lt}
 use native.Mathlib.Omega.{arith}
-use lib.Dec.{eqb}
-use borrow.Author.Tests.{eq-eqb, ne_eqb, lt-leb}
+use borrow.Author.Tests.{lt-leb}
 use lib.ListN.{length, get_or, take, drop, length-take, length-drop}
 use lib.ListN.{get_or-append, get_or-eq_default}
 use lib.Seq.{take_all, drop-drop, drop-append-le, length-take-le, get_or-take, get_or-drop, ext_get_or}
 use Rattle.rows.specs.Rows.{Row}
 use Rattle.curves.specs.Curves.{Point, max_points, orderly, well_formed, points_from}
-use Rattle.curves.proofs.PointNumbers.{points_length, points_same}
+use Rattle.curves.proofs.PointNumbers.{points_same}
 use Rattle.rows.specs.Rows.{task_at, period_at, worst_at, best_at, alpha_at, beta_at, hold_at, points_at, first_point_at}
-use Rattle.rows.specs.Rows.{lines_for, row_with, row_of, no_row, row_at, all_rows, tasks_of, has_task, position_of}
+use Rattle.rows.specs.Rows.{lines_for, row_with, row_of, no_row, row_at, all_rows}
 use Rattle.rows.specs.inside.Numbers.{line_count, switch_at, field_count, lines_from, row_from, rows_of, row_in}
 use Rattle.rows.specs.inside.Numbers.{line_in, switch_in, rows_in}
 use Rattle.rows.specs.inside.Numbers.{rows_at, Below, between}
@@ -59,40 +57,14 @@ line_in_lem ns i k h = line_from (drop (field_count * i) ns) k h ∙ get_or-drop
 pub switch_in_lem : (ns : List ℕ) (i : ℕ) → switch_in ns i ≡ get_or ns (field_count * i + switch_at) 0
 switch_in_lem ns i = get_or-drop (field_count * i) ns switch_at 0
 
--- the points of a row's curve, from its first delay on
-pub curve_in : (ns : List ℕ) (i : ℕ) → line_in ns i points_at ≤ max_points
-    → (row_in ns i).curve ≡ points_from (line_in ns i points_at) (drop (field_count * i + first_point_at) ns)
-curve_in ns i few =
-    let ws = drop (field_count * i) ns in
-    points_same (line_in ns i points_at) (drop first_point_at (lines_from ws)) (drop (field_count * i + first_point_at) ns)
-    (λ k l.
-    let there : field_count * i + (first_point_at + k) ≡ field_count * i + first_point_at + k = omega arith in
-    get_or-drop first_point_at (lines_from ws) k 0
-    ∙ line_in_lem ns i (first_point_at + k) (omega arith)
-    ∙ ap (λ j. get_or ns j 0) there
-    ∙ sym (get_or-drop (field_count * i + first_point_at) ns k 0))
-
 -- numbers lent from an index on are what stands there
 pub lent_from : (n : ℕ) (ns : List ℕ) → take (length ns - n) (drop n ns) ≡ drop n ns
 lent_from n ns = take_all (length ns - n) (drop n ns) (omega (arith, length-drop n ns))
 
--- more points than the most are no curve, wherever their numbers stand
-too_many : (c : List Point) → max_points < length c → well_formed c ≡ false
+-- more points than the most are no curve
+pub too_many : (c : List Point) → max_points < length c → well_formed c ≡ false
 unfolding well_formed
 too_many c h = ap (λ b. b && orderly c) (lt-leb (length c) max_points h)
-
-pub curve_kept : (ns : List ℕ) (i : ℕ) → well_formed (row_in ns i).curve
-    ≡ well_formed (points_from (line_in ns i points_at) (drop (field_count * i + first_point_at) ns))
-curve_kept ns i =
-    let n = line_in ns i points_at in
-    let here = drop first_point_at (lines_from (drop (field_count * i) ns)) in
-    let there = drop (field_count * i + first_point_at) ns in
-    elim (le-or-lt n max_points) [
-      | inl few ↦ ap well_formed (curve_in ns i few)
-      | inr many ↦
-          too_many (points_from n here) (omega (arith, many, points_length n here))
-          ∙ sym (too_many (points_from n there) (omega (arith, many, points_length n there)))
-    ]
 
 -- a row has no more numbers than its own
 pub row_same : (xs ys : List ℕ) → ((i : ℕ) → i < field_count → get_or xs i 0 ≡ get_or ys i 0) → row_from xs ≡ row_from ys
@@ -171,51 +143,6 @@ module _ (start : ℕ) (ns : List ℕ) where
   pub between_at : (n i : ℕ) → i < n → get_or (between start n ns) i 0 ≡ get_or ns (start + i) 0
   between_at n i h =
       get_or-drop start (take (start + n) ns) i 0 ∙ get_or-take (start + n) ns (start + i) 0 (omega arith)
-
--- ---- the rows from row i on, for a scan over their tasks
-abbrev pub rows_past : ℕ → ℕ → List ℕ → List Row
-rows_past n i ws = rows_of (n - i) (drop (field_count * i) ws)
-
-pub past_next : (n i : ℕ) (ws : List ℕ) → i < n → rows_past n i ws ≡ row_in ws i ∷ rows_past n (i + 1) ws
-past_next n i ws h =
-    let one_more : n - i ≡ suc (n - (i + 1)) = omega arith in
-    let next : field_count * i + field_count ≡ field_count * (i + 1) = omega arith in
-    ap (λ m. rows_of m (drop (field_count * i) ws)) one_more
-    ∙ ap (λ xs. row_in ws i ∷ rows_of (n - (i + 1)) xs)
-    (drop-drop field_count (field_count * i) ws ∙ ap (λ m. drop m ws) next)
-
-pub past_end : (n i : ℕ) (ws : List ℕ) → n ≤ i → rows_past n i ws ≡ []
-past_end n i ws h = let none : n - i ≡ 0 = omega arith in ap (λ m. rows_of m (drop (field_count * i) ws)) none
-
-pub past_all : (n : ℕ) (ws : List ℕ) → rows_of n ws ≡ rows_past n 0 ws
-past_all n ws = ap (λ m. rows_of m ws) (sym (sub-zero n))
-
--- whether a row from row i on has a task, where the rows begin at an index
-pub scan_task : (t n i start : ℕ) (ns : List ℕ) → i < n → let ws = drop start ns in
-    has_task t (rows_past n i ws)
-    ≡ (eqb t (get_or ns (start + field_count * i + task_at) 0) || has_task t (rows_past n (i + 1) ws))
-scan_task t n i start ns h =
-    let ws = drop start ns in
-    let there : start + (field_count * i + task_at) ≡ start + field_count * i + task_at = omega arith in
-    let task_is : (row_in ws i).task ≡ get_or ns (start + field_count * i + task_at) 0 =
-    line_in_lem ws i task_at (omega arith) ∙ get_or-drop start ns (field_count * i + task_at) 0
-    ∙ ap (λ m. get_or ns m 0) there in
-    ap (has_task t) (past_next n i ws h) ∙ ap (λ v. eqb t v || has_task t (rows_past n (i + 1) ws)) task_is
-
--- where a task stands from row i on: at the row, or later
-module _ (t n i : ℕ) (ws : List ℕ) (h : i < n) where
-  abbrev rest : List ℕ
-  rest = tasks_of (rows_past n (i + 1) ws)
-
-  split : position_of t (tasks_of (rows_past n i ws)) ≡ position_of t (line_in ws i task_at ∷ rest)
-  split = ap (λ rs. position_of t (tasks_of rs)) (past_next n i ws h)
-
-  pub position_here : t ≡ line_in ws i task_at → position_of t (tasks_of (rows_past n i ws)) ≡ 0
-  position_here e = split ∙ rw (eq-eqb t (line_in ws i task_at) e, position_of)
-
-  pub position_later : (t ≡ line_in ws i task_at → ⊥)
-      → position_of t (tasks_of (rows_past n i ws)) ≡ suc (position_of t rest)
-  position_later e = split ∙ rw (ne_eqb t (line_in ws i task_at) e, position_of)
 
 -- the rows at positions below n are those of n rows
 pub rows_in_lem : (n : ℕ) (ws ps : List ℕ) → Below n ps → rows_in ws ps ≡ rows_at (rows_of n ws) ps

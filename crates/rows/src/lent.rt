@@ -2,15 +2,13 @@
 // its switch.
 ghost use Rattle.std.specs.Prelude.{◌≡◌, ◌++◌, ◌*◌, ◌≤◌, ◌==◌, length, drop, position, slice_index_or};
 ghost use Rattle.curves.specs.Curves.{well_formed};
-ghost use Rattle.rows.specs.Rows.{task_at, max_ticks, cost, in_range};
+ghost use Rattle.rows.specs.Rows.{task_at, max_ticks, cost, in_range, has_task};
 ghost use Rattle.rows.specs.inside.Numbers.{field_count, row_from, rows_of, positions_for};
 ghost use Rattle.rows.specs.inside.Lent.{table_of};
 
-use super::numbers::{
-    ALPHA, BEST, BETA, FIELDS, FIRST_POINT, HOLD, PERIOD, POINTS, SWITCH, TASK, WORST,
-};
+use super::numbers::{FIELDS, FIRST_POINT, POINTS, SWITCH, TASK, WORST};
 use super::{Row, full_cost};
-use curves::well_formed;
+use curves::{POINTS_MAX, points_from, well_formed};
 
 // The numbers of a row.
 pub type RowNumbers = [u64; FIELDS];
@@ -25,28 +23,21 @@ pub fn rows_from(numbers: &[u64], n: usize) -> &[RowNumbers]
     rows
 }
 
-// Whether the curve of a row is well formed.
+// Whether the curve of a row is well formed: one of more points than a row has room for is not.
 fn curve_keeps(row: &RowNumbers) -> bool
     ensures { result ≡ well_formed (row_from row.now).curve }
 {
-    well_formed(&row[FIRST_POINT..SWITCH], row[POINTS])
+    if POINTS_MAX < row[POINTS] {
+        return false;
+    }
+    well_formed(points_from(&row[FIRST_POINT..SWITCH], row[POINTS] as usize))
 }
 
 // Whether a row is in range.
 pub fn in_range(row: &RowNumbers) -> bool
     ensures { result ≡ in_range (row_from row.now) }
 {
-    let kept = Row::keeps(
-        row[TASK],
-        row[PERIOD],
-        row[WORST],
-        row[BEST],
-        row[ALPHA],
-        row[BETA],
-        row[HOLD],
-        row[SWITCH],
-    );
-    kept & curve_keeps(row)
+    Row::keeps(row) & curve_keeps(row)
 }
 
 // The most ticks that a job of a row takes.
@@ -55,6 +46,13 @@ pub fn cost(row: &RowNumbers) -> u64
     ensures { result ≡ cost (row_from row.now) }
 {
     full_cost(row[WORST], row[SWITCH])
+}
+
+// Whether one of some rows has a task.
+pub fn has_task(rows: &[RowNumbers], task: u64) -> bool
+    ensures { result ≡ has_task task (table_of rows.now) }
+{
+    rows.iter().any(|row| row[TASK] == task)
 }
 
 // Where a task stands among rows, if it does.

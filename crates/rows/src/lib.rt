@@ -2,16 +2,18 @@
 #![tactic(auto)]
 
 ghost use Rattle.std.specs.Prelude.{◌≡◌, ◌^◌, ◌<◌, leb};
-ghost use Rattle.rows.specs.Rows.{full_cost, numbers_in_range, row};
+ghost use Rattle.rows.specs.Rows.{full_cost, numbers_in_range};
+ghost use Rattle.rows.specs.Numbers.{row_from};
 ghost use Rattle.rows.specs.inside.Records.{recorded, checked};
 
 use basics::within;
-use curves::{ALLOW_MAX, ALLOW_MIN, DELAY_MAX, DELAY_MIN, POINTS_MAX, POINTS_MIN, well_formed};
-pub use lent::{RowNumbers, cost, in_range, positions_for, rows_from};
+use curves::{ALLOW_MAX, ALLOW_MIN, DELAY_MAX, DELAY_MIN, POINTS_MAX, POINTS_MIN};
+pub use lent::{RowNumbers, cost, has_task, in_range, positions_for, rows_from};
 pub use lent_order::LentOrder;
+use numbers::row_numbers;
 pub use numbers::{
     ALPHA, BEST, BETA, CURVE, FIELDS, FIRST_POINT, HOLD, NUMBERS, PERIOD, POINTS, SWITCH, TASK,
-    WORST, has_task, is_among, order_at, put_rows,
+    WORST, is_among, order_from, put_rows,
 };
 
 // numbers.rt: rows and orders as numbers. lent.rt: rows as they are lent. lent_order.rt: an order of them.
@@ -24,7 +26,8 @@ pub const MAX_TASKS: usize = 16;
 
 // A task's row, as a record. Times are in ticks, alpha in thousandths, beta in thousandths of a tick. A job of it may keep
 // the processor for a stretch of at most `hold` ticks, and its board spends `switch` ticks when it first gets it. Its
-// curve has so many points, whose numbers stand by turns.
+// curve has so many points, whose numbers stand by turns in room for the most, since a row goes by value and no heap is
+// used.
 #[derive(Clone, Copy)]
 pub struct Row {
     pub task: u32,
@@ -94,33 +97,25 @@ impl Row {
         worst <= period - switch
     }
 
-    // Whether eight numbers keep the limits of a row.
-    fn keeps(
-        task: u64,
-        period: u64,
-        worst: u64,
-        best: u64,
-        alpha: u64,
-        beta: u64,
-        hold: u64,
-        switch: u64,
-    ) -> bool
-        ensures { result ≡ numbers_in_range (row task period worst best alpha beta hold switch) }
+    // Whether the numbers of a row keep its limits, those of its curve aside.
+    fn keeps(row: &RowNumbers) -> bool
+        ensures { result ≡ numbers_in_range (row_from row.now) }
     {
-        within(Row::TASK_MIN, Row::TASK_MAX, task)
-            & within(Row::TICKS_MIN, Row::TICKS_MAX, period)
-            & within(Row::TICKS_MIN, Row::TICKS_MAX, worst)
-            & within(Row::TICKS_MIN, Row::TICKS_MAX, best)
-            & within(Row::ALPHA_MIN, Row::ALPHA_MAX, alpha)
-            & within(Row::BETA_MIN, Row::BETA_MAX, beta)
-            & within(Row::HOLD_MIN, Row::HOLD_MAX, hold)
-            & within(Row::SWITCH_MIN, Row::SWITCH_MAX, switch)
-            & Row::fits(worst, switch, period)
-            & (best <= worst)
-            & (hold <= worst)
+        within(Row::TASK_MIN, Row::TASK_MAX, row[TASK])
+            & within(Row::TICKS_MIN, Row::TICKS_MAX, row[PERIOD])
+            & within(Row::TICKS_MIN, Row::TICKS_MAX, row[WORST])
+            & within(Row::TICKS_MIN, Row::TICKS_MAX, row[BEST])
+            & within(Row::ALPHA_MIN, Row::ALPHA_MAX, row[ALPHA])
+            & within(Row::BETA_MIN, Row::BETA_MAX, row[BETA])
+            & within(Row::HOLD_MIN, Row::HOLD_MAX, row[HOLD])
+            & within(Row::SWITCH_MIN, Row::SWITCH_MAX, row[SWITCH])
+            & Row::fits(row[WORST], row[SWITCH], row[PERIOD])
+            & (row[BEST] <= row[WORST])
+            & (row[HOLD] <= row[WORST])
     }
 
-    // The row of some numbers and a curve, if they keep its limits.
+    // The row of some numbers and a curve, if they keep its limits. Each number has its name here, which an array of them
+    // would not show.
     pub fn new(
         task: u64,
         period: u64,
@@ -135,8 +130,8 @@ impl Row {
     ) -> Option<Row>
         ensures { result ≡ checked (recorded task period worst best alpha beta hold switch points curve) }
     {
-        let kept = Row::keeps(task, period, worst, best, alpha, beta, hold, switch);
-        if !(kept & well_formed(&curve, points)) {
+        let lines = [task, period, worst, best, alpha, beta, hold, points];
+        if !in_range(&row_numbers(lines, &curve, switch)) {
             return None;
         }
         Some(Row {

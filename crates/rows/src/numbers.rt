@@ -1,16 +1,15 @@
 // Rows and orders as numbers: of a row those of its lines come first, with room for the most points, and then the
 // switch; and row follows row.
-ghost use Rattle.std.specs.Prelude.{◌≡◌, ◌++◌, suc, ◌+◌, ◌*◌, ◌≤◌, ◌<◌, length, take, drop, MatchOption};
+ghost use Rattle.std.specs.Prelude.{◌≡◌, ◌++◌, [], ◌∷◌, ◌≤◌, length};
 ghost use Rattle.basics.specs.Basics.{is_in};
-ghost use Rattle.curves.specs.Curves.{max_points, well_formed};
-ghost use Rattle.rows.specs.Rows.{max_ticks, max_tasks, cost, in_range, tasks_of, has_task, position_of};
+ghost use Rattle.rows.specs.Rows.{max_tasks};
 ghost use Rattle.rows.specs.inside.Arrays.{ranking};
-ghost use Rattle.rows.specs.inside.Numbers.{line_count, field_count, line_in, switch_in, row_in, rows_of, positions_for};
-ghost use Rattle.rows.specs.inside.Numbers.{between, TaskNumbers};
-ghost use Rattle.rows.specs.inside.Records.{as_row, as_rows, numbers_room, CurvePut, RowPut, RowsPut};
+ghost use Rattle.rows.specs.inside.Numbers.{TaskNumbers};
+ghost use Rattle.rows.specs.inside.Records.{as_row, as_rows, record_numbers, RowPut, RowsPut};
 
-use super::{MAX_TASKS, Order, Row, full_cost};
-use curves::{MAX_POINTS, well_formed};
+use super::lent::RowNumbers;
+use super::{MAX_TASKS, Order, Row};
+use curves::MAX_POINTS;
 
 // Where the number of each line stands among those of its row.
 pub const TASK: usize = 0;
@@ -42,30 +41,46 @@ pub const FIELDS: usize = SWITCH + 1;
 // Room for the numbers of a table's rows.
 pub const NUMBERS: usize = FIELDS * MAX_TASKS;
 
-// The numbers of a curve are put at an index.
-fn put_curve(numbers: &mut [u64; NUMBERS], at: usize, curve: &[u64; CURVE])
-    requires { at + 2 * max_points ≤ numbers_room }
-    ensures { CurvePut numbers.old at curve.now (2 * max_points) numbers.new }
+// The numbers of a row: those of its lines before its points, those of its points, and its switch.
+pub(crate) fn row_numbers(
+    lines: [u64; FIRST_POINT],
+    curve: &[u64; CURVE],
+    switch: u64,
+) -> RowNumbers
+    ensures { result ≡ lines ++ (curve.now ++ (switch ∷ [])) }
 {
-    numbers[at..at + CURVE].copy_from_slice(curve);
+    // the switch is left behind what is written before it
+    let mut numbers = [switch; FIELDS];
+    numbers[..FIRST_POINT].copy_from_slice(&lines);
+    numbers[FIRST_POINT..SWITCH].copy_from_slice(curve);
+    numbers
 }
 
-// Row i is put among the numbers, if there is room for it.
+// The numbers of a record.
+fn record_numbers(row: &Row) -> RowNumbers
+    ensures { result ≡ record_numbers row.now }
+{
+    let lines = [
+        row.task as u64,
+        row.period as u64,
+        row.worst as u64,
+        row.best as u64,
+        row.alpha as u64,
+        row.beta,
+        row.hold as u64,
+        row.points,
+    ];
+    row_numbers(lines, &row.curve, row.switch as u64)
+}
+
+// Row i is put among the numbers, if there is room for it. `as_chunks_mut` would lend the room of each row, but no contract
+// says what the numbers are after it.
 fn put_row(numbers: &mut [u64; NUMBERS], i: usize, row: &Row)
     ensures { RowPut numbers.old i (as_row row.now) numbers.new }
 {
     if i < MAX_TASKS {
         let at = FIELDS * i;
-        numbers[at + TASK] = row.task as u64;
-        numbers[at + PERIOD] = row.period as u64;
-        numbers[at + WORST] = row.worst as u64;
-        numbers[at + BEST] = row.best as u64;
-        numbers[at + ALPHA] = row.alpha as u64;
-        numbers[at + BETA] = row.beta;
-        numbers[at + HOLD] = row.hold as u64;
-        numbers[at + POINTS] = row.points;
-        numbers[at + SWITCH] = row.switch as u64;
-        put_curve(numbers, at + FIRST_POINT, &row.curve);
+        numbers[at..at + FIELDS].copy_from_slice(&record_numbers(row));
     }
 }
 
@@ -78,31 +93,25 @@ pub fn put_rows(rows: &[Row], numbers: &mut [u64; NUMBERS])
     }
 }
 
-// Whether one of some rows, whose numbers begin at an index, has a task.
-pub fn has_task(numbers: &[u64], start: usize, count: usize, task: u64) -> bool
-    requires { (count ≤ max_tasks) × (start + field_count * count ≤ length numbers.now) }
-    ensures { result ≡ has_task task (rows_of count (drop start numbers.now)) }
+// Whether a value is among some numbers.
+pub fn is_among(numbers: &[u64], value: u64) -> bool
+    ensures { result ≡ is_in value numbers.now }
 {
-    (0..count).any(|i| task == numbers[start + FIELDS * i + TASK])
+    numbers.contains(&value)
 }
 
-// Whether a value is among some numbers from an index on.
-pub fn is_among(numbers: &[u64], start: usize, count: usize, value: u64) -> bool
-    requires { start + count ≤ length numbers.now }
-    ensures { result ≡ is_in value (between start count numbers.now) }
+// The order of some task numbers.
+pub fn order_from(tasks: &[u64]) -> Order
+    requires few { length tasks.now ≤ max_tasks }
+    requires task_numbers { TaskNumbers tasks.now }
+    ensures { result ≡ ranking tasks.now }
 {
-    numbers[start..start + count].contains(&value)
-}
-
-// The order of some task numbers from an index on.
-pub fn order_at(numbers: &[u64], start: usize, count: usize) -> Order
-    requires count_le_max_tasks { (count ≤ max_tasks) × (start + count ≤ length numbers.now) }
-    requires task_numbers { TaskNumbers (between start count numbers.now) }
-    ensures { result ≡ ranking (between start count numbers.now) }
-{
-    let mut tasks = [0u16; MAX_TASKS];
-    for i in 0..count {
-        tasks[i] = numbers[start + i] as u16;
+    let mut order = [0u16; MAX_TASKS];
+    for (i, task) in tasks.iter().enumerate() {
+        order[i] = *task as u16;
     }
-    Order { tasks, count }
+    Order {
+        tasks: order,
+        count: tasks.len(),
+    }
 }

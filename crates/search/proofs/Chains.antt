@@ -3,19 +3,19 @@
 use mathlib.Core.Path.{◌≡◌, refl, ap, ap₂, sym, ◌∙◌}
 use mathlib.Core.Bool.{true}
 use mathlib.Core.Option.{some}
-use mathlib.Core.List.{List, [], ◌∷◌, ◌++◌}
-use Prim.Native.Nat.{ℕ, zero, suc, ◌-◌, ◌/◌, ◌%◌, ◌^◌, ◌≤◌, ◌<◌}
+use mathlib.Core.List.{List, [], ◌∷◌, ◌++◌, append-nil}
+use Prim.Native.Nat.{ℕ, zero, suc, ◌-◌, ◌/◌, ◌%◌, ◌^◌, ◌<◌}
 use native.Mathlib.Decide.{ℕ_discrete}
 use native.Mathlib.Omega.{arith}
-use lib.ListN.{length, get_or, set, drop, replicate, length-append}
+use lib.ListN.{length, get_or, set, drop, length-append}
 use lib.Pow.{pow_pos}
+use lib.Seq.{drop-length}
 use Rattle.rows.specs.Rows.{Row}
 use Rattle.rows.specs.Rows.{max_tasks, in_range, row_at, tasks_of}
-use Rattle.rows.specs.inside.Arrays.{ranking}
 use Rattle.rows.specs.inside.Numbers.{row_from}
 use Rattle.rows.specs.inside.Lent.{table_of, lent_row}
 use Rattle.rows.proofs.Tasks.{tasks_last}
-use Rattle.rows.proofs.Arrays.{blank_left, front_next}
+use Rattle.rows.proofs.Arrays.{front_next}
 use Rattle.rows.proofs.LentRows.{table_at}
 use Rattle.analysis.proofs.Found.{map_long}
 use Rattle.orders.specs.Orders.{the_order}
@@ -51,33 +51,27 @@ module _ (rows : List (List ℕ)) (sets : List ℕ) where
       let above = chain_tasks rows sets k (m - 2 ^ i) in
       omega (arith, length-append above ((lent_row rows i).task ∷ []), chain_length k (m - 2 ^ i))
 
-  -- the lowest row's task goes below those of the rest, next in the array
+  -- the lowest row's task goes below those of the rest, in the last place
   pub chain_lowest :
-      (m k : ℕ) (tasks filled : List ℕ) (task : ℕ) →
+      (m k : ℕ) (above tasks : List ℕ) (task : ℕ) →
       0 < k →
-      k ≤ length tasks →
+      length tasks ≡ k →
       let i = get_or sets m 0 in
       task ≡ (lent_row rows i).task →
-      filled ≡ chain_tasks rows sets (k - 1) (m - 2 ^ i) ++ drop (k - 1) tasks →
-      set filled (k - 1) task ≡ chain_tasks rows sets k m ++ drop k tasks
-  chain_lowest m zero tasks filled task l few is h = absurd (omega arith)
-  chain_lowest m (suc k) tasks filled task l few is h =
+      above ≡ chain_tasks rows sets (k - 1) (m - 2 ^ i) →
+      set (above ++ drop (k - 1) tasks) (k - 1) task ≡ chain_tasks rows sets k m
+  chain_lowest m zero above tasks task more many is h = absurd (omega arith)
+  chain_lowest m (suc k) above tasks task more many is h =
       let e : suc k - 1 ≡ k = omega arith in
       let i = get_or sets m 0 in
-      let above = chain_tasks rows sets k (m - 2 ^ i) in
-      rw (is, e)
-      (ap (λ (l : List ℕ). set l k (lent_row rows i).task) (rw e at h)
-      ∙ front_next 0 above tasks k (lent_row rows i).task (chain_length k (m - 2 ^ i)) few)
-
--- in an array that had nothing in it, they are an order
-pub chain_order : (tasks filled : List ℕ) (n : ℕ) → n ≤ max_tasks → length tasks ≡ n
-    → filled ≡ tasks ++ drop n (replicate max_tasks 0)
-    → record { tasks = filled; count = n } ≡ ranking tasks
-chain_order tasks filled n few many e =
-    ap₂ (λ (l : List ℕ) (k : ℕ). record { tasks = l; count = k })
-    (e ∙ ap (λ (l : List ℕ). tasks ++ l) (blank_left 0 n max_tasks)
-    ∙ ap (λ (k : ℕ). tasks ++ replicate (max_tasks - k) 0) (sym many))
-    (sym many)
+      let rest = chain_tasks rows sets k (m - 2 ^ i) in
+      let last = (lent_row rows i).task ∷ [] in
+      let whole : above ≡ rest = rw e at h in
+      rw (is, e, whole)
+      (front_next 0 rest tasks k (lent_row rows i).task (chain_length k (m - 2 ^ i)) (omega (arith, many))
+      ∙ ap (λ (j : ℕ). (rest ++ last) ++ drop j tasks) (sym many)
+      ∙ ap (λ (l : List ℕ). (rest ++ last) ++ l) (drop-length tasks)
+      ∙ append-nil (rest ++ last))
 
 -- ---- the chain of a set that has an order, and is in the record
 module _ (rows : List (List ℕ)) (lent : Lent rows) (sets : List ℕ) (rec : Recorded stable (table_of rows) sets) where

@@ -13,8 +13,10 @@ use Rattle.rows.specs.inside.Lent.{table_of, lent_row}
 use Rattle.rows.proofs.Limits.{in_range_times, at_passes}
 use Rattle.rows.proofs.LentRows.{table_at}
 use Rattle.analysis.proofs.Found.{map_long}
-use Rattle.search.specs.inside.Sets.{unknown}
+use Rattle.orders.specs.Stability.{stable}
+use Rattle.search.specs.inside.Sets.{unknown, Recorded}
 use Rattle.search.specs.inside.Search.{Lent}
+use Rattle.search.proofs.Props.{recorded_so}
 
 module _ {rows : List (List ℕ)} (l : Lent rows) where
   pub small : length (table_of rows) < unknown
@@ -34,6 +36,10 @@ module _ {rows : List (List ℕ)} (l : Lent rows) where
 
   pub times_ranged : (i : ℕ) → i < length rows → times_in_range (lent_row rows i) ≡ true
   times_ranged i h = in_range_times (lent_row rows i) (ranged i h)
+
+  -- what a search keeps of its record is the fact itself
+  pub recorded_of : {sets : List ℕ} → ∥ Recorded stable (table_of rows) sets ∥₁ → Recorded stable (table_of rows) sets
+  recorded_of {sets} r = recorded_so stable (table_of rows) small sets r
 
 -- a record of the sets of k rows has room for those of no more rows
 pub sets_held : {n k : ℕ} → n ≤ k → k ≤ max_tasks → (2 ^ n ≤ 2 ^ k) × (2 ^ k ≤ max_buffer)

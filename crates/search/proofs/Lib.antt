@@ -6,3 +6,4 @@ pub mod LentRows
 pub mod Chains
 pub mod Gathering
 pub mod Outside
+pub mod Props

@@ -1,33 +1,24 @@
--- The record of sets: read, written and begun; and when a row goes lowest.
+-- The record of sets, read and written; and when a row goes lowest.
 use mathlib.Core.Path.{◌≡◌, refl, ap, ap₂, sym, ◌∙◌, subst}
 use mathlib.Core.Bool.{Bool, true, false, ◌&&◌, not, and-false}
 use mathlib.Core.List.{List}
 use mathlib.Core.Option as Maths
 use mathlib.Core.Option.{none}
 use mathlib.Core.Logic.{inl, inr, ⊎_elim}
-use Prim.Native.Nat.{ℕ, ◌-◌, ◌/◌, ◌%◌, ◌^◌, ◌≤◌, ◌<◌}
+use Prim.Native.Nat.{ℕ, ◌-◌, ◌/◌, ◌%◌, ◌^◌, ◌<◌}
 use native.Mathlib.Decide.{ℕ_discrete}
 use native.Mathlib.Omega.{arith}
 use Rattle.std.specs.Prelude as Code
 use Rattle.std.specs.Prelude.{Option, Some, None, unwrap_or}
 use borrow.Author.Tests.{eq-eqb, ne_eqb}
 use lib.Dec.{eqb}
-use lib.ListN.{get_or, set, length, length-set, replicate, length-replicate, get_or-replicate}
+use lib.ListN.{get_or, set, length, length-set}
 use lib.Seq.{get_or-set_same, get_or-set_other}
-use Rattle.rows.specs.Rows.{max_buffer}
 use Rattle.rows.specs.Rows.{Row}
 use Rattle.orders.specs.Orders.{the_order}
 use Rattle.search.specs.inside.Sets as S
 use Rattle.search.specs.inside.Sets.{has_bit, is_some, unknown, no_order}
 use Rattle.search.proofs.Scan.{at_empty}
-
--- a record in which every byte says that its set isn't known
-pub fresh : {n long : ℕ} → 2 ^ n ≤ long → long ≤ max_buffer → S.Fresh n (replicate long unknown)
-fresh {n} {long} fits short = record {
-  room = rw (length-replicate {A = ℕ} long unknown) fits;
-  short = rw (length-replicate {A = ℕ} long unknown) short;
-  none_known = λ m l. get_or-replicate {A = ℕ} long m unknown 0 (omega (arith, fits));
-}
 
 module _ (test : Row → List Row → List Row → Bool) (table : List Row) where
   abbrev order_at : ℕ → Maths.Option (List Row)
@@ -134,11 +125,3 @@ module _ (test : Row → List Row → List Row → Bool) (table : List Row) wher
         there = λ z. absurd (z refl);
         found_is = sym (ap is_some (at_empty the_order test table));
       }
-
-    -- a record that has no set
-    pub begun : (sets : List ℕ) → S.Fresh (length table) sets → S.Recorded test table sets
-    begun sets f = record {
-      room = f.room;
-      entries = λ k l. inl (f.none_known k l);
-      closed = λ k l low. absurd (omega (arith, low.in_table, f.none_known k l));
-    }

@@ -7,10 +7,9 @@ ghost use Rattle.rows.specs.inside.Arrays.{ranking};
 ghost use Rattle.rows.specs.inside.Lent.{table_of};
 ghost use Rattle.rows.specs.inside.Records.{as_rows};
 ghost use Rattle.responses.specs.Figures.{largest_hold, blocking};
-ghost use Rattle.search.specs.inside.Sets.{others, fits, Fresh, Recorded, LowestFound, Settled};
+ghost use Rattle.search.specs.inside.Sets.{others, fits, Recorded, LowestFound, Settled};
 ghost use Rattle.orders.specs.Stability.{stable};
-ghost use Rattle.search.specs.inside.Search.{Lent, Room, Gathered, Searching, MayGo};
-ghost use Rattle.search.specs.inside.Search.{Chained, chain_tasks, TableRows, Chooses};
+ghost use Rattle.search.specs.inside.Search.{Lent, Gathered, MayGo, Chained, chain_tasks, TableRows, Chooses};
 
 use analysis::{Above, blocking_time, figures_under, load_at_best, load_at_worst};
 use basics::larger;
@@ -51,175 +50,167 @@ fn power(i: usize) -> usize
     1 << i
 }
 
-// The loads of set m's rows are put at the front of lent places, and the rows are counted.
-fn gather(rows: &[RowNumbers], m: usize, worst: &mut [Load], best: &mut [Load]) -> usize
-    requires { Lent rows.now × Room rows.now worst.old best.old }
-    ensures { Gathered (table_of rows.now) m worst.new best.new result }
-{
-    let mut count: usize = 0;
-    let mut rest = m;
-    // Every row is put, and the next overwrites one outside the set: no branch for the processor to mispredict.
-    for row in rows {
-        worst[count] = load_at_worst(row);
-        best[count] = load_at_best(row);
-        count += rest % 2;
-        rest /= 2;
-    }
-    count
+// The search of a table's order: its rows, what is known of each set of them, and places for the loads above a row.
+#[derive(Drop)]
+struct Search<'a, const SETS: usize, const TASKS: usize> {
+    rows: &'a [RowNumbers],
+    sets: [u8; SETS],
+    worst: [Load; TASKS],
+    best: [Load; TASKS],
+    ghost lent: { Lent rows.now },
+    ghost sets_held: { 2 ^ length rows.now ≤ SETS },
+    ghost tasks_held: { length rows.now ≤ TASKS },
+    ghost recorded: { ∥ Recorded stable (table_of rows.now) sets ∥₁ },
 }
 
-// Whether row i of set m is stable as its lowest row, under the rest of the set, over rows that block it for some
-// ticks.
-fn stable_under(
-    rows: &[RowNumbers],
-    m: usize,
-    i: usize,
-    blocked: u64,
-    worst: &mut [Load],
-    best: &mut [Load],
-) -> bool
-    requires { Lent rows.now × (i < length rows.now) × (m / 2 ^ i % 2 ≡ 1) × Room rows.now worst.old best.old
-        × (blocked ≡ blocking (others m (table_of rows.now))) }
-    ensures { result ≡ fits stable (table_of rows.now) m i }
-{
-    let count = gather(rows, m - power(i), worst, best);
-    let above = Above {
-        worst: &worst[..count],
-        best: &best[..count],
-    };
-    figures_under(&rows[i], blocked, above).is_ok_and(|figures| figures.stable)
-}
-
-// Whether row i may go lowest in set m: it is in the set and stable there, and the rest isn't known to have no order.
-fn may_go(
-    rows: &[RowNumbers],
-    m: usize,
-    i: usize,
-    blocked: u64,
-    sets: &[u8],
-    worst: &mut [Load],
-    best: &mut [Load],
-) -> bool
-    requires { Searching rows.now m sets.now × (i < length rows.now) × Room rows.now worst.old best.old
-        × (blocked ≡ blocking (others m (table_of rows.now))) }
-    ensures { MayGo (table_of rows.now) m i result }
-{
-    if (m >> i) % 2 == 0 {
-        return false;
+impl<const SETS: usize, const TASKS: usize> Search<'_, SETS, TASKS> {
+    // The loads of set m's rows are put at the front of the places, and the rows are counted.
+    fn gather(&mut self, m: usize) -> usize
+        ensures gathered { Gathered (table_of self.old.rows.now) m self.new.worst self.new.best result }
+        ensures kept { (self.new.rows.now ≡ self.old.rows.now) × (self.new.sets ≡ self.old.sets) }
+    {
+        let rows = self.rows;
+        let mut count: usize = 0;
+        let mut rest = m;
+        // Every row is put, and the next overwrites one outside the set: no branch for the processor to mispredict.
+        for row in rows {
+            self.worst[count] = load_at_worst(row);
+            self.best[count] = load_at_best(row);
+            count += rest % 2;
+            rest /= 2;
+        }
+        count
     }
-    if sets[m - power(i)] == NO_ORDER {
-        return false;
-    }
-    stable_under(rows, m, i, blocked, worst, best)
-}
 
-// The first row of the table that goes lowest in set m. The rows below it are those outside the set, whose largest hold
-// is known; a row that goes lowest is outside the rest.
-#[cycle(lowest_settled)]
-fn lowest(
-    rows: &[RowNumbers],
-    m: usize,
-    largest: u64,
-    sets: &mut [u8],
-    worst: &mut [Load],
-    best: &mut [Load],
-) -> Option<u8>
-    requires { Searching rows.now m sets.old × (1 ≤ m) × Room rows.now worst.old best.old
-        × (largest ≡ largest_hold (others m (table_of rows.now))) }
-    ensures { Recorded stable (table_of rows.now) sets.new × LowestFound stable (table_of rows.now) m sets.new result }
-{
-    let blocked = blocking_time(largest);
-    for i in 0..rows.len() {
-        if may_go(rows, m, i, blocked, sets, worst, best) {
-            let outside = larger(rows[i][HOLD], largest);
-            if settled(rows, m - power(i), outside, sets, worst, best) {
-                return Some(i as u8);
+    // Whether row i of set m is stable as its lowest row, under the rest of the set, over rows that block it for some
+    // ticks.
+    fn stable_under(&mut self, m: usize, i: usize, blocked: u64) -> bool
+        requires { (i < length self.old.rows.now) × (m / 2 ^ i % 2 ≡ 1)
+            × (blocked ≡ blocking (others m (table_of self.old.rows.now))) }
+        ensures fits { result ≡ fits stable (table_of self.old.rows.now) m i }
+        ensures kept { (self.new.rows.now ≡ self.old.rows.now) × (self.new.sets ≡ self.old.sets) }
+    {
+        let rows = self.rows;
+        let count = self.gather(m - power(i));
+        let above = Above {
+            worst: &self.worst[..count],
+            best: &self.best[..count],
+        };
+        figures_under(&rows[i], blocked, above).is_ok_and(|figures| figures.stable)
+    }
+
+    // Whether row i may go lowest in set m: it is in the set and stable there, and the rest isn't known to have no order.
+    fn may_go(&mut self, m: usize, i: usize, blocked: u64) -> bool
+        requires { (m < 2 ^ length self.old.rows.now) × (i < length self.old.rows.now)
+            × (blocked ≡ blocking (others m (table_of self.old.rows.now))) }
+        ensures goes { MayGo (table_of self.old.rows.now) m i result }
+        ensures kept { (self.new.rows.now ≡ self.old.rows.now) × (self.new.sets ≡ self.old.sets) }
+    {
+        if (m >> i) % 2 == 0 {
+            return false;
+        }
+        if self.sets[m - power(i)] == NO_ORDER {
+            return false;
+        }
+        self.stable_under(m, i, blocked)
+    }
+
+    // The first row of the table that goes lowest in set m. The rows below it are those outside the set, whose largest
+    // hold is known; a row that goes lowest is outside the rest.
+    #[cycle(lowest_settled)]
+    fn lowest(&mut self, m: usize, largest: u64) -> Option<u8>
+        requires { (1 ≤ m) × (m < 2 ^ length self.old.rows.now)
+            × (largest ≡ largest_hold (others m (table_of self.old.rows.now))) }
+        ensures found { LowestFound stable (table_of self.old.rows.now) m self.new.sets result }
+        ensures kept { self.new.rows.now ≡ self.old.rows.now }
+    {
+        let rows = self.rows;
+        let blocked = blocking_time(largest);
+        for i in 0..rows.len() {
+            if self.may_go(m, i, blocked) {
+                let outside = larger(rows[i][HOLD], largest);
+                if self.settled(m - power(i), outside) {
+                    return Some(i as u8);
+                }
             }
         }
+        None
     }
-    None
+
+    // Whether set m has an order, with the largest hold of the rows outside it; the record then has the set.
+    #[cycle(lowest_settled)]
+    fn settled(&mut self, m: usize, largest: u64) -> bool
+        requires { (m < 2 ^ length self.old.rows.now)
+            × (largest ≡ largest_hold (others m (table_of self.old.rows.now))) }
+        ensures settled { Settled stable (table_of self.old.rows.now) m self.new.sets result }
+        ensures kept { self.new.rows.now ≡ self.old.rows.now }
+    {
+        if m == 0 {
+            return true;
+        }
+        let known = self.sets[m];
+        if known != UNKNOWN {
+            return known != NO_ORDER;
+        }
+        let found = self.lowest(m, largest);
+        self.sets[m] = found.unwrap_or(NO_ORDER);
+        found.is_some()
+    }
+
+    // The tasks of set m's order, read off the record into as many places as the set has rows: those of the set without
+    // its lowest row, then that row's.
+    fn rebuild(&self, m: usize, tasks: &mut [u16])
+        requires { (m < 2 ^ length self.now.rows.now)
+            × Chained self.now.rows.now self.now.sets (length tasks.old) m }
+        ensures { tasks.new ≡ chain_tasks self.now.rows.now self.now.sets (length tasks.old) m }
+    {
+        let count = tasks.len();
+        if 0 < count {
+            let above = count - 1;
+            let i = self.sets[m] as usize;
+            self.rebuild(m - power(i), &mut tasks[..above]);
+            tasks[above] = self.rows[i][TASK] as u16;
+        }
+    }
+
+    // The order of all rows, those of set m, read off the record.
+    fn read_off(&self, m: usize) -> Order
+        requires { (m < 2 ^ length self.now.rows.now)
+            × Chained self.now.rows.now self.now.sets (length self.now.rows.now) m }
+        ensures { result ≡ ranking (chain_tasks self.now.rows.now self.now.sets (length self.now.rows.now) m) }
+    {
+        let count = self.rows.len();
+        let mut tasks = [0u16; MAX_TASKS];
+        self.rebuild(m, &mut tasks[..count]);
+        Order { tasks, count }
+    }
+
+    // The order of the rows by the rule.
+    fn order(&mut self) -> Option<Order>
+        ensures { Chooses (table_of self.old.rows.now) result }
+    {
+        let all = power(self.rows.len()) - 1;
+        if self.settled(all, 0) {
+            return Some(self.read_off(all));
+        }
+        None
+    }
 }
 
-// Whether set m has an order, with the largest hold of the rows outside it; the record then has the set.
-#[cycle(lowest_settled)]
-fn settled(
-    rows: &[RowNumbers],
-    m: usize,
-    largest: u64,
-    sets: &mut [u8],
-    worst: &mut [Load],
-    best: &mut [Load],
-) -> bool
-    requires { Searching rows.now m sets.old × Room rows.now worst.old best.old
-        × (largest ≡ largest_hold (others m (table_of rows.now))) }
-    ensures { Settled stable (table_of rows.now) m sets.new result }
-{
-    if m == 0 {
-        return true;
-    }
-    let known = sets[m];
-    if known != UNKNOWN {
-        return known != NO_ORDER;
-    }
-    let found = lowest(rows, m, largest, sets, worst, best);
-    sets[m] = found.unwrap_or(NO_ORDER);
-    found.is_some()
-}
-
-// The n tasks of set m's order, read off the record into the front of tasks: those of the set without its lowest row,
-// then that row's.
-fn rebuild(rows: &[RowNumbers], n: usize, m: usize, sets: &[u8], tasks: &mut [u16])
-    requires { (n ≤ length tasks.old) × (m < length sets.now) × Chained rows.now sets.now n m }
-    ensures { tasks.new
-        ≡ chain_tasks rows.now sets.now n m ++ drop n tasks.old }
-{
-    if 0 < n {
-        let i = sets[m] as usize;
-        let above = n - 1;
-        rebuild(rows, above, m - power(i), sets, tasks);
-        tasks[above] = rows[i][TASK] as u16;
-    }
-}
-
-// The order of all rows, those of set m, read off the record.
-fn read_off(rows: &[RowNumbers], m: usize, sets: &[u8]) -> Order
-    requires { (length rows.now ≤ max_tasks) × (m < length sets.now) × Chained rows.now sets.now (length rows.now) m }
-    ensures { result ≡ ranking (chain_tasks rows.now sets.now (length rows.now) m) }
-{
-    let count = rows.len();
-    let mut tasks = [0u16; MAX_TASKS];
-    rebuild(rows, count, m, sets, &mut tasks);
-    Order { tasks, count }
-}
-
-// The order of rows by the rule, with a record of sets that has none yet and places for the loads above a row.
-fn order_with(
-    rows: &[RowNumbers],
-    sets: &mut [u8],
-    worst: &mut [Load],
-    best: &mut [Load],
-) -> Option<Order>
-    requires { Lent rows.now × Fresh (length rows.now) sets.old × Room rows.now worst.old best.old }
-    ensures { Chooses (table_of rows.now) result }
-{
-    let all = power(rows.len()) - 1;
-    if settled(rows, all, 0, sets, worst, best) {
-        return Some(read_off(rows, all, sets));
-    }
-    None
-}
-
-// The same with a record for so many sets and places for so many tasks.
+// The order of rows by the rule, with a record for so many sets and places for so many tasks.
 fn order_within<const SETS: usize, const TASKS: usize>(rows: &[RowNumbers]) -> Option<Order>
     requires lent { Lent rows.now }
     requires sets_held { (2 ^ length rows.now ≤ SETS) × (SETS ≤ max_buffer) }
     requires tasks_held { (length rows.now ≤ TASKS) × (TASKS ≤ max_tasks) }
     ensures { Chooses (table_of rows.now) result }
 {
-    let mut sets = [UNKNOWN; SETS];
-    let mut worst = [Load::NONE; TASKS];
-    let mut best = [Load::NONE; TASKS];
-    order_with(rows, &mut sets, &mut worst, &mut best)
+    let mut search: Search<'_, SETS, TASKS> = Search {
+        rows,
+        sets: [UNKNOWN; SETS],
+        worst: [Load::NONE; TASKS],
+        best: [Load::NONE; TASKS],
+    };
+    search.order()
 }
 
 // The order of rows by the rule, with the longer records of sets. They are in a frame of their own, whose pages a

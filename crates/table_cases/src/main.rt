@@ -5,12 +5,12 @@
 
 ghost use Rattle.std.specs.Prelude.{◌≡◌, ◌+◌, ◌≤◌, length};
 ghost use Rattle.basics.specs.Basics.{pick};
-ghost use Rattle.rows.specs.inside.Numbers.{line_count, field_count};
+ghost use Rattle.rows.specs.inside.Numbers.{line_count};
 ghost use Rattle.readers.specs.inside.Numbers.{Room, row_start};
 
 use readers::{FEW_NUMBERS, HEAD, MOST_NUMBERS, fits_in, read_table};
-use rows::{FIELDS, FIRST_POINT, POINTS, Row, SWITCH};
-use text::line_at;
+use rows::{FIELDS, FIRST_POINT, POINTS, Row, RowNumbers, SWITCH, rows_from};
+use text::{Cursor, line_at};
 
 const STDIN: i32 = 0;
 
@@ -25,11 +25,8 @@ fn print_next(n: u64) {
     io::print_decimal(STDOUT, n);
 }
 
-// The numbers from an index up to another.
-fn print_numbers(numbers: &[u64], start: usize, end: usize)
-    requires { (start ≤ end) × (end ≤ length numbers.now) }
-{
-    for n in &numbers[start..end] {
+fn print_numbers(numbers: &[u64]) {
+    for n in numbers {
         print_next(*n);
     }
 }
@@ -44,13 +41,11 @@ fn row_lines(points: u64) -> usize
     FIRST_POINT + 2 * points as usize
 }
 
-// The numbers of a row's lines and its switch, from an index on.
-fn print_row(numbers: &[u64], start: usize)
-    requires { start + field_count ≤ length numbers.now }
-{
-    let lines = row_lines(numbers[start + POINTS]);
-    print_numbers(numbers, start, start + lines);
-    print_next(numbers[start + SWITCH]);
+// The numbers of a row's lines and its switch.
+fn print_row(row: &RowNumbers) {
+    let lines = row_lines(row[POINTS]);
+    print_numbers(&row[..lines]);
+    print_next(row[SWITCH]);
 }
 
 // The board, the numbers of each row, and the ranks.
@@ -58,11 +53,11 @@ fn print_table(numbers: &[u64], rows: usize, ranks: usize)
     requires { row_start rows + ranks ≤ length numbers.now }
 {
     print_next(numbers[0]);
-    for i in 0..rows {
-        print_row(numbers, HEAD + FIELDS * i);
+    for row in rows_from(&numbers[HEAD..], rows) {
+        print_row(row);
     }
     let start = HEAD + FIELDS * rows;
-    print_numbers(numbers, start, start + ranks);
+    print_numbers(&numbers[start..start + ranks]);
 }
 
 // How many rank lines a table has.
@@ -82,7 +77,7 @@ fn print_read(text: &[u8], ranked: bool, numbers: &mut [u64])
             print_table(numbers, count, rank_lines(ranked, count));
         }
         Err(refusal) => {
-            io::print_decimal(STDOUT, refusal.number as u64);
+            io::print_decimal(STDOUT, refusal.fault.number() as u64);
             print_next(refusal.line as u64);
         }
     }
@@ -100,28 +95,38 @@ fn print_reading(text: &[u8], ranked: bool) {
     }
 }
 
-// The text at an offset of the input, after its length and whether rank lines are expected: the offset behind it.
-fn read_stored(input: &[u8], offset: usize) -> Option<usize> {
-    let length = line_at(input, offset, 1, b"length=", 0, MAX_TEXT).ok()?;
-    let ranked = line_at(input, length.next, 2, b"ranked=", 0, 1).ok()?;
-    let end = ranked.next.checked_add(length.value as usize)?;
-    let text = input.get(ranked.next..end)?;
+// The first text of the input, after its length and whether rank lines are expected: the input behind it.
+fn read_stored(input: &[u8]) -> Option<&[u8]> {
+    let start = Cursor {
+        text: input,
+        offset: 0,
+        line: 1,
+    };
+    let length = line_at(start, b"length=", 0, MAX_TEXT).ok()?;
+    let next = Cursor {
+        text: input,
+        offset: length.next,
+        line: 2,
+    };
+    let ranked = line_at(next, b"ranked=", 0, 1).ok()?;
+    let behind = input.get(ranked.next..)?;
+    let (text, rest) = behind.split_at_checked(length.value as usize)?;
     print_reading(text, ranked.value == 1);
-    Some(end)
+    Some(rest)
 }
 
 // Every text of the input; how many there are.
 fn read_all(input: &[u8]) -> u64 {
-    let mut offset = 0;
+    let mut rest = input;
     let mut count: u64 = 0;
-    while offset < input.len() {
-        let Some(next) = read_stored(input, offset) else {
+    while !rest.is_empty() {
+        let Some(next) = read_stored(rest) else {
             return count;
         };
-        if next <= offset {
+        if rest.len() <= next.len() {
             return count;
         }
-        offset = next;
+        rest = next;
         count += 1;
     }
     count

@@ -21,7 +21,7 @@ use Rattle.grammars.proofs.RoundTrip as RoundTrip
 use Rattle.curves.specs.Curves.{Point, no_point, max_points, min_delay, max_delay, min_allow, max_allow, well_formed}
 use Rattle.curves.specs.Curves.{numbers_of}
 use Rattle.curves.proofs.Lines.{few_of}
-use Rattle.curves.proofs.PointNumbers.{point_in, points_of, numbers_length, numbers_last, numbers_at}
+use Rattle.curves.proofs.PointNumbers.{point_in, points_again, numbers_length, numbers_last, numbers_at}
 use Rattle.curves.proofs.Growing.{Grown, takes_next, well_at}
 use Rattle.rows.specs.Rows.{first_point_at, lines_for, row_of, with_switch, with_curve, row_at, OneSwitch, in_range, all_rows}
 use Rattle.rows.specs.Rows.{min_switch, max_switch, full_cost, cost}
@@ -173,7 +173,7 @@ module _ (ranked : Bool) where
             let is : is_whole (fixed ++ numbers_of r.curve) ≡ true =
             eq-eqb (length (fixed ++ numbers_of r.curve)) (lines_for (length r.curve)) (long r.curve) in
             let row_is : row_of s (fixed ++ numbers_of r.curve) ≡ r =
-            ap₂ (λ c x. with_curve c (with_switch x r)) (points_of r.curve) (sym same) in
+            ap₂ (λ c x. with_curve c (with_switch x r)) (points_again r.curve) (sym same) in
             rw (whole, is, row_is) w
         points_written front (p ∷ ps) all =
             let vs = fixed ++ numbers_of front in

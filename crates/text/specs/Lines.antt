@@ -2,6 +2,8 @@
 use Rattle.std.specs.Prelude.{ℕ, suc, ◌+◌, ◌-◌, ◌*◌, Bool, true, false, not, ◌&&◌, List, [], ◌∷◌, length, drop, ◌==◌, nat_lt, slice_index, Option, Some, None, Result, Ok, Err}
 use Rattle.basics.specs.Basics.{pick, within}
 use Rattle.text.specs.Text.{line_feed, digit_zero, digit_nine}
+use Rattle.text.specs.declared.Fault.{Fault}
+use Rattle.text.specs.declared.Fault.TheVariants as F
 use Rattle.text.specs.declared.LineRefusal.{LineRefusal}
 use Rattle.text.specs.declared.Number.{Number}
 use Rattle.text.specs.Line.{Line}
@@ -77,8 +79,18 @@ place L.End = 0
 place (L.Refused n k) = k
 
 -- ---- a call's result as such an answer
+-- the number of what is wrong with a line: the lines' own three, document 01's of a table, and 11 of a curve
+abbrev pub fault_number : Fault → ℕ
+fault_number F.Missing = missing
+fault_number F.Malformed = malformed
+fault_number F.OutOfRange = out_of_range
+fault_number F.Exceeding = 4
+fault_number F.Repeated = 5
+fault_number F.Impossible = 6
+fault_number F.Disorderly = 11
+
 abbrev pub refused : LineRefusal → Line
-refused r = L.Refused r.number r.line
+refused r = L.Refused (fault_number r.fault) r.line
 
 -- of a line with a number
 abbrev pub told : Result Number LineRefusal → Line

@@ -8,7 +8,7 @@ ghost use Rattle.std.specs.Prelude.{◌≡◌, false, ◌&&◌, length, ◌==◌
 ghost use Rattle.basics.specs.Basics.{is_in};
 ghost use Rattle.text.specs.Text.{line_feed};
 ghost use Rattle.text.specs.Lines.{line_of, begins, number_of};
-ghost use Rattle.text.specs.Lines.{line_at, end_at, refused, told, told_end};
+ghost use Rattle.text.specs.Lines.{line_at, end_at, fault_number, refused, told, told_end};
 ghost use Rattle.text.specs.inside.Fronts.{Fronts, unread};
 
 use basics::within;
@@ -21,20 +21,51 @@ pub struct Number {
     pub next: usize,
 }
 
-// Why a line is refused, by the refusal's number, and the line's own number.
-#[derive(Clone, Copy, PartialEq, Eq)]
+// What is wrong with a line. The first three any line may meet: there is no such line, no number in it, or none in its
+// range. The others a table's line may meet whose number is in its range: it is past another, a task's number was used
+// before, a rank names no task of the table or one that has been named, a point does not follow the one before it.
+#[derive(Clone, Copy, Debug, PartialEq, Eq)]
+pub enum Fault {
+    Missing,
+    Malformed,
+    OutOfRange,
+    Exceeding,
+    Repeated,
+    Impossible,
+    Disorderly,
+}
+
+impl Fault {
+    // The number of the refusal under which it is listed.
+    pub fn number(self) -> u8
+        ensures { result ≡ fault_number self }
+    {
+        match self {
+            Fault::Missing => 1,
+            Fault::Malformed => 2,
+            Fault::OutOfRange => 3,
+            Fault::Exceeding => 4,
+            Fault::Repeated => 5,
+            Fault::Impossible => 6,
+            Fault::Disorderly => 11,
+        }
+    }
+}
+
+// Why a line is refused, and the line's own number.
+#[derive(Clone, Copy, Debug, PartialEq, Eq)]
 pub struct LineRefusal {
-    pub number: u8,
+    pub fault: Fault,
     pub line: u32,
 }
 
-// The refusals that every line may meet: there is no such line, no number in it, or none in its range. Numbers and no
-// cases: the laws of a grammar are of any number that a test of its lines gives.
-const MISSING: u8 = 1;
-
-const MALFORMED: u8 = 2;
-
-const OUT_OF_RANGE: u8 = 3;
+// A place in a text where a line begins, and the line's number.
+#[derive(Clone, Copy)]
+pub struct Cursor<'a> {
+    pub text: &'a [u8],
+    pub offset: usize,
+    pub line: u32,
+}
 
 // The most digits of a number.
 const MAX_DIGITS: usize = 12;
@@ -107,39 +138,33 @@ fn goes_on(s: &[u8], line: u32) -> LineRefusal
 {
     if s.contains(&b'\n') {
         return LineRefusal {
-            number: MALFORMED,
+            fault: Fault::Malformed,
             line,
         };
     }
     LineRefusal {
-        number: MISSING,
+        fault: Fault::Missing,
         line,
     }
 }
 
-// The line that begins at an offset: a key, a number in its range, and a line feed. What is no longer than the key does
+// The line that begins at a place: a key, a number in its range, and a line feed. What is no longer than the key does
 // not hold it and a feed. As neither key nor digits have a feed, they are passed first, and it is sought only behind them.
 // Inlined, so that a line's key and range are constants where it is read.
 #[inline(always)]
-pub fn line_at(
-    text: &[u8],
-    offset: usize,
-    line: u32,
-    key: &[u8],
-    low: u64,
-    high: u64,
-) -> Result<Number, LineRefusal>
+pub fn line_at(at: Cursor, key: &[u8], low: u64, high: u64) -> Result<Number, LineRefusal>
     requires { is_in line_feed key.now ≡ false }
-    ensures { told result ≡ line_at key.now low high text.now offset line }
+    ensures { told result ≡ line_at key.now low high at.entry.text.now at.entry.offset at.entry.line }
 {
+    let line = at.line;
     let missing = LineRefusal {
-        number: MISSING,
+        fault: Fault::Missing,
         line,
     };
-    if text.len() < offset {
+    if at.text.len() < at.offset {
         return Err(missing);
     }
-    let rest = &text[offset..];
+    let rest = &at.text[at.offset..];
     if rest.len() <= key.len() {
         return Err(missing);
     }
@@ -153,28 +178,28 @@ pub fn line_at(
     }
     let Some(value) = number_of(tail, front) else {
         return Err(LineRefusal {
-            number: MALFORMED,
+            fault: Fault::Malformed,
             line,
         });
     };
     if !within(low, high, value) {
         return Err(LineRefusal {
-            number: OUT_OF_RANGE,
+            fault: Fault::OutOfRange,
             line,
         });
     }
-    let next = offset + key.len() + front.size + 1;
+    let next = at.offset + key.len() + front.size + 1;
     Ok(Number { value, next })
 }
 
 // The end of the text, where nothing is expected.
-pub fn end_at(text: &[u8], offset: usize, line: u32) -> Result<(), LineRefusal>
-    ensures { told_end result ≡ end_at text.now offset line }
+pub fn end_at(at: Cursor) -> Result<(), LineRefusal>
+    ensures { told_end result ≡ end_at at.entry.text.now at.entry.offset at.entry.line }
 {
-    if offset < text.len() {
+    if at.offset < at.text.len() {
         return Err(LineRefusal {
-            number: MISSING,
-            line,
+            fault: Fault::Missing,
+            line: at.line,
         });
     }
     Ok(())

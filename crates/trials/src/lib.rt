@@ -17,6 +17,6 @@ pub use dice::Dice;
 pub use generator::any_table;
 pub use permutations::{Found, Order, first_stable};
 pub use questions::{Answer, Question, Refusal};
-pub use runs::{Finishes, Lengths, run};
+pub use runs::{Finishes, Lengths, Run};
 pub use tables::{Late, Margins, ROWS, Row, Table};
 pub use texts::{SPACE, Text, print};

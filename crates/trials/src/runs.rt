@@ -137,25 +137,35 @@ fn seated(rows: &[Row], spread: u16, dice: &mut Dice) -> [Seat; ROWS]
     seats
 }
 
-// A run of the rows of a plan, highest rank first. It ends at the first job that is past its worst line.
-pub fn run(ranked: &Table, ticks: u32, spread: u16, lengths: Lengths, dice: &mut Dice) -> Finishes {
-    let rows = ranked.rows();
-    let mut seats = seated(rows, spread, dice);
-    let seats = &mut seats[..rows.len()];
-    let mut shown = Finishes::default();
-    for t in 0..ticks {
-        let t = u64::from(t);
-        for seat in seats.iter_mut() {
-            seat.release(t, lengths, dice);
+// How long a run is, how far apart its first releases may be, and how long its jobs are.
+#[derive(Clone, Copy)]
+pub struct Run {
+    pub ticks: u32,
+    pub spread: u16,
+    pub lengths: Lengths,
+}
+
+impl Run {
+    // The rows of a plan, highest rank first, run on a board. It ends at the first job that is past its worst line.
+    pub fn on_board(self, ranked: &Table, dice: &mut Dice) -> Finishes {
+        let rows = ranked.rows();
+        let mut seats = seated(rows, self.spread, dice);
+        let seats = &mut seats[..rows.len()];
+        let mut shown = Finishes::default();
+        for t in 0..self.ticks {
+            let t = u64::from(t);
+            for seat in seats.iter_mut() {
+                seat.release(t, self.lengths, dice);
+            }
+            // The open job of highest rank.
+            if let Some(seat) = seats.iter_mut().find(|seat| seat.job.is_some()) {
+                shown += seat.serve(t + 1);
+            }
+            if seats.iter().any(|seat| seat.overdue(t + 1)) {
+                count_if(&mut shown.broken, true);
+                break;
+            }
         }
-        // The open job of highest rank.
-        if let Some(seat) = seats.iter_mut().find(|seat| seat.job.is_some()) {
-            shown += seat.serve(t + 1);
-        }
-        if seats.iter().any(|seat| seat.overdue(t + 1)) {
-            count_if(&mut shown.broken, true);
-            break;
-        }
+        shown
     }
-    shown
 }

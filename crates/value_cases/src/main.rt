@@ -5,7 +5,7 @@
 
 ghost use Rattle.std.specs.Prelude.{◌≡◌, true, ◌≤◌};
 ghost use Rattle.rows.specs.Rows.{max_ticks, max_switch};
-ghost use Rattle.fixed_points.specs.inside.Loads.{base_max};
+ghost use Rattle.fixed_points.specs.inside.Loads.{base_max, Loads};
 ghost use Rattle.value_cases.specs.Loads.{in_range};
 
 use analysis::blocking_time;
@@ -14,6 +14,9 @@ use responses::Load;
 use rows::Row;
 
 const STDOUT: i32 = 1;
+
+// So many that no sum of the search overflows.
+const MOST_TASKS: usize = 64;
 
 fn in_range(task: Load) -> bool
     ensures { result ≡ in_range task }
@@ -49,37 +52,36 @@ fn print_search(base: u64, limit: u64, tasks: Tasks)
     io::write_all(STDOUT, b"\n");
 }
 
-// The same for a task over a largest hold, below the first n of two tasks.
-fn print_between(task: Load, hold: u64, first: Load, second: Load, n: usize)
-    requires { (in_range task ≡ true) × (in_range first ≡ true) × (in_range second ≡ true)
-        × (hold ≤ max_ticks) × (n ≤ 2) }
+// Whether some tasks are few, and each in range.
+fn all_in_range(tasks: &[Load]) -> bool
+    ensures { result ≡ true → Loads tasks.now }
 {
-    let tasks = [first, second];
-    let tasks = Tasks { loads: &tasks[..n] };
-    let own = task.cost + blocking_time(hold);
-    print_search(own, task.period, tasks);
+    if MOST_TASKS < tasks.len() {
+        return false;
+    }
+    for task in tasks {
+        if !in_range(*task) {
+            return false;
+        }
+    }
+    true
 }
 
-// A line of its own for a task. Nothing is printed of tasks out of range.
-fn show(name: &[u8], task: Load, hold: u64, first: Load, second: Load, n: usize) {
+// A line of its own for a task over a largest hold, below some tasks. Nothing is printed of tasks out of range.
+fn show(name: &[u8], task: Load, hold: u64, above: &[Load]) {
     if !in_range(task) {
         return;
     }
-    if !in_range(first) {
-        return;
-    }
-    if !in_range(second) {
+    if !all_in_range(above) {
         return;
     }
     if Row::HOLD_MAX < hold {
         return;
     }
-    if 2 < n {
-        return;
-    }
     io::write_all(STDOUT, name);
     io::write_all(STDOUT, b": ");
-    print_between(task, hold, first, second, n);
+    let own = task.cost + blocking_time(hold);
+    print_search(own, task.period, Tasks { loads: above });
 }
 
 // A task of a table with some switch.
@@ -90,67 +92,91 @@ fn task(period: u64, worst: u64, switch: u64) -> Load
     Load { period, cost }
 }
 
-// Document 01's task 13, with some period, over a largest hold and below the first n of tasks 11 and 12.
-fn show_13(name: &[u8], period: u64, hold: u64, switch: u64, n: usize)
-    requires { switch ≤ max_switch }
+// What is around document 01's task 13: its period, the largest hold below it, its board's switch, and how many of tasks
+// 11 and 12 are above it.
+#[derive(Clone, Copy)]
+struct Around {
+    period: u64,
+    hold: u64,
+    switch: u64,
+    above: usize,
+}
+
+// As it is in document 01.
+const USUAL: Around = Around {
+    period: 200,
+    hold: 0,
+    switch: 0,
+    above: 2,
+};
+
+// Task 13.
+fn show_13(name: &[u8], x: Around)
+    requires { (x.switch ≤ max_switch) × (x.above ≤ 2) }
 {
-    let upper = task(24, 6, switch);
-    let lower = task(18, 2, switch);
-    show(name, task(period, 19, switch), hold, upper, lower, n);
+    let above = [task(24, 6, x.switch), task(18, 2, x.switch)];
+    show(
+        name,
+        task(x.period, 19, x.switch),
+        x.hold,
+        &above[..x.above],
+    );
 }
 
 fn main() {
-    show_13(b"task 13 below 11 and 12", 200, 0, 0, 2);
-    show_13(b"below 11", 200, 0, 0, 1);
-    show_13(b"with nothing above", 200, 0, 0, 0);
-    show_13(b"over a hold of 1", 200, 1, 0, 2);
-    show_13(b"over a hold of 3", 200, 3, 0, 2);
-    show_13(b"under a switch of 1", 200, 0, 1, 2);
-    show_13(b"over a hold of 3 and under a switch of 1", 200, 3, 1, 2);
-    show_13(b"with a period of 35", 35, 0, 0, 2);
-    show_13(b"with a period of 34", 34, 0, 0, 2);
-    show_13(b"with a period of 27", 27, 0, 0, 2);
-    show_13(b"with a period of 26", 26, 0, 0, 2);
-    let no_task = task(1, 1, 0);
-    show(
-        b"task 12 below 13",
-        task(18, 2, 0),
-        0,
-        task(200, 19, 0),
-        no_task,
-        1,
+    show_13(b"task 13 below 11 and 12", USUAL);
+    show_13(b"below 11", Around { above: 1, ..USUAL });
+    show_13(b"with nothing above", Around { above: 0, ..USUAL });
+    show_13(b"over a hold of 1", Around { hold: 1, ..USUAL });
+    show_13(b"over a hold of 3", Around { hold: 3, ..USUAL });
+    show_13(b"under a switch of 1", Around { switch: 1, ..USUAL });
+    show_13(
+        b"over a hold of 3 and under a switch of 1",
+        Around {
+            hold: 3,
+            switch: 1,
+            ..USUAL
+        },
     );
-    show(
-        b"task 12 below 11",
-        task(18, 2, 0),
-        0,
-        task(24, 6, 0),
-        no_task,
-        1,
+    show_13(
+        b"with a period of 35",
+        Around {
+            period: 35,
+            ..USUAL
+        },
     );
+    show_13(
+        b"with a period of 34",
+        Around {
+            period: 34,
+            ..USUAL
+        },
+    );
+    show_13(
+        b"with a period of 27",
+        Around {
+            period: 27,
+            ..USUAL
+        },
+    );
+    show_13(
+        b"with a period of 26",
+        Around {
+            period: 26,
+            ..USUAL
+        },
+    );
+    let task_11 = task(24, 6, 0);
+    let task_13 = task(200, 19, 0);
+    show(b"task 12 below 13", task(18, 2, 0), 0, &[task_13]);
+    show(b"task 12 below 11", task(18, 2, 0), 0, &[task_11]);
     show(
         b"two solutions, 2 and 3",
         task(10, 1, 0),
         0,
-        task(2, 1, 0),
-        no_task,
-        1,
+        &[task(2, 1, 0)],
     );
-    show(b"no solution", task(5, 1, 0), 0, task(2, 2, 0), no_task, 1);
-    show(
-        b"its own time is its period",
-        task(10, 10, 0),
-        0,
-        no_task,
-        no_task,
-        0,
-    );
-    show(
-        b"and a hold of 2 blocks it",
-        task(10, 10, 0),
-        2,
-        no_task,
-        no_task,
-        0,
-    );
+    show(b"no solution", task(5, 1, 0), 0, &[task(2, 2, 0)]);
+    show(b"its own time is its period", task(10, 10, 0), 0, &[]);
+    show(b"and a hold of 2 blocks it", task(10, 10, 0), 2, &[]);
 }

@@ -14,7 +14,7 @@ use borrow.Author.Tests.{eqb-true, eq-eqb}
 use Rattle.basics.specs.Basics.{within, is_in}
 use Rattle.basics.proofs.Tests.{test_of, true_not_false, within_true, true_within}
 use Rattle.text.specs.Text.{bytes, line_feed}
-use Rattle.text.specs.Lines.{line_at}
+use Rattle.text.specs.Lines.{fault_number, line_at}
 use Rattle.text.proofs.Lines as T
 use Rattle.std.specs.Prelude.{Result, Ok, Err, MatchResult}
 use Rattle.text.specs.Line.{Line}
@@ -96,14 +96,14 @@ module _ (text : List ℕ) (s : Stage) (at k : ℕ) (e : LineRefusal) where
       → Refuses (on_fault watch_text (first s) z next k n) e
   stopped_by z next zero is = not_both (sym is)
   stopped_by z next (suc n) is =
-      let number_is : suc n ≡ e.number = cc in
+      let number_is : suc n ≡ fault_number e.fault = cc in
       let line_is : k ≡ e.line = cc in
       ap₂ (λ m j. stops (refused m j)) number_is line_is
 
   stopped_at : (a : Told) → Refuses (on_told (table true) s k a) e → Refuses (on_told watch_text (first s) k a) e
   stopped_at (number z next) is = stopped_by z next ((table true).fault s z) is
   stopped_at (no_number n) is =
-      let number_is : n ≡ e.number = cc in
+      let number_is : n ≡ fault_number e.fault = cc in
       let line_is : k ≡ e.line = cc in
       ap₂ (λ m j. stops (refused m j)) number_is line_is
 
@@ -276,7 +276,7 @@ module _ (text : List ℕ) where
     front_turn q ms t = Loops.turn here (q, ms) t
 
     pub front_stop : (e : LineRefusal) (ms : List ℕ) → TakesUnheld p text ns (Err e) ms
-        → read watch_text watch_start text ≡ refused e.number e.line
+        → read watch_text watch_start text ≡ refused (fault_number e.fault) e.line
     front_stop e ms t = Loops.refused_at here e t
 
     -- ---- behind its last line

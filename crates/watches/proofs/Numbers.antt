@@ -12,7 +12,7 @@ use lib.ListN.{length, get_or, take, set, length-append, length-set, get_or-appe
 use lib.Seq.{take-suc-set, take_all, length-take-le, get_or_at}
 use Rattle.basics.proofs.Tests.{le-or-lt, Within}
 use Rattle.std.specs.Prelude.{Ok, Err}
-use Rattle.text.specs.Lines.{line_at, told}
+use Rattle.text.specs.Lines.{fault_number, line_at, told}
 use Rattle.text.specs.Lines as Lines
 use Rattle.text.specs.Line.{Line}
 use Rattle.text.specs.Line as L
@@ -47,7 +47,7 @@ module _ {S : Type 0} (g : Grammar S) (text : List ℕ) (s : S) (at k : ℕ) (ke
       → read_from g text s at k ≡ read_from g text (g.after s (pos v)) next (suc k)
   line_number v next e = by_answer ∙ ap (λ l. on_step (on_answer g s k l) (read_from g text)) e
 
-  pub line_refused : (e : LineRefusal) → answer ≡ Lines.refused e → read_from g text s at k ≡ refused e.number e.line
+  pub line_refused : (e : LineRefusal) → answer ≡ Lines.refused e → read_from g text s at k ≡ refused (fault_number e.fault) e.line
   line_refused e is = by_answer ∙ ap (λ l. on_step (on_answer g s k l) (read_from g text)) is
 
 -- ---- lines of one key
@@ -86,7 +86,7 @@ module _ (text key : List ℕ) (low high : ℕ → ℕ) where
         ∙ ap (read_from g text (stage (vs ++ (v ∷ []))) next) (sym line)))
 
     pub stopped_refused : {at k m : ℕ} (e : LineRefusal) → m ≤ n → Stopped text key low high at k m (Lines.refused e)
-        → read_from g text (stage []) at k ≡ refused e.number e.line
+        → read_from g text (stage []) at k ≡ refused (fault_number e.fault) e.line
     stopped_refused {k = k} e few s =
         let vs = s.numbers in
         let short : length vs < n = omega (arith, s.fewer) in

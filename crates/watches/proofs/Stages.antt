@@ -9,7 +9,7 @@ use lib.ListN.{length, get_or, take, replicate}
 use borrow.Author.Tests.{eq-eqb, ne_eqb}
 use Rattle.std.specs.Prelude.{Ok, Err}
 use Rattle.text.specs.Text.{bytes}
-use Rattle.text.specs.Lines.{line_at, end_at, told, told_end}
+use Rattle.text.specs.Lines.{fault_number, line_at, end_at, told, told_end}
 use Rattle.text.specs.Lines as Lines
 use Rattle.text.specs.declared.LineRefusal.{LineRefusal}
 use Rattle.text.specs.declared.Number.{Number}
@@ -41,9 +41,9 @@ use Rattle.watches.proofs.Numbers.{line_number, line_refused, told_within, told_
 use Rattle.watches.proofs.Laid.{order, offset, period_max, few_ranks, some_ranks, rank_of, released}
 
 -- ---- a refused text is the call's refusal
-pub refused_text : (text o : List ℕ) (e : LineRefusal) → read watch_text watch_start text ≡ refused e.number e.line
-    → Written (watched text (length o)) o o (Err (R.Line e.number e.line))
-refused_text text o e is = stays (watched_is text (length o) (refused e.number e.line) is) (refl, refl)
+pub refused_text : (text o : List ℕ) (e : LineRefusal) → read watch_text watch_start text ≡ refused (fault_number e.fault) e.line
+    → Written (watched text (length o)) o o (Err (R.Line e))
+refused_text text o e is = stays (watched_is text (length o) (refused (fault_number e.fault) e.line) is) (refl, refl)
 
 -- ---- first releases
 pub zeros : (n k m : ℕ) → get_or {A = ℕ} (take n (replicate k 0)) m 0 ≡ 0
@@ -87,7 +87,7 @@ module _ (text : List ℕ) (at k : ℕ) (ns : List ℕ) (n : ℕ) (a : AtRelease
     goes vs l v = rw (still vs l)
 
     pub releases_refused : (e : LineRefusal) {m : ℕ} → m ≡ n → Stopped text key low high at k m (Lines.refused e)
-        → read watch_text watch_start text ≡ refused e.number e.line
+        → read watch_text watch_start text ≡ refused (fault_number e.fault) e.line
     releases_refused e same r =
         a.resumes
         ∙ stopped_refused text key low high watch_text (λ xs. behind a.front (releases_stage total xs)) total expects lets
@@ -108,7 +108,7 @@ module _ (text : List ℕ) (at k : ℕ) (ns : List ℕ) (n : ℕ) (a : AtRelease
 -- ---- the ticks, and how many lengths
 module _ {text : List ℕ} {at k : ℕ} {x : Ranking} (a : AtTicks text at k x) where
   pub ticks_refused : (e : LineRefusal) → told (Err e) ≡ line_at (bytes "ticks=") min_ticks max_ticks text at k
-      → read watch_text watch_start text ≡ refused e.number e.line
+      → read watch_text watch_start text ≡ refused (fault_number e.fault) e.line
   ticks_refused e is =
       a.resumes
       ∙ line_refused watch_text text (behind a.front (at_ticks a.releases)) at k (bytes "ticks=") min_ticks
@@ -130,7 +130,7 @@ module _ {text : List ℕ} {at k : ℕ} {x : Ranking} (a : AtTicks text at k x) 
 
     pub count_refused : (e : LineRefusal)
         → told (Err e) ≡ line_at (bytes "lengths=") min_lengths max_lengths text ticks.next (k + 1)
-        → read watch_text watch_start text ≡ refused e.number e.line
+        → read watch_text watch_start text ≡ refused (fault_number e.fault) e.line
     count_refused e is =
         at_count
         ∙ line_refused watch_text text (behind a.front (at_lengths a.releases ticks.value)) ticks.next (k + 1)
@@ -144,9 +144,8 @@ module _ {text : List ℕ} {at k : ℕ} {x : Ranking} (a : AtTicks text at k x) 
           (number_within (λ x. 0) (bytes "lengths=") min_lengths max_lengths text ticks.next (k + 1) count.value count.next
           said).le_high
 
-      pub at_lengths_then : (owners lengths : List ℕ) → length owners ≡ count.value → length lengths ≡ count.value
-          → AtLengths text count.next (k + 2) x ticks.value owners lengths
-      at_lengths_then owners lengths many_owners many = record {
+      pub at_lengths_then : AtLengths text count.next (k + 2) x ticks.value count.value
+      at_lengths_then = record {
         front = a.front;
         releases = a.releases;
         laid = a.laid;
@@ -154,37 +153,37 @@ module _ {text : List ℕ} {at k : ℕ} {x : Ranking} (a : AtTicks text at k x) 
             at_count
             ∙ (line_number watch_text text (behind a.front (at_lengths a.releases ticks.value)) ticks.next (k + 1)
             (bytes "lengths=") min_lengths max_lengths refl (λ z. refl) count.value count.next (sym c)
-            ∙ ap₂ (λ c j. read_from watch_text text (behind a.front (lengths_stage c a.releases ticks.value [])) count.next j)
-            (sym many) (omega arith));
+            ∙ ap (read_from watch_text text (behind a.front (lengths_stage count.value a.releases ticks.value [])) count.next)
+            next_line);
         soon = omega (arith, a.soon);
         few_ticks = few_ticks;
-        few = omega (arith, count_small, many);
-        as_many = many_owners ∙ sym many;
-      }
+        few = count_small;
+      } where
+        next_line : suc (k + 1) ≡ k + 2
+        next_line = omega arith
 
 -- ---- the lengths
-module _ {text : List ℕ} {at k : ℕ} {x : Ranking} {ticks : ℕ} {owners₀ lengths₀ : List ℕ}
-    (a : AtLengths text at k x ticks owners₀ lengths₀) where
+module _ {text : List ℕ} {at k : ℕ} {x : Ranking} {ticks count : ℕ} (a : AtLengths text at k x ticks count) where
   abbrev laid : LaidBy a.front a.releases x
   laid = a.laid
 
-  pub mergeable : Mergeable owners₀ x.ranks.now
-  mergeable = record {
+  pub mergeable : {owners : List ℕ} → length owners ≡ count → Mergeable owners x.ranks.now
+  mergeable many = record {
     some = some_ranks laid;
-    few = omega (arith, a.as_many, a.few);
+    few = omega (arith, many, a.few);
     few_ranks = few_ranks laid;
     offset_max = λ j h. laid.offset_max j (omega (arith, laid.ranks_many));
     period_max = period_max laid;
   }
 
-  module _ {owners : List ℕ} (owns : Owns owners x.ranks.now) (many_owners : length owners ≡ length owners₀) where
+  module _ {owners : List ℕ} (owns : Owns owners x.ranks.now) (many_owners : length owners ≡ count) where
     pub owned : Owned (order laid) (offset laid) owners
     owned = owns.owned (order laid) (offset laid) (released laid)
 
-    pub readable : Readable k x.ranges.now owners lengths₀
-    readable = record {
-      soon = omega (arith, a.soon, a.few);
-      as_many = many_owners ∙ a.as_many;
+    pub readable : {lengths : List ℕ} → length lengths ≡ count → Readable k x.ranges.now owners lengths
+    readable many = record {
+      soon = omega (arith, a.soon, a.few, many);
+      as_many = many_owners ∙ sym many;
       owned = λ m l. omega (arith, owns.within m l, laid.ranks_many, laid.ranges_many);
     }
 
@@ -195,23 +194,23 @@ module _ {text : List ℕ} {at k : ℕ} {x : Ranking} {ticks : ℕ} {owners₀ l
     most = high_of x.ranges.now owners
 
     abbrev stage : List ℕ → WatchStage
-    stage vs = behind a.front (lengths_stage (length lengths₀) a.releases ticks vs)
+    stage vs = behind a.front (lengths_stage count a.releases ticks vs)
 
-    open_still : (vs : List ℕ) → length vs < length lengths₀
-        → lengths_stage (length lengths₀) a.releases ticks vs ≡ at_length (length lengths₀) a.releases ticks vs
-    open_still vs l = rw (ne_eqb (length vs) (length lengths₀) (λ e. omega arith))
+    open_still : (vs : List ℕ) → length vs < count
+        → lengths_stage count a.releases ticks vs ≡ at_length count a.releases ticks vs
+    open_still vs l = rw (ne_eqb (length vs) count (λ e. omega arith))
 
     -- the range of a length is that of its own job's row
-    is_in_range : (m : ℕ) → m < length lengths₀
+    is_in_range : (m : ℕ) → m < count
         → let r = row_at (order laid) (rank_with (order laid) (offset laid) m) in
         (best m ≡ r.best) × (most m ≡ cost r)
     is_in_range m l =
-        let here : m < length owners = omega (arith, many_owners, a.as_many) in
+        let here : m < length owners = omega (arith, many_owners) in
         let rank = rank_of laid (get_or owners m 0) (owns.within m here) in
         let row = ap (row_at (order laid)) (owned m here) in
         (rank.low_is ∙ ap (λ (r : Row). r.best) row, rank.high_is ∙ ap cost row)
 
-    expects_length : (vs : List ℕ) → length vs < length lengths₀
+    expects_length : (vs : List ℕ) → length vs < count
         → watch_text.expected (stage vs)
         ≡ a_line (bytes "length=") (natural (best (length vs)) (most (length vs)))
     expects_length vs l =
@@ -219,30 +218,30 @@ module _ {text : List ℕ} {at k : ℕ} {x : Ranking} {ticks : ℕ} {owners₀ l
         ap (λ s. watch_text.expected (behind a.front s)) (open_still vs l)
         ∙ ap₂ (λ x y. a_line (bytes "length=") (natural x y)) (sym w.0) (sym w.1)
 
-    goes_length : (vs : List ℕ) → length vs < length lengths₀ → (v : ℕ)
+    goes_length : (vs : List ℕ) → length vs < count → (v : ℕ)
         → watch_text.after (stage vs) (pos v) ≡ stage (vs ++ (v ∷ []))
     goes_length vs l v = ap (λ s. watch_text.after (behind a.front s) (pos v)) (open_still vs l)
 
-    pub lengths_refused : (e : LineRefusal) → {n : ℕ} → n ≡ length lengths₀
+    pub lengths_refused : (e : LineRefusal) → {n : ℕ} → n ≡ count
         → Stopped text (bytes "length=") best most at k n (Lines.refused e)
-        → read watch_text watch_start text ≡ refused e.number e.line
+        → read watch_text watch_start text ≡ refused (fault_number e.fault) e.line
     lengths_refused e same r =
         a.resumes
         ∙ stopped_refused text (bytes "length=") best most watch_text stage
-        (length lengths₀) expects_length (λ xs l z. refl) goes_length e (omega (arith, same)) r
+        count expects_length (λ xs l z. refl) goes_length e (omega (arith, same)) r
 
-    module _ {vs : List ℕ} (many : length vs ≡ length lengths₀) {next : ℕ}
+    module _ {vs : List ℕ} (many : length vs ≡ count) {next : ℕ}
         (said : Told text (bytes "length=") best most at k vs next) where
       abbrev last : WatchStage
       last = behind a.front (run_end a.releases ticks vs)
 
       at_last : Resumes text last next (k + length vs)
       at_last =
-          let all : lengths_stage (length lengths₀) a.releases ticks vs ≡ run_end a.releases ticks vs =
-          rw (eq-eqb (length vs) (length lengths₀) many) in
+          let all : lengths_stage count a.releases ticks vs ≡ run_end a.releases ticks vs =
+          rw (eq-eqb (length vs) count many) in
           a.resumes
           ∙ (told_resumes text (bytes "length=") best most watch_text stage
-          (length lengths₀) expects_length (λ xs l z. refl) goes_length said (omega (arith, many))
+          count expects_length (λ xs l z. refl) goes_length said (omega (arith, many))
           ∙ ap (λ s. read_from watch_text text (behind a.front s) next (k + length vs)) all)
 
       by_end : (l : Line) → l ≡ end_at text next (k + length vs)
@@ -256,7 +255,7 @@ module _ {text : List ℕ} {at k : ℕ} {x : Ranking} {ticks : ℕ} {owners₀ l
           ∙ ap (on_answer watch_text last (k + length vs)) (sym (no_test _ _) ∙ sym e)))
 
       pub end_refused : (e : LineRefusal) → told_end (Err e) ≡ end_at text next (k + length vs)
-          → read watch_text watch_start text ≡ refused e.number e.line
+          → read watch_text watch_start text ≡ refused (fault_number e.fault) e.line
       end_refused e is = by_end (told_end (Err e)) is
 
       pub whole : {u : Unit {0}} → told_end (Ok u) ≡ end_at text next (k + length vs) → (room : ℕ)

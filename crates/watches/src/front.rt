@@ -25,7 +25,7 @@ fn take_unheld(text: &[u8], before: Progress, numbers: &mut [u64]) -> Result<Pro
     ensures { TakesUnheld before text.now numbers.old result numbers.new }
 {
     if at_hold(before.stand) {
-        line_at(text, before.offset, before.line, b"hold=", NO_HOLD, NO_HOLD)?;
+        line_at(before.cursor(text), b"hold=", NO_HOLD, NO_HOLD)?;
     }
     next_line(text, before, numbers)
 }

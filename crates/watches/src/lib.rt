@@ -11,13 +11,13 @@ ghost use Rattle.watch_demands.specs.Demands.{WatchSays};
 ghost use Rattle.watches.specs.inside.Stages.{AtReleases, Laid, AtTicks, AtLengths, RunsLaid};
 
 use front::read_front;
-use lines::{Range, read_numbers};
+use lines::{Lines, Range, read_numbers};
 use plan_orders::{OrderInLimits, late_rank, printed};
 use plans::Refusal;
 use ranking::{Ranking, fill_ranks, place_ranks};
 use readers::{HEAD, MOST_NUMBERS, Progress};
 use rows::{LentOrder, MAX_TASKS, rows_from};
-use text::{end_at, line_at};
+use text::{Cursor, end_at, line_at};
 use watch_runs::{Board, Rank, fill_owners, run_order};
 
 // front.rt: the table. lines.rt: lines of one key. ranking.rt: the table's order.
@@ -51,85 +51,82 @@ pub fn buffer() -> [u8; WATCH_ROOM]
     [0; WATCH_ROOM]
 }
 
-// What the run of an order comes to: refused with its first late rank, or the lines of the jobs that it finishes.
-fn watch_run(
-    out: &mut [u8],
-    order: &Ranking,
+// How long a run is, and how many lengths it has.
+#[derive(Clone, Copy)]
+struct Extent {
     ticks: u64,
-    owners: &[usize],
-    lengths: &[u64],
-) -> Result<usize, Refusal>
+    lengths: usize,
+}
+
+// What the run of an order comes to: refused with its first late rank, or the lines of the jobs that it finishes.
+fn watch_run(out: &mut [u8], order: &Ranking, ticks: u64, board: &Board) -> Result<usize, Refusal>
     requires laid { Laid order.now }
+    requires ranks { board.now.ranks.now ≡ order.now.ranks.now }
     requires few_ticks { ticks ≤ max_ticks }
-    ensures { RunsLaid order.now ticks owners.now lengths.now out.old out.new result }
+    ensures { RunsLaid order.now ticks board.now.owners.now board.now.lengths.now out.old out.new result }
 {
     if let Some(rank) = late_rank(order.rows) {
         return Err(Refusal::Late { rank });
     }
+    run_order(out, ticks, board)
+}
+
+// The lengths, each in the range of its own job's row, and the end of the text; and then the run.
+fn watch_lengths(
+    from: Cursor,
+    out: &mut [u8],
+    order: &Ranking,
+    run: Extent,
+) -> Result<usize, Refusal>
+    requires { AtLengths from.text.now from.offset from.line order.now run.ticks run.lengths }
+    ensures { Written (watched from.entry.text.now (length out.old)) out.old out.new result }
+{
+    let mut owners = [0usize; MAX_LENGTHS];
+    let owners = &mut owners[..run.lengths];
+    fill_owners(owners, order.ranks);
+    let mut lengths = [0u64; MAX_LENGTHS];
+    let lengths = &mut lengths[..run.lengths];
+    let lines = Lines {
+        key: b"length=",
+        ranges: order.ranges,
+        owners,
+    };
+    let end = read_numbers(from, &lines, lengths)?;
+    end_at(Cursor {
+        text: from.text,
+        offset: end,
+        line: from.line + run.lengths as u32,
+    })?;
     let board = Board {
         ranks: order.ranks,
         owners,
         lengths,
     };
-    run_order(out, ticks, &board)
-}
-
-// The lengths, each in the range of its own job's row, and the end of the text; and then the run. There is room for as
-// many lengths as the text says, and for the rank of each.
-fn watch_lengths(
-    text: &[u8],
-    out: &mut [u8],
-    at: usize,
-    line: u32,
-    order: &Ranking,
-    ticks: u64,
-    owners: &mut [usize],
-    lengths: &mut [u64],
-) -> Result<usize, Refusal>
-    requires { AtLengths text.now at line order.now ticks owners.old lengths.old }
-    ensures { Written (watched text.now (length out.old)) out.old
-        out.new result }
-{
-    fill_owners(owners, order.ranks);
-    let next = read_numbers(text, at, line, b"length=", order.ranges, owners, lengths)?;
-    end_at(text, next, line + lengths.len() as u32)?;
-    watch_run(out, order, ticks, owners, lengths)
+    watch_run(out, order, run.ticks, &board)
 }
 
 // The ticks and the number of lengths, and what follows them.
-fn watch_order(
-    text: &[u8],
-    out: &mut [u8],
-    at: usize,
-    line: u32,
-    order: &Ranking,
-) -> Result<usize, Refusal>
-    requires { AtTicks text.now at line order.now }
-    ensures { Written (watched text.now (length out.old)) out.old
-        out.new result }
+fn watch_order(from: Cursor, out: &mut [u8], order: &Ranking) -> Result<usize, Refusal>
+    requires { AtTicks from.text.now from.offset from.line order.now }
+    ensures { Written (watched from.entry.text.now (length out.old)) out.old out.new result }
 {
-    let ticks = line_at(text, at, line, b"ticks=", TICKS_MIN, TICKS_MAX)?;
-    let count = line_at(
-        text,
-        ticks.next,
-        line + 1,
-        b"lengths=",
-        LENGTHS_MIN,
-        LENGTHS_MAX,
-    )?;
-    let many = count.value as usize;
-    let mut owners = [0usize; MAX_LENGTHS];
-    let mut lengths = [0u64; MAX_LENGTHS];
-    watch_lengths(
-        text,
-        out,
-        count.next,
-        line + 2,
-        order,
-        ticks.value,
-        &mut owners[..many],
-        &mut lengths[..many],
-    )
+    let ticks = line_at(from, b"ticks=", TICKS_MIN, TICKS_MAX)?;
+    let at_count = Cursor {
+        text: from.text,
+        offset: ticks.next,
+        line: from.line + 1,
+    };
+    let count = line_at(at_count, b"lengths=", LENGTHS_MIN, LENGTHS_MAX)?;
+    let at_lengths = Cursor {
+        text: from.text,
+        offset: count.next,
+        line: from.line + 2,
+    };
+    let run = Extent {
+        ticks: ticks.value,
+        lengths: count.value as usize,
+    };
+    watch_lengths(at_lengths, out, order, run)
 }
 
 // The first releases of a table's rows, and what follows them.
@@ -140,22 +137,18 @@ fn watch_table(
     numbers: &[u64],
 ) -> Result<usize, Refusal>
     requires { AtReleases text.now front.offset front.line numbers.now front.stand.count }
-    ensures { Written (watched text.now (length out.old)) out.old
-        out.new result }
+    ensures { Written (watched text.now (length out.old)) out.old out.new result }
 {
     let n = front.stand.count;
     let owners = [0usize; MAX_TASKS];
     let mut releases = [0u64; MAX_TASKS];
     let releases = &mut releases[..n];
-    let next = read_numbers(
-        text,
-        front.offset,
-        front.line,
-        b"release=",
-        &[RELEASES],
-        &owners[..n],
-        releases,
-    )?;
+    let lines = Lines {
+        key: b"release=",
+        ranges: &[RELEASES],
+        owners: &owners[..n],
+    };
+    let next = read_numbers(front.cursor(text), &lines, releases)?;
     let rows = rows_from(&numbers[HEAD..], n);
     let mut positions = [0usize; MAX_TASKS];
     let positions = &mut positions[..n];
@@ -172,7 +165,12 @@ fn watch_table(
         ranks,
         ranges,
     };
-    watch_order(text, out, next, front.line + n as u32, &order)
+    let at_ticks = Cursor {
+        text,
+        offset: next,
+        line: front.line + n as u32,
+    };
+    watch_order(at_ticks, out, &order)
 }
 
 // The watcher: the jobs that a board finishes, run as a text says. The lines are measured before they are written, so

@@ -4,7 +4,7 @@ ghost use Rattle.basics.specs.Basics.{is_in};
 ghost use Rattle.text.specs.Text.{line_feed};
 ghost use Rattle.watches.specs.inside.Lines.{low_of, high_of, ReadsNumbers, Readable};
 
-use text::{LineRefusal, line_at};
+use text::{Cursor, LineRefusal, line_at};
 
 // From which number to which.
 #[derive(Clone, Copy)]
@@ -18,27 +18,31 @@ impl Range {
     pub const NONE: Range = Range { low: 0, high: 0 };
 }
 
-// The numbers of the lines from an offset on, as many as there is room for, each within the range of its owner: the
-// offset after them.
-pub fn read_numbers(
-    text: &[u8],
-    offset: usize,
-    first: u32,
-    key: &[u8],
-    ranges: &[Range],
-    owners: &[usize],
-    numbers: &mut [u64],
-) -> Result<usize, LineRefusal>
-    requires key_value { is_in line_feed key.now ≡ false }
-    requires readable { Readable first ranges.now owners.now numbers.old }
-    ensures { ReadsNumbers text.now key.now
-        (low_of ranges.now owners.now) (high_of ranges.now owners.now)
-        offset first numbers.new result }
+// Lines with one key, each with the range of its number's owner.
+#[derive(Clone, Copy)]
+pub struct Lines<'a> {
+    pub key: &'a [u8],
+    pub ranges: &'a [Range],
+    pub owners: &'a [usize],
+}
+
+// The numbers of the lines from a place on, as many as there is room for: the offset after them.
+pub fn read_numbers(from: Cursor, lines: &Lines, numbers: &mut [u64]) -> Result<usize, LineRefusal>
+    requires key_value { is_in line_feed lines.now.key.now ≡ false }
+    requires readable { Readable from.line lines.now.ranges.now lines.now.owners.now numbers.old }
+    ensures { ReadsNumbers from.entry.text.now lines.now.key.now
+        (low_of lines.now.ranges.now lines.now.owners.now) (high_of lines.now.ranges.now lines.now.owners.now)
+        from.entry.offset from.entry.line numbers.new result }
 {
-    let mut at = offset;
+    let mut at = from.offset;
     for (m, number) in numbers.iter_mut().enumerate() {
-        let range = ranges[owners[m]];
-        let line = line_at(text, at, first + m as u32, key, range.low, range.high)?;
+        let range = lines.ranges[lines.owners[m]];
+        let here = Cursor {
+            text: from.text,
+            offset: at,
+            line: from.line + m as u32,
+        };
+        let line = line_at(here, lines.key, range.low, range.high)?;
         *number = line.value;
         at = line.next;
     }

@@ -8,8 +8,8 @@ ghost use Rattle.watches.specs.inside.Rankings.{Rankable, RanksAre};
 
 use super::lines::Range;
 use plan_orders::OrderInLimits;
-use readers::HEAD;
-use rows::{BEST, FIELDS, PERIOD, RowNumbers, TASK, cost, order_at, positions_for};
+use readers::given_order;
+use rows::{BEST, PERIOD, RowNumbers, TASK, cost, positions_for};
 use watch_runs::Rank;
 
 // The rows of a table's order, and its ranks, with the range of the lengths of each, which are lent later.
@@ -29,7 +29,7 @@ pub fn place_ranks(numbers: &[u64], rows: &[RowNumbers], positions: &mut [usize]
         ≡ positions_for (behind (length rows.now) (length rows.now) numbers.now) (table_of rows.now) }
 {
     let n = rows.len();
-    let order = order_at(numbers, HEAD + FIELDS * n, n);
+    let order = given_order(numbers, n);
     positions_for(&order.tasks[..n], rows, positions);
 }
 

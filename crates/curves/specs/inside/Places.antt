@@ -1,12 +1,17 @@
--- A promise between functions: where among the points of a curve a response lies.
-use Rattle.std.specs.Prelude.{ℕ, ◌*◌, ◌≤◌, ◌<◌, get_or, List}
+-- A promise between functions: where among the points of a curve, as they are lent, a response lies.
+use Rattle.std.specs.Prelude.{List, [], ℕ, ◌≤◌, ◌<◌, length, get_or}
+use Rattle.curves.specs.Curves.{Point, point_from}
+
+-- point i
+abbrev pub lent_point : List (List ℕ) → ℕ → Point
+lent_point points i = point_from (get_or points i [])
 
 -- e is past the delays of the first n points
-abbrev pub Passed : ℕ → List ℕ → ℕ → Type 0
-Passed n vs e = (k : ℕ) → k < n → get_or vs (2 * k) 0 < e
+abbrev pub Passed : ℕ → List (List ℕ) → ℕ → Type 0
+Passed n points e = (k : ℕ) → k < n → (lent_point points k).delay < e
 
--- r is the index of the first of n points whose delay e is not past
-pub record Reached (n : ℕ) (vs : List ℕ) (e r : ℕ) : Type 0 where
-  pub held : r < n
-  pub passed : Passed r vs e
-  pub reached : e ≤ get_or vs (2 * r) 0
+-- r is the index of the first point whose delay e is not past
+pub record Reached (points : List (List ℕ)) (e r : ℕ) : Type 0 where
+  pub held : r < length points
+  pub passed : Passed r points e
+  pub reached : e ≤ (lent_point points r).delay

@@ -1,6 +1,7 @@
 -- Promised between functions: code that reads a text by a grammar line by line, and what its state shows of the
 -- reading.
 use Rattle.std.specs.Prelude.{◌≡◌, ℕ}
+use Rattle.text.specs.Lines.{fault_number}
 use Rattle.text.specs.declared.LineRefusal.{LineRefusal}
 use Rattle.grammars.specs.Grammars.{refused, Step, goes_on, stops}
 
@@ -24,4 +25,4 @@ Takes r On (stops v) p = ⊥
 
 -- or the text is refused there
 abbrev pub Refuses : {S : Type 0} → Step S → LineRefusal → Type 0
-Refuses x e = x ≡ stops (refused e.number e.line)
+Refuses x e = x ≡ stops (refused (fault_number e.fault) e.line)

@@ -20,12 +20,12 @@ returns-in_err-n c =
     let p = err_from_is_err_and c.from_residual.result c.from_residual.ensures.1 in
     rw (p.1, p.2) (says c.args.text.now (turned_down c.in_err-n.ensures.answer _))
 
-pub order_at-order-requires-clause-task_numbers : goal.order_at-order-requires-clause-task_numbers
-order_at-order-requires-clause-task_numbers c = ranks_small c.in_ok-n.ensures.answer
+pub given_order-order-requires-clause-task_numbers : goal.given_order-order-requires-clause-task_numbers
+given_order-order-requires-clause-task_numbers c = ranks_small c.in_ok-n.ensures.answer
 
 pub returns : goal.returns
 returns c =
     let p = c.plan_tasks in
-    let is = given_plan c.in_ok-n.ensures.answer c.rows_from-rows.result.now c.rows_from-rows.ensures.table c.order_at-order.ensures
+    let is = given_plan c.in_ok-n.ensures.answer c.rows_from-rows.result.now c.rows_from-rows.ensures.table c.given_order-order.ensures
     (length c.args.out.now) in
     says c.args.text.now (subst (λ (x : Outcome). Written x c.args.out.now p.new.out p.result) is p.ensures)

@@ -39,12 +39,16 @@ pub returns-in_err-end_at : goal.returns-in_err-end_at
 returns-in_err-end_at c =
     let p = err_from_is_err_and c.from_residual-in_err-end_at.result c.from_residual-in_err-end_at.ensures.1 in
     let x = c.loop-numbers in
+    let e = c.cursor.ensures in
     rw (p.1, p.2)
     (of_lent x.invariant.same
-    (more_behind c.args.ranked x.reader.text.now x.invariant.standing (search rules) _ c.in_err-end_at.ensures))
+    (more_behind c.args.ranked x.reader.text.now x.invariant.standing (search rules) _
+    (rw (e.text, e.offset, e.line) at c.in_err-end_at.ensures)))
 
 pub returns : goal.returns
 returns c =
     let x = c.loop-numbers in
+    let e = c.cursor.ensures in
     of_lent x.invariant.same
-    (whole c.args.ranked x.reader.text.now x.invariant.standing (search rules) c.in_ok-end_at.ensures)
+    (whole c.args.ranked x.reader.text.now x.invariant.standing (search rules)
+    (rw (e.text, e.offset, e.line) at c.in_ok-end_at.ensures))

@@ -1,5 +1,6 @@
 -- Promised between functions: a table that was read, its numbers where the caller lent room for them.
 use Rattle.std.specs.Prelude.{◌≡◌, ◌≢◌, Bool, List, ℕ, ◌+◌, ◌≤◌, length, Result, MatchResult}
+use Rattle.text.specs.Lines.{fault_number}
 use Rattle.text.specs.declared.LineRefusal.{LineRefusal}
 use Rattle.tables.specs.TableLines.{read_table}
 use Rattle.tables.specs.Claims.{Read}
@@ -19,8 +20,8 @@ pub record Held (ranked : Bool) (text ns : List ℕ) (count : ℕ) : Type 0 wher
 
 -- a text that is refused
 pub record Refused (ranked : Bool) (text : List ℕ) (e : LineRefusal) : Type 0 where
-  pub some : e.number ≢ 0
-  pub refused_is : e.number ≡ (read_table ranked text).refused
+  pub some : fault_number e.fault ≢ 0
+  pub refused_is : fault_number e.fault ≡ (read_table ranked text).refused
   pub line_is : e.line ≡ (read_table ranked text).line
 
 -- the result is the definition's answer, and all that is claimed of that answer holds

@@ -1,5 +1,5 @@
 -- A promise between functions: rows as records, and records put among numbers.
-use Rattle.std.specs.Prelude.{◌≡◌, List, map, ℕ, ◌+◌, ◌*◌, ◌≤◌, ◌<◌, length, get_or, Option, Some, None}
+use Rattle.std.specs.Prelude.{◌≡◌, List, [], ◌∷◌, ◌++◌, map, ℕ, ◌*◌, ◌≤◌, ◌<◌, length, Option, Some, None}
 use Rattle.curves.specs.Curves.{max_points, points_from}
 use Rattle.basics.specs.Basics.{pick}
 use Rattle.rows.specs.declared.Row as Declared
@@ -11,6 +11,12 @@ abbrev pub as_row : Declared.Row → Row
 as_row r =
     row_with (points_from r.points r.curve) r.task r.period r.worst r.best r.alpha r.beta
     r.hold r.switch
+
+-- the numbers of a record, as they are lent: those of its lines before its points, those of its points, and its switch
+abbrev pub record_numbers : Declared.Row → List ℕ
+record_numbers r =
+    (r.task ∷ r.period ∷ r.worst ∷ r.best ∷ r.alpha ∷ r.beta ∷ r.hold ∷ r.points ∷ [])
+    ++ (r.curve ++ (r.switch ∷ []))
 
 -- a record of some numbers and a curve
 abbrev pub recorded : ℕ → ℕ → ℕ → ℕ → ℕ → ℕ → ℕ → ℕ → ℕ → List ℕ → Declared.Row
@@ -37,12 +43,6 @@ as_rows rs = map as_row rs
 -- room for the numbers of a table's rows
 abbrev pub numbers_room : ℕ
 numbers_room = field_count * max_tasks
-
--- the first n numbers of a curve stand from an index on, the others are as they were, and there are as many
-pub record CurvePut (ns : List ℕ) (at : ℕ) (curve : List ℕ) (n : ℕ) (ns' : List ℕ) : Type 0 where
-  pub there : at + n ≤ length ns → (k : ℕ) → k < n → get_or ns' (at + k) 0 ≡ get_or curve k 0
-  pub others : (j : ℕ) → ((k : ℕ) → k < n → j ≡ at + k → ⊥) → get_or ns' j 0 ≡ get_or ns j 0
-  pub long : length ns' ≡ length ns
 
 -- row i is r if there is room for it and its points are no more than the most; the others are as they were, and there
 -- are as many numbers

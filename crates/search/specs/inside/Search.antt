@@ -10,7 +10,7 @@ use Rattle.rows.specs.Rows.{Row}
 use Rattle.responses.specs.declared.Load.{Load}
 use Rattle.analysis.specs.inside.Above.{Filled}
 use Rattle.orders.specs.Orders.{Chosen}
-use Rattle.search.specs.inside.Sets.{members, fits, goes, Recorded}
+use Rattle.search.specs.inside.Sets.{members, fits, goes}
 use Rattle.orders.specs.Stability.{stable, chosen_order}
 
 -- rows that a table can have
@@ -22,17 +22,6 @@ pub record TableRows (table : List Row) : Type 0 where
 -- rows that are lent are such a table
 pub record Lent (rows : List (List ℕ)) : Type 0 where
   pub table : TableRows (table_of rows)
-
--- there is a place for the loads of each
-pub record Room (rows : List (List ℕ)) (worst best : List Load) : Type 0 where
-  pub worst_held : length rows ≤ length worst
-  pub best_held : length rows ≤ length best
-
--- the search is at set m, and what the record knows is so
-pub record Searching (rows : List (List ℕ)) (m : ℕ) (sets : List ℕ) : Type 0 where
-  pub lent : Lent rows
-  pub set : m < 2 ^ length rows
-  pub recorded : Recorded stable (table_of rows) sets
 
 -- the loads of a table's rows in set m stand at the front, and are counted
 pub record Gathered (table : List Row) (m : ℕ) (worst best : List Load) (count : ℕ) : Type 0 where

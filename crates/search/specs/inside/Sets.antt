@@ -3,7 +3,7 @@
 use Rattle.std.specs.Prelude.{◌≡◌, Bool, true, false, ◌&&◌, List, [], ◌∷◌, ◌++◌, ◌⊎◌, ℕ, ◌-◌, ◌/◌, ◌%◌, ◌^◌, ◌≤◌, ◌<◌, eqb, Option, Some, None, length, get_or}
 use Rattle.std.proofs.Math.Option as Maths
 use Rattle.std.proofs.Math.Option.{none, some}
-use Rattle.rows.specs.Rows.{max_buffer, row_at}
+use Rattle.rows.specs.Rows.{row_at}
 use Rattle.rows.specs.Rows.{Row}
 use Rattle.orders.specs.Orders.{ByLowest, over_set, the_order}
 
@@ -36,12 +36,6 @@ unknown = 254
 
 abbrev pub no_order : ℕ
 no_order = 255
-
--- a record with room for the sets of n rows, and no longer than a buffer may be, that has none of them yet
-pub record Fresh (n : ℕ) (sets : List ℕ) : Type 0 where
-  pub room : 2 ^ n ≤ length sets
-  pub short : length sets ≤ max_buffer
-  pub none_known : (m : ℕ) → m < 2 ^ n → get_or sets m 0 ≡ unknown
 
 module _ {A : Type 0} (known : ByLowest A) (test : Row → List Row → List Row → Bool) (table : List Row) where
   -- what is known of set m over the table's other rows

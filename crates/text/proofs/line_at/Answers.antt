@@ -5,25 +5,25 @@ use Rattle.text.proofs.Lines.{key_fits, other_missing, short_missing, unended_mi
 use Rattle.text.proofs.line_at.Goals as goal
 
 -- past the end of the text there is no line
-pub returns-then-text-offset : goal.returns-then-text-offset
-returns-then-text-offset c =
+pub returns-then-at : goal.returns-then-at
+returns-then-at c =
     let a = c.args in
-    sym (unended_missing a.key.now c.requires a.low a.high a.text.now a.offset a.line
-    [] (sym (drop_of_length-le a.text.now {i = a.offset} (omega arith))) [] []
+    sym (unended_missing a.key.now c.requires a.low a.high a.at.text.now a.at.offset a.at.line
+    [] (sym (drop_of_length-le a.at.text.now {i = a.at.offset} (omega arith))) [] []
     (sym (drop_of_length-le [] {i = length a.key.now} (omega arith))) refl (omega arith))
 
 -- nor one with its key and its end, where what is left is as short as the key
 pub returns-then-rest-key : goal.returns-then-rest-key
 returns-then-rest-key c =
     let a = c.args in
-    sym (short_missing a.key.now c.requires a.low a.high a.text.now a.offset a.line
-    _ (from_is a.text.now a.offset) c.if-rest-key.true)
+    sym (short_missing a.key.now c.requires a.low a.high a.at.text.now a.at.offset a.at.line
+    _ (from_is a.at.text.now a.at.offset) c.if-rest-key.true)
 
 pub returns-then-not-starts_with : goal.returns-then-not-starts_with
 returns-then-not-starts_with c =
     let a = c.args in
-    sym (other_missing a.key.now c.requires a.low a.high a.text.now a.offset a.line
-    _ (from_is a.text.now a.offset) (sym c.starts_with.ensures ∙ c.if-not-starts_with.true))
+    sym (other_missing a.key.now c.requires a.low a.high a.at.text.now a.at.offset a.at.line
+    _ (from_is a.at.text.now a.at.offset) (sym c.starts_with.ensures ∙ c.if-not-starts_with.true))
 
 pub slice_bounds-tail-count : goal.slice_bounds-tail-count
 slice_bounds-tail-count c = key_fits _ _ (sym c.starts_with.ensures ∙ c.if-not-starts_with.false)
@@ -36,30 +36,30 @@ pub returns-then-not-feed_at : goal.returns-then-not-feed_at
 returns-then-not-feed_at c =
     let a = c.args in
     c.goes_on.ensures
-    ∙ sym (unread_so a.key.now a.text.now a.offset c.requires (sym c.starts_with.ensures ∙ c.if-not-starts_with.false)
-    c.digits_at-front.ensures a.low a.high a.line (sym c.feed_at.ensures ∙ c.if-not-feed_at.true))
+    ∙ sym (unread_so a.key.now a.at.text.now a.at.offset c.requires (sym c.starts_with.ensures ∙ c.if-not-starts_with.false)
+    c.digits_at-front.ensures a.low a.high a.at.line (sym c.feed_at.ensures ∙ c.if-not-feed_at.true))
 
 pub number_of-requires : goal.number_of-requires
 number_of-requires c =
     let a = c.args in (
       c.digits_at-front.ensures,
-      digits_only a.key.now a.text.now a.offset c.requires (sym c.starts_with.ensures ∙ c.if-not-starts_with.false)
+      digits_only a.key.now a.at.text.now a.at.offset c.requires (sym c.starts_with.ensures ∙ c.if-not-starts_with.false)
           c.digits_at-front.ensures (sym c.feed_at.ensures ∙ c.if-not-feed_at.false),
     )
 
 pub returns-in_default : goal.returns-in_default
 returns-in_default c =
     let a = c.args in
-    sym (digits_say a.key.now a.text.now a.offset c.requires (sym c.starts_with.ensures ∙ c.if-not-starts_with.false)
-    c.digits_at-front.ensures (sym c.feed_at.ensures ∙ c.if-not-feed_at.false) a.low a.high a.line
+    sym (digits_say a.key.now a.at.text.now a.at.offset c.requires (sym c.starts_with.ensures ∙ c.if-not-starts_with.false)
+    c.digits_at-front.ensures (sym c.feed_at.ensures ∙ c.if-not-feed_at.false) a.low a.high a.at.line
     _ (sym c.number_of.ensures ∙ c.in_default.is))
 
 pub returns-then-not-within : goal.returns-then-not-within
 returns-then-not-within c =
     let a = c.args in
     let reads =
-    digits_say a.key.now a.text.now a.offset c.requires (sym c.starts_with.ensures ∙ c.if-not-starts_with.false)
-    c.digits_at-front.ensures (sym c.feed_at.ensures ∙ c.if-not-feed_at.false) a.low a.high a.line
+    digits_say a.key.now a.at.text.now a.at.offset c.requires (sym c.starts_with.ensures ∙ c.if-not-starts_with.false)
+    c.digits_at-front.ensures (sym c.feed_at.ensures ∙ c.if-not-feed_at.false) a.low a.high a.at.line
     _ (sym c.number_of.ensures ∙ c.in-Some.is) in
     sym (rw (sym c.within.ensures ∙ c.if-not-within.true) at reads)
 
@@ -67,7 +67,7 @@ pub overflow_add-next-3 : goal.overflow_add-next-3
 overflow_add-next-3 c =
     let a = c.args in
     let fits =
-    next_inside a.key.now a.text.now a.offset c.requires (sym c.starts_with.ensures ∙ c.if-not-starts_with.false)
+    next_inside a.key.now a.at.text.now a.at.offset c.requires (sym c.starts_with.ensures ∙ c.if-not-starts_with.false)
     c.digits_at-front.ensures (sym c.feed_at.ensures ∙ c.if-not-feed_at.false) in
     omega arith
 
@@ -75,7 +75,7 @@ pub returns : goal.returns
 returns c =
     let a = c.args in
     let reads =
-    digits_say a.key.now a.text.now a.offset c.requires (sym c.starts_with.ensures ∙ c.if-not-starts_with.false)
-    c.digits_at-front.ensures (sym c.feed_at.ensures ∙ c.if-not-feed_at.false) a.low a.high a.line
+    digits_say a.key.now a.at.text.now a.at.offset c.requires (sym c.starts_with.ensures ∙ c.if-not-starts_with.false)
+    c.digits_at-front.ensures (sym c.feed_at.ensures ∙ c.if-not-feed_at.false) a.low a.high a.at.line
     _ (sym c.number_of.ensures ∙ c.in-Some.is) in
     sym (rw (sym c.within.ensures ∙ c.if-not-within.false) at reads)

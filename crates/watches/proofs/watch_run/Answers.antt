@@ -13,15 +13,15 @@ late_rank-requires c = let l = c.requires.laid.laid in omega (arith, l.few, ap l
 pub returns-in-Some : goal.returns-in-Some
 returns-in-Some c front releases l owned many =
     refused
-    (late_outcome l (length c.args.out.now) c.args.lengths.now c.args.ticks c.in-Some.rank c.in-Some.ensures)
+    (late_outcome l (length c.args.out.now) c.args.board.now.lengths.now c.args.ticks c.in-Some.rank c.in-Some.ensures)
     (refl, refl)
 
 pub run_order-requires : goal.run_order-requires
-run_order-requires c = startable c.requires.laid.laid _ refl c.args.ticks c.requires.few_ticks
+run_order-requires c = startable c.requires.laid.laid _ c.requires.ranks c.args.ticks c.requires.few_ticks
 
 pub returns : goal.returns
 returns c front releases l owned many =
     let r = c.run_order in
-    let is = timely_outcome l (length c.args.out.now) c.args.lengths.now c.args.ticks c.in_default.ensures in
+    let is = timely_outcome l (length c.args.out.now) c.args.board.now.lengths.now c.args.ticks c.in_default.ensures in
     subst (λ (w : Outcome). Written w c.args.out.now r.new.out r.result) (sym is)
-    (r.ensures _ _ (describes l _ refl owned many))
+    (r.ensures _ _ (describes l _ c.requires.ranks owned many))

@@ -30,11 +30,13 @@ high_is n m = rw (zeros n max_tasks m, high_of)
 pub returns-in_err-next : goal.returns-in_err-next
 returns-in_err-next c =
     let n = c.args.front.stand.count in
+    let e = c.cursor.ensures in
     let p = err_from_is_err_and c.from_residual.result c.from_residual.ensures.1 in
     rw (p.1, p.2)
     (refused_text c.args.text.now c.args.out.now _
     (releases_refused _ _ _ _ _ c.requires ranges (owners n) (low_is n) (high_is n) _
-    (c.read_numbers.auto.numbers ∙ length-take-le _ _ c.requires.few) c.in_err-next.ensures))
+    (c.read_numbers.auto.numbers ∙ length-take-le _ _ c.requires.few)
+    (rw (e.text, e.offset, e.line) at c.in_err-next.ensures)))
 
 pub invariant_of-lent : goal.invariant_of-lent
 invariant_of-lent c =
@@ -71,14 +73,16 @@ watch_order-requires c =
     let placed = rw rows.ensures.count at c.place_ranks.ensures in
     let a = c.requires in
     let f = c.fill_ranks in
+    let e = c.cursor.ensures in
+    let told = rw (e.text, e.offset, e.line) at c.in_ok-next.ensures in
     let many : length c.read_numbers.new.numbers ≡ n = c.read_numbers.auto.numbers ∙ length-take-le _ _ a.few in
     record {
       front = a.front;
       releases = c.read_numbers.new.numbers;
       laid = laid_by a.table a.held _ rows.ensures.table _ placed _ refl _ many
-          (releases_small _ _ _ _ _ a ranges (owners n) (low_is n) (high_is n) _ many _ c.in_ok-next.ensures)
+          (releases_small _ _ _ _ _ a ranges (owners n) (low_is n) (high_is n) _ many _ told)
           (f.auto.ranks ∙ length-take-le _ _ a.few) (f.auto.ranges ∙ length-take-le _ _ a.few) f.ensures;
       resumes =
-          releases_then _ _ _ _ _ a ranges (owners n) (low_is n) (high_is n) _ many _ c.in_ok-next.ensures;
+          releases_then _ _ _ _ _ a ranges (owners n) (low_is n) (high_is n) _ many _ told;
       soon = omega (arith, a.soon, a.few);
     }

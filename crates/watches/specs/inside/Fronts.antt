@@ -1,6 +1,7 @@
 -- Promised between functions: the table at the front of a text to watch, read line by line as the reviewer's, but that
 -- no task holds.
 use Rattle.std.specs.Prelude.{◌≡◌, Bool, true, false, List, ℕ, eqb, drop, Result, MatchResult}
+use Rattle.text.specs.Lines.{fault_number}
 use Rattle.text.specs.declared.LineRefusal.{LineRefusal}
 use Rattle.grammars.specs.Grammars.{refused, step, read}
 use Rattle.grammars.specs.Reasons.{Reaches}
@@ -46,4 +47,4 @@ TakesUnheld p text ns r ms =
 abbrev pub ReadsFront : List ℕ → Result Progress LineRefusal → List ℕ → Type 0
 ReadsFront text r ns =
     MatchResult r (λ p. AtReleases text p.offset p.line ns p.stand.count)
-    (λ e. read watch_text watch_start text ≡ refused e.number e.line)
+    (λ e. read watch_text watch_start text ≡ refused (fault_number e.fault) e.line)

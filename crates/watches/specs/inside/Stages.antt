@@ -81,16 +81,15 @@ pub record AtTicks (text : List ℕ) (at k : ℕ) (x : Ranking) : Type 0 where
   pub resumes : Resumes text (behind front (at_ticks releases)) at k
   pub soon : k ≤ 2000
 
--- with room for the lengths and their owners
-pub record AtLengths (text : List ℕ) (at k : ℕ) (x : Ranking) (ticks : ℕ) (owners lengths : List ℕ) : Type 0 where
+-- so many lengths follow
+pub record AtLengths (text : List ℕ) (at k : ℕ) (x : Ranking) (ticks count : ℕ) : Type 0 where
   pub front : List ℕ
   pub releases : List ℕ
   pub laid : LaidBy front releases x
-  pub resumes : Resumes text (behind front (lengths_stage (length lengths) releases ticks [])) at k
+  pub resumes : Resumes text (behind front (lengths_stage count releases ticks [])) at k
   pub soon : k ≤ 3000
   pub few_ticks : ticks ≤ max_ticks
-  pub few : length lengths ≤ max_lengths
-  pub as_many : length owners ≡ length lengths
+  pub few : count ≤ max_lengths
 
 -- ---- the run of whatever order it is
 abbrev pub RunsLaid : Ranking → (ticks : ℕ) (owners lengths buffer buffer' : List ℕ) → Result ℕ Refusal → Type 0

@@ -6,12 +6,15 @@ use Rattle.readers.proofs.Steps.{takes_none, number_room, takes_number, line_sma
 use Rattle.readers.proofs.progress.next_line.Goals as goal
 
 pub returns-in-Err : goal.returns-in-Err
-returns-in-Err c = takes_none c.args.before c.args.text.now _ c.requires.stands _ c.in-Err.ensures
+returns-in-Err c =
+    let e = c.cursor.ensures in
+    takes_none c.args.before c.args.text.now _ c.requires.stands _ (rw (e.text, e.offset, e.line) at c.in-Err.ensures)
 
-pub put_number-requires : goal.put_number-requires
-put_number-requires c =
-    rw (c.ends_row-last.ensures, c.read-at.ensures, c.switch_index-switch.ensures)
-    (number_room c.args.before c.args.text.now _ c.requires.stands _ c.in-Ok.ensures)
+pub put-requires-clause-room : goal.put-requires-clause-room
+put-requires-clause-room c =
+    let e = c.cursor.ensures in
+    rw c.ends_row-last.ensures
+    (number_room c.args.before c.args.text.now _ c.requires.stands _ (rw (e.text, e.offset, e.line) at c.in-Ok.ensures))
 
 pub overflow_add-result : goal.overflow_add-result
 overflow_add-result c =
@@ -22,8 +25,8 @@ overflow_add-result c =
 pub returns : goal.returns
 returns c =
     let s = c.args.before.stand in
+    let e = c.cursor.ensures in
     let last = c.ends_row-last.ensures in
-    takes_number c.args.before c.args.text.now _ c.requires.stands _ c.in-Ok.ensures c.after.result
-    (c.after.ensures ∙ ap (λ b. stand_after s.part b s c.in-Ok.number.value) last)
-    c.put_number.new.numbers
-    (rw (last, c.read-at.ensures, c.switch_index-switch.ensures) at c.put_number.ensures)
+    takes_number c.args.before c.args.text.now _ c.requires.stands _ (rw (e.text, e.offset, e.line) at c.in-Ok.ensures)
+    c.after.result (c.after.ensures ∙ ap (λ b. stand_after s.part b s c.in-Ok.number.value) last)
+    c.put.new.numbers (rw last at c.put.ensures)

@@ -1,28 +1,33 @@
--- `rows::Row::new` meets its contract: a row where its numbers keep their limits and its curve does.
-use mathlib.Core.Path.{◌≡◌, sym, ap₂, ◌∙◌}
-use mathlib.Core.Bool.{Bool, ◌&&◌}
-use Rattle.curves.specs.Curves.{well_formed, points_from}
+-- `rows::Row::new` meets its contract: the numbers that are put together are those of the record.
+use mathlib.Core.Path.{◌≡◌, ap, ◌∙◌}
+use mathlib.Core.Bool.{Bool}
+use mathlib.Core.List.{List}
+use Prim.Native.Nat.{ℕ}
+use lib.ListN.{length}
+use borrow.Author.Rules.{rules}
+use Rattle.std.proofs.lemmas.List.{places}
+use Rattle.std.specs.Prelude.{Some, None}
+use Rattle.basics.specs.Basics.{pick}
 use Rattle.rows.specs.declared.Row.{Row}
-use Rattle.rows.specs.Rows as R
-use Rattle.rows.specs.Rows.{in_range, numbers_in_range, row}
-use Rattle.rows.specs.inside.Records.{as_row, recorded}
+use Rattle.rows.specs.Rows.{in_range}
+use Rattle.rows.specs.inside.Numbers.{field_count, row_from}
+use Rattle.rows.specs.inside.Records.{record_numbers, recorded, checked}
+use Rattle.rows.proofs.Putting.{numbers_make}
 use Rattle.rows.proofs.Row.new.Goals as goal
 
--- the numbers keep their limits, and the curve does
-tested : (r : Row) (kept curve : Bool)
-    → kept ≡ numbers_in_range (row r.task r.period r.worst r.best r.alpha r.beta r.hold r.switch)
-    → curve ≡ well_formed (points_from r.points r.curve) → (kept && curve) ≡ in_range (as_row r)
-unfolding R.cost
-tested r kept curve e f = ap₂ ◌&&◌ e f
+-- what the test of the numbers answers is what that of the record does
+tested : (r : Row) (ws : List ℕ) (b : Bool) → ws ≡ record_numbers r → length (record_numbers r) ≡ field_count
+    → b ≡ in_range (row_from ws) → pick b (Some r) None ≡ checked r
+tested r ws b is long e = ap (λ t. pick t (Some r) None) (e ∙ ap in_range (ap row_from is ∙ numbers_make r long))
 
-pub returns-then-not-kept-well_formed : goal.returns-then-not-kept-well_formed
-returns-then-not-kept-well_formed c =
+pub returns-then-not-in_range : goal.returns-then-not-in_range
+returns-then-not-in_range c =
     let a = c.args in
     let r = recorded a.task a.period a.worst a.best a.alpha a.beta a.hold a.switch a.points a.curve in
-    simp (sym (tested r _ _ c.keeps-kept.ensures c.well_formed-2.ensures) ∙ c.if-not-kept-well_formed.true)
+    tested r _ _ c.row_numbers.ensures (search (rules, places)) c.if-not-in_range.ensures
 
 pub returns : goal.returns
 returns c =
     let a = c.args in
     let r = recorded a.task a.period a.worst a.best a.alpha a.beta a.hold a.switch a.points a.curve in
-    simp (sym (tested r _ _ c.keeps-kept.ensures c.well_formed-2.ensures) ∙ c.if-not-kept-well_formed.false)
+    tested r _ _ c.row_numbers.ensures (search (rules, places)) c.if-not-in_range.ensures

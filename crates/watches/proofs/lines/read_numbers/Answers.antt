@@ -8,8 +8,8 @@ use Rattle.watches.proofs.lines.read_numbers.Goals as goal
 pub loop-m-init : goal.loop-m-init
 loop-m-init c = reading_starts _ _ _ _ _ _ _
 
-pub bounds-ranges-owners : goal.bounds-ranges-owners
-bounds-ranges-owners c = c.requires.readable.owned c.loop-m.m (omega arith)
+pub bounds-lines-lines : goal.bounds-lines-lines
+bounds-lines-lines c = c.requires.readable.owned c.loop-m.m (omega arith)
 
 pub returns-in_err-line : goal.returns-in_err-line
 returns-in_err-line c =

@@ -5,4 +5,6 @@ use Rattle.watches.proofs.lines.read_numbers.Given as goal
 
 abbrev pub invariant-loop-m : goal.invariant-loop-m
 invariant-loop-m l =
-    Reading l.text l.key (low_of l.ranges l.owners) (high_of l.ranges l.owners) l.offset l.first l.numbers l.at l.m
+    let x = l.lines in
+    Reading l.from.text.now x.key.now (low_of x.ranges.now x.owners.now) (high_of x.ranges.now x.owners.now)
+    l.from.offset l.from.line l.numbers l.at l.m
