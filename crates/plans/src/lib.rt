@@ -57,9 +57,9 @@ impl Refusal {
 
 // A refused line refuses its text.
 impl From<LineRefusal> for Refusal {
-    ghost from_gives = { λ refused r. r ≡ Line refused };
+    ghost from_gives = { λ refusal r. r ≡ Line refusal };
 
-    fn from(refused: LineRefusal) -> Refusal {
-        Refusal::Line(refused)
+    fn from(refusal: LineRefusal) -> Refusal {
+        Refusal::Line(refusal)
     }
 }
