@@ -6,13 +6,12 @@ use mathlib.Core.Option as Maths
 use mathlib.Core.Option.{none, some}
 use Rattle.rows.specs.Rows.{Row, in_range, all_rows, all_tasks, tasks_of, rows_for}
 use Rattle.rows.specs.inside.Arrays.{ranking, ranked}
-use Rattle.rows.specs.inside.Numbers.{rows_of}
 use Rattle.rows.specs.inside.Lent.{table_of}
 use Rattle.rows.specs.declared.Order.{Order}
 use Rattle.rows.proofs.Tasks.{tasks_length}
 use Rattle.rows.proofs.Arrays.{ranked_are}
 use Rattle.tables.specs.TableLines.{TableRead, read_table}
-use Rattle.readers.specs.inside.Numbers.{board_in}
+use Rattle.readers.specs.inside.Numbers.{board_in, rows_in}
 use Rattle.readers.specs.inside.Readings.{Held}
 use Rattle.orders.specs.Stability.{chosen_order}
 use Rattle.orders.specs.Orders.{Possible}
@@ -28,7 +27,7 @@ use Rattle.demands.proofs.Outcomes.{on_accepted}
 use Rattle.demands.proofs.Planner as Planner
 use Rattle.demands.proofs.Reviewer.{none_late_first}
 use Rattle.ranks.specs.inside.Tasks.{Tasked}
-use Rattle.ranks.proofs.Readings.{behind_head, rows_are}
+use Rattle.ranks.proofs.Readings.{rows_are}
 
 -- ---- what a choice says of the order chosen
 none_chosen : (o : Maths.Option (List Row)) → None ≡ choice_of o → o ≡ none
@@ -50,7 +49,7 @@ some_found None d is = absurd cc
 some_found (Some order) d is = cc
 
 module _ {text ns : List ℕ} {n : ℕ} (t : Held false text ns n) (rows : List (List ℕ))
-    (lends : table_of rows ≡ rows_of n (behind_head ns)) {o : Option Order} (found : Chooses (table_of rows) o) where
+    (lends : table_of rows ≡ rows_in n ns) {o : Option Order} (found : Chooses (table_of rows) o) where
   abbrev answer : TableRead
   answer = read_table false text
 

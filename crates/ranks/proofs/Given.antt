@@ -9,21 +9,21 @@ use Rattle.basics.specs.Basics.{distinct}
 use Rattle.basics.proofs.Tests.{and_right}
 use Rattle.rows.specs.Rows.{Row, all_tasks, rows_for}
 use Rattle.rows.specs.inside.Arrays.{ranking, ranked}
-use Rattle.rows.specs.inside.Numbers.{rows_of, TaskNumbers}
+use Rattle.rows.specs.inside.Numbers.{TaskNumbers}
 use Rattle.rows.specs.inside.Lent.{table_of}
 use Rattle.rows.specs.declared.Order.{Order}
 use Rattle.rows.proofs.Tasks.{all_small}
 use Rattle.rows.proofs.Arrays.{ranked_are}
 use Rattle.tables.specs.TableLines.{TableRead, read_table}
 use Rattle.tables.specs.Claims.{Accepted}
-use Rattle.readers.specs.inside.Numbers.{board_in, behind}
+use Rattle.readers.specs.inside.Numbers.{board_in, rows_in, behind}
 use Rattle.readers.specs.inside.Readings.{Held}
 use Rattle.readers.proofs.Tables.{ranks_counted}
 use Rattle.tables.proofs.Readings.{read}
 use Rattle.plans.specs.Outcomes.{if_in_time}
 use Rattle.demands.specs.Calls.{given_order, reviewed}
 use Rattle.demands.proofs.Outcomes.{on_accepted}
-use Rattle.ranks.proofs.Readings.{behind_head, rows_are}
+use Rattle.ranks.proofs.Readings.{rows_are}
 
 module _ {text ns : List ℕ} {n : ℕ} (t : Held true text ns n) where
   abbrev answer : TableRead
@@ -48,7 +48,7 @@ module _ {text ns : List ℕ} {n : ℕ} (t : Held true text ns n) where
   ranks_small =
       subst TaskNumbers (sym ranks_are) (all_small answer.order answer.rows all_there sound.rows_in_range)
 
-  module _ (rows : List (List ℕ)) (lends : table_of rows ≡ rows_of n (behind_head ns)) {order : Order}
+  module _ (rows : List (List ℕ)) (lends : table_of rows ≡ rows_in n ns) {order : Order}
       (is : order ≡ ranking (behind n n ns)) where
     order_is : order ≡ ranking answer.order
     order_is = is ∙ ap ranking ranks_are

@@ -18,10 +18,9 @@ pub use plan_orders::{ROOM, buffer};
 use plan_orders::{OrderInLimits, plan_order, printed};
 pub use plans::Refusal;
 use readers::{
-    BOARD, FEW_NUMBERS, HEAD, MANY_NUMBERS, MORE_NUMBERS, MOST_NUMBERS, SOME_NUMBERS, fits_in,
-    given_order, read_table,
+    FEW_NUMBERS, MANY_NUMBERS, MORE_NUMBERS, MOST_NUMBERS, SOME_NUMBERS, Table, fits_in, read_table,
 };
-use rows::{LentOrder, MAX_TASKS, Order, RowNumbers, positions_for, rows_from};
+use rows::{LentOrder, MAX_TASKS, Order, RowNumbers, positions_for};
 use search::choose;
 
 // The plan of a table's rows, in an order of their tasks.
@@ -47,10 +46,11 @@ fn plan_text(text: &[u8], out: &mut [u8], numbers: &mut [u64]) -> Result<usize, 
     requires { Room text.now numbers.old }
     ensures { PlanSays text.now out.old out.new result }
 {
-    let n = read_table(text, false, numbers)?;
-    let rows = rows_from(&numbers[HEAD..], n);
+    let count = read_table(text, false, numbers)?;
+    let table = Table { numbers, count };
+    let rows = table.rows();
     let order = choose(rows).ok_or(Refusal::NoOrder)?;
-    plan_tasks(out, numbers[BOARD] as u16, rows, order)
+    plan_tasks(out, table.board(), rows, order)
 }
 
 // The same with room for so many numbers.
@@ -81,10 +81,9 @@ fn review_text(text: &[u8], out: &mut [u8], numbers: &mut [u64]) -> Result<usize
     requires { Room text.now numbers.old }
     ensures { ReviewSays text.now out.old out.new result }
 {
-    let n = read_table(text, true, numbers)?;
-    let order = given_order(numbers, n);
-    let rows = rows_from(&numbers[HEAD..], n);
-    plan_tasks(out, numbers[BOARD] as u16, rows, order)
+    let count = read_table(text, true, numbers)?;
+    let table = Table { numbers, count };
+    plan_tasks(out, table.board(), table.rows(), table.order())
 }
 
 // The same with room for so many numbers. One function for both, with the call as a closure, would have a contract longer

@@ -1,26 +1,19 @@
 // A table as text: what is read, and what is refused on which line.
 #![tactic(auto)]
 
-ghost use Rattle.std.specs.Prelude.{◌≡◌, ◌+◌, ◌≤◌, leb, length};
-ghost use Rattle.rows.specs.Rows.{max_tasks};
-ghost use Rattle.rows.specs.inside.Arrays.{ranking};
-ghost use Rattle.rows.specs.inside.Numbers.{TaskNumbers};
-ghost use Rattle.readers.specs.inside.Numbers.{most_numbers, bytes_for, Room, row_start, behind};
+ghost use Rattle.std.specs.Prelude.{◌≡◌, ◌≤◌, leb, length};
+ghost use Rattle.readers.specs.inside.Numbers.{most_numbers, bytes_for, Room};
 ghost use Rattle.readers.specs.inside.Readings.{ReadAs};
 
-pub use progress::{Part, Progress, Stand, next_line};
-use rows::{FIELDS, MAX_TASKS, Order, order_from};
+pub use numbers::{BOARD, HEAD, HEAD_SWITCH, Table};
+pub use progress::{Part, Progress, Stand, next_line, rank_lines};
+use rows::{FIELDS, MAX_TASKS};
 use text::{LineRefusal, end_at};
 
+// lines.rt: the line that is expected. numbers.rt: a table as its numbers. progress.rt: how far the reading has come.
 mod lines;
+mod numbers;
 mod progress;
-
-// How many lines a table's head has, and where its board and its switch stand.
-pub const HEAD: usize = 3;
-
-pub const BOARD: usize = 0;
-
-pub const HEAD_SWITCH: usize = 2;
 
 // Room for the numbers of the longest table with its ranks.
 pub const MOST_NUMBERS: usize = HEAD + FIELDS * MAX_TASKS + MAX_TASKS;
@@ -45,36 +38,17 @@ pub fn fits_in(text: &[u8], numbers: usize) -> bool
     text.len() <= ROW_BYTES * numbers / FIELDS
 }
 
-// The text, and how far the reader has come in it.
-#[derive(Clone, Copy)]
-struct Reader<'a> {
-    text: &'a [u8],
-    at: Progress,
-}
-
 // A table as the planner takes it, or with rank lines as the reviewer does: how many rows it has, its numbers standing
-// where they were lent, one after another.
+// where they were lent, one after another. That there is room for them (`Room`) is said of the text and of the numbers by
+// each that hands them on: a type of the two would be taken apart again for the numbers.
 pub fn read_table(text: &[u8], ranked: bool, numbers: &mut [u64]) -> Result<usize, LineRefusal>
     requires { Room text.now numbers.old }
     ensures { ReadAs ranked text.now numbers.new result }
 {
-    let mut reader = Reader {
-        text,
-        at: Progress::start(ranked),
-    };
-    while reader.at.stand.part != Part::End {
-        reader.at = next_line(reader.text, reader.at, numbers)?;
+    let mut at = Progress::start(ranked);
+    while at.stand.part != Part::End {
+        at = next_line(text, at, numbers)?;
     }
-    end_at(reader.at.cursor(reader.text))?;
-    Ok(reader.at.stand.count)
-}
-
-// The order that a table's rank lines give, by the numbers of the table, which has n rows.
-pub fn given_order(numbers: &[u64], n: usize) -> Order
-    requires held { (n ≤ max_tasks) × (row_start n + n ≤ length numbers.now) }
-    requires task_numbers { TaskNumbers (behind n n numbers.now) }
-    ensures { result ≡ ranking (behind n n numbers.now) }
-{
-    let ranks = HEAD + FIELDS * n;
-    order_from(&numbers[ranks..ranks + n])
+    end_at(at.cursor(text))?;
+    Ok(at.stand.count)
 }

@@ -11,10 +11,10 @@ ghost use Rattle.readers.specs.inside.Numbers.{row_start, rows_in, behind};
 ghost use Rattle.readers.specs.inside.Stands.{is_end, row_line_tested, line_here, fault_in, Stands};
 
 use super::progress::{Part, Stand};
-use super::{HEAD, HEAD_SWITCH};
+use super::{HEAD, HEAD_SWITCH, Table};
 use rows::{
     ALPHA, BEST, BETA, FIELDS, FIRST_POINT, HOLD, MAX_TASKS, PERIOD, POINTS, Row, TASK, WORST,
-    has_task, is_among, rows_from,
+    has_task, is_among,
 };
 use text::{Cursor, Fault, LineRefusal, Number, line_at};
 
@@ -42,20 +42,15 @@ fn unless(faulty: bool, fault: Fault, number: Number, line: u32) -> Result<Numbe
 
 // The line of a point, of its delay or of its allow by turns: its number is held against the one two lines before it, if
 // there is one.
-fn point_line(
-    at: Cursor,
-    count: usize,
-    position: usize,
-    numbers: &[u64],
-) -> Result<Number, LineRefusal>
-    requires first_point_at_le_position { (first_point_at ≤ position) × (position < line_count) × (count < max_tasks) }
-    requires position_in_bounds { row_start count + position ≤ length numbers.now }
-    ensures { told result ≡ row_line_tested count position numbers.now at.entry.text.now at.entry.offset at.entry.line }
+fn point_line(at: Cursor, stand: Stand, numbers: &[u64]) -> Result<Number, LineRefusal>
+    requires first_point_at_le_position { (first_point_at ≤ stand.position) × (stand.position < line_count) × (stand.count < max_tasks) }
+    requires position_in_bounds { row_start stand.count + stand.position ≤ length numbers.now }
+    ensures { told result ≡ row_line_tested stand.count stand.position numbers.now at.entry.text.now at.entry.offset at.entry.line }
 {
-    let before = HEAD + FIELDS * count + position - 2;
-    let turn = position % 2;
-    match turn {
-        0 => match line_at(at, b"delay=", Row::DELAY_MIN, Row::DELAY_MAX) {
+    let position = stand.position;
+    let before = HEAD + FIELDS * stand.count + position - 2;
+    if position % 2 == 0 {
+        return match line_at(at, b"delay=", Row::DELAY_MIN, Row::DELAY_MAX) {
             Ok(delay) => {
                 if position == FIRST_POINT {
                     return Ok(delay);
@@ -68,41 +63,38 @@ fn point_line(
                 )
             }
             Err(refusal) => Err(refusal),
-        },
-        _ => match line_at(at, b"allow=", Row::ALLOW_MIN, Row::ALLOW_MAX) {
-            Ok(allow) => {
-                if position == FIRST_POINT + 1 {
-                    return Ok(allow);
-                }
-                unless(
-                    numbers[before] < allow.value,
-                    Fault::Disorderly,
-                    allow,
-                    at.line,
-                )
+        };
+    }
+    match line_at(at, b"allow=", Row::ALLOW_MIN, Row::ALLOW_MAX) {
+        Ok(allow) => {
+            if position == FIRST_POINT + 1 {
+                return Ok(allow);
             }
-            Err(refusal) => Err(refusal),
-        },
+            unless(
+                numbers[before] < allow.value,
+                Fault::Disorderly,
+                allow,
+                at.line,
+            )
+        }
+        Err(refusal) => Err(refusal),
     }
 }
 
 // The line at a position within a row. It is found by a `match`, here and by the part, and not by a table of closures: a
 // line's key, range and test are constants where they are read.
-fn row_line(
-    at: Cursor,
-    count: usize,
-    position: usize,
-    numbers: &[u64],
-) -> Result<Number, LineRefusal>
-    requires position_lt_line_count { (position < line_count) × (count < max_tasks) }
-    requires position_in_bounds { row_start count + position ≤ length numbers.now }
-    ensures { told result ≡ row_line_tested count position numbers.now at.entry.text.now at.entry.offset at.entry.line }
+fn row_line(at: Cursor, stand: Stand, numbers: &[u64]) -> Result<Number, LineRefusal>
+    requires position_lt_line_count { (stand.position < line_count) × (stand.count < max_tasks) }
+    requires position_in_bounds { row_start stand.count + stand.position ≤ length numbers.now }
+    ensures { told result ≡ row_line_tested stand.count stand.position numbers.now at.entry.text.now at.entry.offset at.entry.line }
 {
-    let start = HEAD + FIELDS * count;
+    let start = HEAD + FIELDS * stand.count;
+    let position = stand.position;
     match position {
         TASK => match line_at(at, b"task=", Row::TASK_MIN, Row::TASK_MAX) {
             Ok(task) => {
-                let used = has_task(rows_from(&numbers[HEAD..], count), task.value);
+                let count = stand.count;
+                let used = has_task(Table { numbers, count }.rows(), task.value);
                 unless(used, Fault::Repeated, task, at.line)
             }
             refused => refused,
@@ -136,29 +128,30 @@ fn row_line(
             refused => refused,
         },
         POINTS => line_at(at, b"points=", Row::POINTS_MIN, Row::POINTS_MAX),
-        _ => point_line(at, count, position, numbers),
+        _ => point_line(at, stand, numbers),
     }
 }
 
 // The line of a rank, which is to name one of the rows, and none of the ranks before it.
-fn rank_line(at: Cursor, count: usize, named: usize, numbers: &[u64]) -> Result<Number, LineRefusal>
-    requires { (count ≤ max_tasks) × (row_start count + named ≤ length numbers.now) }
-    ensures { told result ≡ tested (new_rank (rows_in count numbers.now) (behind count named numbers.now))
+fn rank_line(at: Cursor, stand: Stand, numbers: &[u64]) -> Result<Number, LineRefusal>
+    requires { (stand.count ≤ max_tasks) × (row_start stand.count + stand.position ≤ length numbers.now) }
+    ensures { told result ≡ tested (new_rank (rows_in stand.count numbers.now) (behind stand.count stand.position numbers.now))
         (line_at (bytes "rank=") min_task max_task at.entry.text.now at.entry.offset at.entry.line) at.entry.line }
 {
     match line_at(at, b"rank=", Row::TASK_MIN, Row::TASK_MAX) {
         Ok(rank) => {
             let task = rank.value;
-            let start = HEAD + FIELDS * count;
-            let known = has_task(rows_from(&numbers[HEAD..], count), task);
-            let taken = is_among(&numbers[start..start + named], task);
+            let count = stand.count;
+            let ranks = HEAD + FIELDS * count;
+            let known = has_task(Table { numbers, count }.rows(), task);
+            let taken = is_among(&numbers[ranks..ranks + stand.position], task);
             unless(!(known & !taken), Fault::Impossible, rank, at.line)
         }
         refused => refused,
     }
 }
 
-// The line that is expected before the table's end, at an offset.
+// The line that is expected before the table's end.
 pub fn expected_line(at: Cursor, stand: Stand, numbers: &[u64]) -> Result<Number, LineRefusal>
     requires stands { Stands at.text.now at.offset stand at.line numbers.now }
     requires before_end { is_end stand.part ≡ false }
@@ -170,8 +163,8 @@ pub fn expected_line(at: Cursor, stand: Stand, numbers: &[u64]) -> Result<Number
         Part::Board => line_at(at, b"board=", BOARD_MIN, BOARD_MAX),
         Part::Tasks => line_at(at, b"tasks=", TASKS_MIN, TASKS_MAX),
         Part::Switch => line_at(at, b"switch=", Row::SWITCH_MIN, Row::SWITCH_MAX),
-        Part::Row => row_line(at, stand.count, stand.position, numbers),
-        Part::Rank => rank_line(at, stand.count, stand.position, numbers),
+        Part::Row => row_line(at, stand, numbers),
+        Part::Rank => rank_line(at, stand, numbers),
         Part::End => unreachable!(),
     }
 }

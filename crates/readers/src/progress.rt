@@ -26,7 +26,8 @@ pub enum Part {
 
 // Where in the table the reading stands: the rows that are whole, how many are left after the one that is being read,
 // and how many of its numbers are there; before the rows, how many are to come; or, behind them, the ranks that are left
-// after the next and those so far.
+// after the next and those so far. The same few numbers for every part, since it goes by value from line to line. What is
+// known of them (`Counted`) is a clause, and no ghost field: each definition of a stand would have to prove it.
 #[derive(Clone, Copy)]
 pub struct Stand {
     pub part: Part,
@@ -100,7 +101,7 @@ fn ranks_next(ranked: bool, count: usize, named: usize, left: usize) -> Stand
 }
 
 // How many rank lines are expected.
-fn rank_lines(ranked: bool, tasks: usize) -> usize
+pub fn rank_lines(ranked: bool, tasks: usize) -> usize
     ensures { result ≡ pick ranked tasks 0 }
 {
     if ranked { tasks } else { 0 }

@@ -4,12 +4,11 @@
 #![tactic(auto)]
 
 ghost use Rattle.std.specs.Prelude.{◌≡◌, ◌+◌, ◌≤◌, length};
-ghost use Rattle.basics.specs.Basics.{pick};
 ghost use Rattle.rows.specs.inside.Numbers.{line_count};
 ghost use Rattle.readers.specs.inside.Numbers.{Room, row_start};
 
-use readers::{FEW_NUMBERS, HEAD, MOST_NUMBERS, fits_in, read_table};
-use rows::{FIELDS, FIRST_POINT, POINTS, Row, RowNumbers, SWITCH, rows_from};
+use readers::{BOARD, FEW_NUMBERS, HEAD, MOST_NUMBERS, Table, fits_in, rank_lines, read_table};
+use rows::{FIELDS, FIRST_POINT, POINTS, Row, RowNumbers, SWITCH};
 use text::{Cursor, line_at};
 
 const STDIN: i32 = 0;
@@ -48,23 +47,16 @@ fn print_row(row: &RowNumbers) {
     print_next(row[SWITCH]);
 }
 
-// The board, the numbers of each row, and the ranks.
-fn print_table(numbers: &[u64], rows: usize, ranks: usize)
-    requires { row_start rows + ranks ≤ length numbers.now }
+// The board, the numbers of each row, and those of so many rank lines.
+fn print_table(table: Table, ranks: usize)
+    requires { row_start table.count + ranks ≤ length table.numbers.now }
 {
-    print_next(numbers[0]);
-    for row in rows_from(&numbers[HEAD..], rows) {
+    print_next(table.numbers[BOARD]);
+    for row in table.rows() {
         print_row(row);
     }
-    let start = HEAD + FIELDS * rows;
-    print_numbers(&numbers[start..start + ranks]);
-}
-
-// How many rank lines a table has.
-fn rank_lines(ranked: bool, count: usize) -> usize
-    ensures { result ≡ pick ranked count 0 }
-{
-    if ranked { count } else { 0 }
+    let start = HEAD + FIELDS * table.count;
+    print_numbers(&table.numbers[start..start + ranks]);
 }
 
 // A text as it is read into lent numbers.
@@ -74,7 +66,7 @@ fn print_read(text: &[u8], ranked: bool, numbers: &mut [u64])
     match read_table(text, ranked, numbers) {
         Ok(count) => {
             io::write_all(STDOUT, b"0 0");
-            print_table(numbers, count, rank_lines(ranked, count));
+            print_table(Table { numbers, count }, rank_lines(ranked, count));
         }
         Err(refusal) => {
             io::print_decimal(STDOUT, refusal.fault.number() as u64);
@@ -96,19 +88,19 @@ fn print_reading(text: &[u8], ranked: bool) {
 }
 
 // The first text of the input, after its length and whether rank lines are expected: the input behind it.
-fn read_stored(input: &[u8]) -> Option<&[u8]> {
-    let start = Cursor {
+fn print_stored(input: &[u8]) -> Option<&[u8]> {
+    let at = Cursor {
         text: input,
         offset: 0,
         line: 1,
     };
-    let length = line_at(start, b"length=", 0, MAX_TEXT).ok()?;
-    let next = Cursor {
-        text: input,
+    let length = line_at(at, b"length=", 0, MAX_TEXT).ok()?;
+    let at = Cursor {
         offset: length.next,
         line: 2,
+        ..at
     };
-    let ranked = line_at(next, b"ranked=", 0, 1).ok()?;
+    let ranked = line_at(at, b"ranked=", 0, 1).ok()?;
     let behind = input.get(ranked.next..)?;
     let (text, rest) = behind.split_at_checked(length.value as usize)?;
     print_reading(text, ranked.value == 1);
@@ -116,11 +108,11 @@ fn read_stored(input: &[u8]) -> Option<&[u8]> {
 }
 
 // Every text of the input; how many there are.
-fn read_all(input: &[u8]) -> u64 {
+fn print_all(input: &[u8]) -> u64 {
     let mut rest = input;
     let mut count: u64 = 0;
     while !rest.is_empty() {
-        let Some(next) = read_stored(rest) else {
+        let Some(next) = print_stored(rest) else {
             return count;
         };
         if rest.len() <= next.len() {
@@ -135,7 +127,7 @@ fn read_all(input: &[u8]) -> u64 {
 fn main() {
     let mut buffer = io::large_buffer();
     let size = io::read_full(STDIN, &mut buffer);
-    let count = read_all(&buffer[..size]);
+    let count = print_all(&buffer[..size]);
     io::write_all(STDOUT, b"texts=");
     io::print_decimal(STDOUT, count);
     io::write_all(STDOUT, b"\n");

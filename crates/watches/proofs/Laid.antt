@@ -3,16 +3,14 @@
 use mathlib.Core.Path.{◌≡◌, refl, sym, ap, ap₂, subst, ◌∙◌}
 use mathlib.Core.Bool.{true}
 use mathlib.Core.List.{List, [], ◌∷◌, map}
-use Prim.Native.Nat.{ℕ, zero, suc, ◌-◌, ◌≤◌, ◌<◌}
+use Prim.Native.Nat.{ℕ, zero, suc, ◌≤◌, ◌<◌}
 use native.Mathlib.Omega.{arith}
-use lib.ListN.{length, get_or, take, drop, length-drop, length-map}
-use lib.Seq.{take_all}
+use lib.ListN.{length, get_or, length-map}
 use Rattle.std.specs.Prelude.{Some, None}
 use Rattle.rows.specs.Rows.{max_tasks, max_ticks, in_range, all_rows, row_at, rows_for, cost}
 use Rattle.rows.specs.Rows as Rows
 use Rattle.rows.specs.Rows.{Row}
 use Rattle.rows.specs.inside.Numbers.{row_from, rows_at, positions_for, Below}
-use Rattle.rows.specs.inside.Numbers as Numbers
 use Rattle.rows.specs.inside.Lent.{table_of, lent_row, lent_rows}
 use Rattle.rows.specs.inside.LentOrders.{rows_in_order}
 use Rattle.rows.proofs.Limits.{Limits}
@@ -55,16 +53,13 @@ at_positions rows (p ∷ ps) h =
 
 -- ---- the order's rows at their positions
 module _ {front ns : List ℕ} {n : ℕ} (t : Unheld front) (h : Held true front ns n) (rows : List (List ℕ))
-    (lent : table_of rows ≡ Numbers.rows_of n (take (length ns - head_count) (drop head_count ns)))
-    (ps : List ℕ) (placed : ps ≡ positions_for (TableNumbers.behind n n ns) (table_of rows)) where
+    (lent : table_of rows ≡ TableNumbers.rows_in n ns) (ps : List ℕ)
+    (placed : ps ≡ positions_for (TableNumbers.behind n n ns) (TableNumbers.rows_in n ns)) where
   table_is : table_of rows ≡ rows_of front
-  table_is =
-      lent
-      ∙ ap (Numbers.rows_of n) (take_all (length ns - head_count) (drop head_count ns) (omega (arith, length-drop head_count ns)))
-      ∙ h.rows_are
+  table_is = lent ∙ h.rows_are
 
   positions_are : ps ≡ positions_for (tasks_of front) (rows_of front)
-  positions_are = placed ∙ ap₂ positions_for (ranks_are h) table_is
+  positions_are = placed ∙ ap₂ positions_for (ranks_are h) h.rows_are
 
   many : length ps ≡ length (tasks_of front)
   many = ap length positions_are ∙ positions_length (tasks_of front) (rows_of front)
@@ -109,7 +104,7 @@ module _ {front ns : List ℕ} {n : ℕ} (t : Unheld front) (h : Held true front
       map_at f (v ∷ vs) (suc i) l = map_at f vs i (omega arith)
 
   -- with the first releases of the rows
-  pub laid_by : (x : Ranking) → rows_in_order x.rows.lent ≡ lent_rows rows ps → (releases : List ℕ)
+  pub laid_by : (x : Ranking) → rows_in_order x.order.lent ≡ lent_rows rows ps → (releases : List ℕ)
       → length releases ≡ n → ((i : ℕ) → i < length releases → get_or releases i 0 ≤ max_release)
       → length x.ranks.now ≡ n → length x.ranges.now ≡ n
       → ((j : ℕ) → j < length ps → let p = get_or ps j 0 in
@@ -190,11 +185,11 @@ module _ {front releases : List ℕ} {x : Ranking} (l : LaidBy front releases x)
 
   -- ---- by its first late rank
   module _ (room : ℕ) (lengths : List ℕ) (ticks : ℕ) where
-    pub late_outcome : (late : ℕ) → FirstLate (rows_in_order x.rows.lent) (Some late)
+    pub late_outcome : (late : ℕ) → FirstLate (rows_in_order x.order.lent) (Some late)
         → run_in_time room order offset lengths ticks ≡ refuses 7 late
     late_outcome zero is = absurd (omega (arith, is.1))
     late_outcome (suc k) is = late_run room order offset lengths ticks k (ap first_late (sym l.order_is) ∙ is.0)
 
-    pub timely_outcome : FirstLate (rows_in_order x.rows.lent) None
+    pub timely_outcome : FirstLate (rows_in_order x.order.lent) None
         → run_in_time room order offset lengths ticks ≡ fitted room (jobs_text order offset lengths ticks)
     timely_outcome none = timely_run room order offset lengths ticks (ap first_late (sym l.order_is) ∙ none)

@@ -30,7 +30,9 @@ fn take_unheld(text: &[u8], before: Progress, numbers: &mut [u64]) -> Result<Pro
     next_line(text, before, numbers)
 }
 
-// Reads the table line by line, each number behind those before it, and stops behind its last line.
+// Reads the table line by line, each number behind those before it, and stops behind its last line. It is the loop of
+// `read_table` with another step and without the text's end; with the step as a closure the contract of that loop would
+// have to name its state.
 pub fn read_front(text: &[u8], numbers: &mut [u64]) -> Result<Progress, LineRefusal>
     requires { Room text.now numbers.old }
     ensures { ReadsFront text.now result numbers.new }

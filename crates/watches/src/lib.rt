@@ -15,8 +15,8 @@ use lines::{Lines, Range, read_numbers};
 use plan_orders::{OrderInLimits, late_rank, printed};
 use plans::Refusal;
 use ranking::{Ranking, fill_ranks, place_ranks};
-use readers::{HEAD, MOST_NUMBERS, Progress};
-use rows::{LentOrder, MAX_TASKS, rows_from};
+use readers::{MOST_NUMBERS, Progress, Table};
+use rows::{LentOrder, MAX_TASKS};
 use text::{Cursor, end_at, line_at};
 use watch_runs::{Board, Rank, fill_owners, run_order};
 
@@ -59,13 +59,13 @@ struct Extent {
 }
 
 // What the run of an order comes to: refused with its first late rank, or the lines of the jobs that it finishes.
-fn watch_run(out: &mut [u8], order: &Ranking, ticks: u64, board: &Board) -> Result<usize, Refusal>
-    requires laid { Laid order.now }
-    requires ranks { board.now.ranks.now ≡ order.now.ranks.now }
+fn watch_run(out: &mut [u8], ranking: &Ranking, ticks: u64, board: &Board) -> Result<usize, Refusal>
+    requires laid { Laid ranking.now }
+    requires ranks { board.now.ranks.now ≡ ranking.now.ranks.now }
     requires few_ticks { ticks ≤ max_ticks }
-    ensures { RunsLaid order.now ticks board.now.owners.now board.now.lengths.now out.old out.new result }
+    ensures { RunsLaid ranking.now ticks board.now.owners.now board.now.lengths.now out.old out.new result }
 {
-    if let Some(rank) = late_rank(order.rows) {
+    if let Some(rank) = late_rank(ranking.order) {
         return Err(Refusal::Late { rank });
     }
     run_order(out, ticks, board)
@@ -75,58 +75,58 @@ fn watch_run(out: &mut [u8], order: &Ranking, ticks: u64, board: &Board) -> Resu
 fn watch_lengths(
     from: Cursor,
     out: &mut [u8],
-    order: &Ranking,
+    ranking: &Ranking,
     run: Extent,
 ) -> Result<usize, Refusal>
-    requires { AtLengths from.text.now from.offset from.line order.now run.ticks run.lengths }
+    requires { AtLengths from.text.now from.offset from.line ranking.now run.ticks run.lengths }
     ensures { Written (watched from.entry.text.now (length out.old)) out.old out.new result }
 {
     let mut owners = [0usize; MAX_LENGTHS];
     let owners = &mut owners[..run.lengths];
-    fill_owners(owners, order.ranks);
+    fill_owners(owners, ranking.ranks);
     let mut lengths = [0u64; MAX_LENGTHS];
     let lengths = &mut lengths[..run.lengths];
     let lines = Lines {
         key: b"length=",
-        ranges: order.ranges,
+        ranges: ranking.ranges,
         owners,
     };
     let end = read_numbers(from, &lines, lengths)?;
     end_at(Cursor {
-        text: from.text,
         offset: end,
         line: from.line + run.lengths as u32,
+        ..from
     })?;
     let board = Board {
-        ranks: order.ranks,
+        ranks: ranking.ranks,
         owners,
         lengths,
     };
-    watch_run(out, order, run.ticks, &board)
+    watch_run(out, ranking, run.ticks, &board)
 }
 
 // The ticks and the number of lengths, and what follows them.
-fn watch_order(from: Cursor, out: &mut [u8], order: &Ranking) -> Result<usize, Refusal>
-    requires { AtTicks from.text.now from.offset from.line order.now }
+fn watch_order(from: Cursor, out: &mut [u8], ranking: &Ranking) -> Result<usize, Refusal>
+    requires { AtTicks from.text.now from.offset from.line ranking.now }
     ensures { Written (watched from.entry.text.now (length out.old)) out.old out.new result }
 {
     let ticks = line_at(from, b"ticks=", TICKS_MIN, TICKS_MAX)?;
     let at_count = Cursor {
-        text: from.text,
         offset: ticks.next,
         line: from.line + 1,
+        ..from
     };
     let count = line_at(at_count, b"lengths=", LENGTHS_MIN, LENGTHS_MAX)?;
     let at_lengths = Cursor {
-        text: from.text,
         offset: count.next,
         line: from.line + 2,
+        ..from
     };
     let run = Extent {
         ticks: ticks.value,
         lengths: count.value as usize,
     };
-    watch_lengths(at_lengths, out, order, run)
+    watch_lengths(at_lengths, out, ranking, run)
 }
 
 // The first releases of a table's rows, and what follows them.
@@ -149,19 +149,22 @@ fn watch_table(
         owners: &owners[..n],
     };
     let next = read_numbers(front.cursor(text), &lines, releases)?;
-    let rows = rows_from(&numbers[HEAD..], n);
+    let table = Table { numbers, count: n };
     let mut positions = [0usize; MAX_TASKS];
     let positions = &mut positions[..n];
-    place_ranks(numbers, rows, positions);
-    let lent = LentOrder { rows, positions };
-    let rows = OrderInLimits { lent };
+    place_ranks(table, positions);
+    let lent = LentOrder {
+        rows: table.rows(),
+        positions,
+    };
+    let order = OrderInLimits { lent };
     let mut ranks = [Rank::NONE; MAX_TASKS];
     let ranks = &mut ranks[..n];
     let mut ranges = [Range::NONE; MAX_TASKS];
     let ranges = &mut ranges[..n];
-    fill_ranks(rows, releases, ranks, ranges);
-    let order = Ranking {
-        rows,
+    fill_ranks(order, releases, ranks, ranges);
+    let ranking = Ranking {
+        order,
         ranks,
         ranges,
     };
@@ -170,7 +173,7 @@ fn watch_table(
         offset: next,
         line: front.line + n as u32,
     };
-    watch_order(at_ticks, out, &order)
+    watch_order(at_ticks, out, &ranking)
 }
 
 // The watcher: the jobs that a board finishes, run as a text says. The lines are measured before they are written, so

@@ -38,9 +38,9 @@ pub fn read_numbers(from: Cursor, lines: &Lines, numbers: &mut [u64]) -> Result<
     for (m, number) in numbers.iter_mut().enumerate() {
         let range = lines.ranges[lines.owners[m]];
         let here = Cursor {
-            text: from.text,
             offset: at,
             line: from.line + m as u32,
+            ..from
         };
         let line = line_at(here, lines.key, range.low, range.high)?;
         *number = line.value;

@@ -15,17 +15,17 @@ says : (text : List ℕ) {o o' : List ℕ} {r : Result ℕ Refusal} → Written 
     → ReviewSays text o o' r
 says text {o} w = record { answer = w; demands = review_demands text (length o); no_other = decided text (length o) }
 
-pub returns-in_err-n : goal.returns-in_err-n
-returns-in_err-n c =
+pub returns-in_err-count : goal.returns-in_err-count
+returns-in_err-count c =
     let p = err_from_is_err_and c.from_residual.result c.from_residual.ensures.1 in
-    rw (p.1, p.2) (says c.args.text.now (turned_down c.in_err-n.ensures.answer _))
+    rw (p.1, p.2) (says c.args.text.now (turned_down c.in_err-count.ensures.answer _))
 
-pub given_order-order-requires-clause-task_numbers : goal.given_order-order-requires-clause-task_numbers
-given_order-order-requires-clause-task_numbers c = ranks_small c.in_ok-n.ensures.answer
+pub order-requires-clause-task_numbers : goal.order-requires-clause-task_numbers
+order-requires-clause-task_numbers c = ranks_small c.in_ok-count.ensures.answer
 
 pub returns : goal.returns
 returns c =
     let p = c.plan_tasks in
-    let is = given_plan c.in_ok-n.ensures.answer c.rows_from-rows.result.now c.rows_from-rows.ensures.table c.given_order-order.ensures
+    let is = given_plan c.in_ok-count.ensures.answer c.rows.result.now c.rows.ensures.table c.order.ensures
     (length c.args.out.now) in
-    says c.args.text.now (subst (λ (x : Outcome). Written x c.args.out.now p.new.out p.result) is p.ensures)
+    says c.args.text.now (subst (λ (x : Outcome). Written x c.args.out.now p.new.out p.result) is (rw c.board.ensures at p.ensures))

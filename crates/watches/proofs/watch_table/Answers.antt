@@ -40,14 +40,14 @@ returns-in_err-next c =
 
 pub invariant_of-lent : goal.invariant_of-lent
 invariant_of-lent c =
-    let rows = c.rows_from-rows in
-    let placed = rw rows.ensures.count at c.place_ranks.ensures in
+    let rows = c.rows in
+    let placed = c.place_ranks.ensures in
     record { held = below c.requires.table c.requires.held _ rows.ensures.table _ placed }
 
-pub invariant_of-rows : goal.invariant_of-rows
-invariant_of-rows c =
-    let rows = c.rows_from-rows in
-    let placed = rw rows.ensures.count at c.place_ranks.ensures in
+pub invariant_of-order : goal.invariant_of-order
+invariant_of-order c =
+    let rows = c.rows in
+    let placed = c.place_ranks.ensures in
     let a = c.requires in
     record {
       few = omega (arith, few_rows a.table a.held _ rows.ensures.table _ placed);
@@ -56,8 +56,8 @@ invariant_of-rows c =
 
 pub fill_ranks-requires : goal.fill_ranks-requires
 fill_ranks-requires c =
-    let rows = c.rows_from-rows in
-    let placed = rw rows.ensures.count at c.place_ranks.ensures in
+    let rows = c.rows in
+    let placed = c.place_ranks.ensures in
     let a = c.requires in
     let many = positions_many a.table a.held _ rows.ensures.table _ placed in
     record {
@@ -69,8 +69,8 @@ fill_ranks-requires c =
 pub watch_order-requires : goal.watch_order-requires
 watch_order-requires c =
     let n = c.args.front.stand.count in
-    let rows = c.rows_from-rows in
-    let placed = rw rows.ensures.count at c.place_ranks.ensures in
+    let rows = c.rows in
+    let placed = c.place_ranks.ensures in
     let a = c.requires in
     let f = c.fill_ranks in
     let e = c.cursor.ensures in

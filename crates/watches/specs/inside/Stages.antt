@@ -59,7 +59,7 @@ pub record AtReleases (text : List ℕ) (at k : ℕ) (ns : List ℕ) (n : ℕ) :
 pub record LaidBy (front releases : List ℕ) (x : Ranking) : Type 0 where
   pub table : Unheld front
   pub few : length (order_of front) ≤ max_tasks
-  pub order_is : rows_in_order x.rows.lent ≡ order_of front
+  pub order_is : rows_in_order x.order.lent ≡ order_of front
   pub ranks_many : length x.ranks.now ≡ length (order_of front)
   pub ranges_many : length x.ranges.now ≡ length (order_of front)
   pub rank_is :

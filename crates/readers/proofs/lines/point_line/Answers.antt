@@ -91,27 +91,27 @@ module _ (n i : ℕ) (ns text : List ℕ) (at k : ℕ) where
 pub returns-in-Err : goal.returns-in-Err
 returns-in-Err c =
     let a = c.args in
-    delay_refused a.count a.position a.numbers.now a.at.text.now a.at.offset a.at.line c.in-Err.refusal
+    delay_refused a.stand.count a.stand.position a.numbers.now a.at.text.now a.at.offset a.at.line c.in-Err.refusal
     (omega arith) (omega arith) (omega arith) c.in-Err.ensures
 
 pub returns-in-Err-line_at : goal.returns-in-Err-line_at
 returns-in-Err-line_at c =
     let a = c.args in
-    allow_refused a.count a.position a.numbers.now a.at.text.now a.at.offset a.at.line c.in-Err-line_at.refusal
+    allow_refused a.stand.count a.stand.position a.numbers.now a.at.text.now a.at.offset a.at.line c.in-Err-line_at.refusal
     (omega arith) (omega arith) (omega arith) c.in-Err-line_at.ensures
 
 pub returns-else-position-eq-FIRST_POINT : goal.returns-else-position-eq-FIRST_POINT
 returns-else-position-eq-FIRST_POINT c =
     let a = c.args in
-    let j = (a.position - (first_point_at + 2)) / 2 in
+    let j = (a.stand.position - (first_point_at + 2)) / 2 in
     c.unless.ensures
-    ∙ delay_tested a.count a.position a.numbers.now a.at.text.now a.at.offset a.at.line c.in-Ok.delay j
+    ∙ delay_tested a.stand.count a.stand.position a.numbers.now a.at.text.now a.at.offset a.at.line c.in-Ok.delay j
     (omega arith) (omega arith) c.in-Ok.ensures
 
 pub returns-else-position : goal.returns-else-position
 returns-else-position c =
     let a = c.args in
-    let j = (a.position - (first_point_at + 3)) / 2 in
+    let j = (a.stand.position - (first_point_at + 3)) / 2 in
     c.unless-in-Ok-line_at.ensures
-    ∙ allow_tested a.count a.position a.numbers.now a.at.text.now a.at.offset a.at.line c.in-Ok-line_at.allow j
+    ∙ allow_tested a.stand.count a.stand.position a.numbers.now a.at.text.now a.at.offset a.at.line c.in-Ok-line_at.allow j
     (omega arith) (omega arith) c.in-Ok-line_at.ensures

@@ -18,9 +18,9 @@ returns-in-Ok-line_at c =
     let ns = a.numbers.now in
     let worst = c.in-Ok-line_at.worst in
     let cost = full_cost worst.value (switch_in ns) in
-    let limit = between_at (row_start a.count) ns worst_at period_at (omega arith) in
+    let limit = between_at (row_start a.stand.count) ns worst_at period_at (omega arith) in
     rw (c.in-2.is) (
     (rw (c.fits-fits.ensures, not_flips) at c.unless-in-Ok-line_at.ensures)
     ∙ ap (λ x. unless (at_most x cost) (told (Ok worst)) a.at.line) (sym limit)
-    ∙ ap (λ l. tested (λ v. at_most (get_or (behind a.count worst_at ns) period_at 0) (full_cost v (switch_in ns))) l a.at.line)
+    ∙ ap (λ l. tested (λ v. at_most (get_or (behind a.stand.count worst_at ns) period_at 0) (full_cost v (switch_in ns))) l a.at.line)
     c.in-Ok-line_at.ensures)
