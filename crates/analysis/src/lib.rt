@@ -2,7 +2,7 @@
 // block it for some ticks.
 #![tactic(auto)]
 
-ghost use Rattle.std.specs.Prelude.{◌≡◌, true, ◌+◌, ◌-◌, ◌*◌, ◌≤◌, ◌<◌, length, drop};
+ghost use Rattle.std.specs.Prelude.{◌≡◌, true, ◌+◌, ◌-◌, ◌*◌, ◌≤◌, length, drop};
 ghost use Rattle.std.proofs.Math.IntN.{sub_ℕ};
 ghost use Rattle.basics.specs.Basics.{pick};
 ghost use Rattle.rows.specs.Rows.{max_ticks, max_alpha, max_beta, in_range, times_in_range};
@@ -12,7 +12,6 @@ ghost use Rattle.rows.specs.inside.Numbers.{row_from};
 ghost use Rattle.rows.specs.inside.LentOrders.{rows_in_order};
 ghost use Rattle.analysis.specs.inside.Above.{Fillable, Filled, Under, FiguresIn};
 
-use basics::larger;
 use curves::{curve_margin, points_from};
 use fixed_points::{Tasks, largest_fixed, least_fixed};
 use responses::{Figures, Load, NoFigures};
@@ -77,11 +76,12 @@ pub fn blocking_time(largest: u64) -> u64
 pub fn blocking_from(order: LentOrder) -> u64
     ensures { result ≡ blocking (rows_in_order order.entry) }
 {
-    let mut largest = 0;
-    for position in order.positions {
-        largest = larger(largest, order.rows[*position][HOLD]);
-    }
-    blocking_time(largest)
+    let largest = order
+        .positions
+        .iter()
+        .map(|position| order.rows[*position][HOLD])
+        .max();
+    blocking_time(largest.unwrap_or(0))
 }
 
 // The blocking time of the rows behind the first of an order, by that of all: where that is 0, so is this.

@@ -1,5 +1,5 @@
 // The figures of document 01 by plain scanning.
-ghost use Rattle.std.specs.Prelude.{◌<◌, ◌≤◌, length, IfSome};
+ghost use Rattle.std.specs.Prelude.{◌≤◌, length, IfSome};
 
 use crate::tables::Row;
 
@@ -40,15 +40,11 @@ pub struct Rank<'a> {
 }
 
 impl<'a> Rank<'a> {
-    // Of rows that stand highest rank first the one at k.
-    pub fn of(rows: &'a [Row], k: usize) -> Self
-        requires few { length rows.now ≤ 6 }
-        requires inside { k < length rows.now }
+    // A row under those above it.
+    pub fn of(row: Row, above: &'a [Row]) -> Self
+        requires { length above.now ≤ 6 }
     {
-        Rank {
-            row: rows[k],
-            above: &rows[..k],
-        }
+        Rank { row, above }
     }
 
     // Whether ticks of its own and those that each row above takes fill a window exactly.

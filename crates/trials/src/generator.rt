@@ -86,8 +86,9 @@ fn line_up(rows: &mut [Row], dice: &mut Dice)
 {
     let short = usize::from(dice.between(0, 11));
     let loose = any_loose(dice);
+    // By position: a row is written while those above it are read.
     for k in 0..rows.len() {
-        let line = Rank::of(rows, k).figures().map(|f| f.line);
+        let line = Rank::of(rows[k], &rows[..k]).figures().map(|f| f.line);
         rows[k].beta = any_beta(dice, line, k == short, loose);
     }
 }

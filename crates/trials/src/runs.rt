@@ -121,13 +121,12 @@ fn seated(rows: &[Row], spread: u16, dice: &mut Dice) -> [Seat; ROWS]
     let mut seats = [Seat::default(); ROWS];
     // The last of the first releases above.
     let mut last = None;
-    for k in 0..rows.len() {
-        let rank = Rank::of(rows, k);
+    for (k, row) in rows.iter().enumerate() {
         let first = dice.between(0, spread);
-        let held_from = last.map_or(0, |last| u64::from(last) + u64::from(rank.row.period));
+        let held_from = last.map_or(0, |last| u64::from(last) + u64::from(row.period));
         seats[k] = Seat {
-            row: rank.row,
-            figures: rank.figures().unwrap_or_default(),
+            row: *row,
+            figures: Rank::of(*row, &rows[..k]).figures().unwrap_or_default(),
             held_from,
             next: u64::from(first),
             job: None,

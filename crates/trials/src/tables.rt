@@ -20,7 +20,8 @@ pub struct Row {
 #[derive(Clone, Copy)]
 pub struct Table {
     pub board: u16,
-    // The first `count` are the table's: without a heap a table is as long as the longest.
+    // The first `count` are the table's: without a heap, and without a crate beside the library's own, a table is as long
+    // as the longest and has its count beside it.
     held: [Row; ROWS],
     count: usize,
     ghost fits: { count ≤ 6 },
@@ -65,8 +66,8 @@ impl Table {
         let rows = self.rows();
         let mut stable = true;
         let mut edge = false;
-        for k in 0..rows.len() {
-            let rank = Rank::of(rows, k);
+        for (k, row) in rows.iter().enumerate() {
+            let rank = Rank::of(*row, &rows[..k]);
             let figures = rank.figures().ok_or(Late { rank: k as u32 + 1 })?;
             stable &= figures.margin >= 0;
             edge |= figures.margin == 0;
