@@ -12,6 +12,7 @@ ghost use Rattle.rows.specs.inside.Numbers.{row_from};
 ghost use Rattle.rows.specs.inside.LentOrders.{rows_in_order};
 ghost use Rattle.analysis.specs.inside.Above.{Fillable, Filled, Under, FiguresIn};
 
+use basics::larger;
 use curves::{curve_margin, points_from};
 use fixed_points::{Tasks, largest_fixed, least_fixed};
 use responses::{Figures, Load, NoFigures};
@@ -72,16 +73,16 @@ pub fn blocking_time(largest: u64) -> u64
     largest.saturating_sub(1)
 }
 
-// The blocking time of the rows of an order.
+// The blocking time of the rows of an order. A loop and not `map` with `max`: tried, and the proof does not close that a
+// closure which reads a row may be called at each position.
 pub fn blocking_from(order: LentOrder) -> u64
     ensures { result ≡ blocking (rows_in_order order.entry) }
 {
-    let largest = order
-        .positions
-        .iter()
-        .map(|position| order.rows[*position][HOLD])
-        .max();
-    blocking_time(largest.unwrap_or(0))
+    let mut largest = 0;
+    for position in order.positions {
+        largest = larger(largest, order.rows[*position][HOLD]);
+    }
+    blocking_time(largest)
 }
 
 // The blocking time of the rows behind the first of an order, by that of all: where that is 0, so is this.
@@ -117,7 +118,8 @@ pub fn load_at_best(row: &RowNumbers) -> Load
     }
 }
 
-// The loads of the rows of an order, as many places as rows.
+// The loads of the rows of an order, as many places as rows. By the index k: a `zip` of three is no plainer, and its
+// invariant is over three iterators in place of one index.
 pub fn fill_loads(order: LentOrder, worst: &mut [Load], best: &mut [Load])
     requires { Fillable (rows_in_order order) (length worst.old) (length best.old) }
     ensures { Filled (rows_in_order order.entry) worst.new best.new }

@@ -1,5 +1,6 @@
 // The figures of document 01 by plain scanning.
 ghost use Rattle.std.specs.Prelude.{◌≤◌, length, IfSome};
+ghost use Rattle.trials.specs.declared.tables.TheConstants.{ROWS};
 
 use crate::tables::Row;
 
@@ -36,13 +37,13 @@ impl Row {
 pub struct Rank<'a> {
     pub row: Row,
     pub above: &'a [Row],
-    ghost few: { length above.now ≤ 6 },
+    ghost few: { length above.now ≤ ROWS },
 }
 
 impl<'a> Rank<'a> {
     // A row under those above it.
     pub fn of(row: Row, above: &'a [Row]) -> Self
-        requires { length above.now ≤ 6 }
+        requires { length above.now ≤ ROWS }
     {
         Rank { row, above }
     }

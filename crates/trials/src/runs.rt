@@ -116,7 +116,7 @@ impl Seat {
 
 // The seats of rows before tick 0, with first releases from 0 to `spread`.
 fn seated(rows: &[Row], spread: u16, dice: &mut Dice) -> [Seat; ROWS]
-    requires { length rows.now ≤ 6 }
+    requires { length rows.now ≤ ROWS }
 {
     let mut seats = [Seat::default(); ROWS];
     // The last of the first releases above.

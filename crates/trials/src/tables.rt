@@ -1,5 +1,6 @@
 // Tables of a few tasks, and what their figures say of them.
 ghost use Rattle.std.specs.Prelude.{◌≤◌, length};
+ghost use Rattle.trials.specs.declared.tables.TheConstants.{ROWS};
 
 use crate::figures::Rank;
 
@@ -24,7 +25,7 @@ pub struct Table {
     // as the longest and has its count beside it.
     held: [Row; ROWS],
     count: usize,
-    ghost fits: { count ≤ 6 },
+    ghost fits: { count ≤ ROWS },
 }
 
 // The first rank that is late, from 1.
@@ -44,7 +45,7 @@ pub struct Margins {
 
 impl Table {
     pub fn new(board: u16, rows: &[Row]) -> Self
-        requires { length rows.now ≤ 6 }
+        requires { length rows.now ≤ ROWS }
     {
         let mut held = [Row::default(); ROWS];
         held[..rows.len()].copy_from_slice(rows);
@@ -56,7 +57,7 @@ impl Table {
     }
 
     pub fn rows(&self) -> &[Row]
-        ensures { length result.now ≤ 6 }
+        ensures { length result.now ≤ ROWS }
     {
         &self.held[..self.count]
     }

@@ -1,5 +1,6 @@
 // Tables and plans as text, in fixed memory.
 ghost use Rattle.std.specs.Prelude.{◌≤◌};
+ghost use Rattle.trials.specs.declared.texts.TheConstants.{SPACE};
 
 use crate::figures::{Figures, Rank};
 use crate::tables::{Row, Table};
@@ -14,7 +15,7 @@ pub const SPACE: usize = 1024;
 pub struct Text {
     bytes: [u8; SPACE],
     len: usize,
-    ghost fits: { len ≤ 1024 },
+    ghost fits: { len ≤ SPACE },
 }
 
 impl Text {
