@@ -73,8 +73,8 @@ pub fn blocking_time(largest: u64) -> u64
     largest.saturating_sub(1)
 }
 
-// The blocking time of the rows of an order. A loop and not `map` with `max`: tried, and the proof does not close that a
-// closure which reads a row may be called at each position.
+// The blocking time of the rows of an order. A loop and not `map` with `max`: tried, and the proof does not close that
+// a closure which reads a row may be called at each position.
 pub fn blocking_from(order: LentOrder) -> u64
     ensures { result ≡ blocking (rows_in_order order.entry) }
 {

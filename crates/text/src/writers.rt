@@ -40,8 +40,8 @@ pub trait Written: Copy {
 impl Written for u64 {
     ghost spelled = { decimal };
 
-    // The digits are put from the last to the first. By the place's index: with the places themselves (`iter_mut().rev()`),
-    // tried, the proof does not close, since what is left of the iterator is in place of the index.
+    // The digits are put from the last to the first. By the place's index: with `iter_mut().rev()`, tried, the proof
+    // does not close, since what is left of the iterator is in place of the index.
     fn put(self, out: &mut [u8]) -> usize {
         let long = places(self);
         let mut rest = self;

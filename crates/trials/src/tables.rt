@@ -21,8 +21,8 @@ pub struct Row {
 #[derive(Clone, Copy)]
 pub struct Table {
     pub board: u16,
-    // The first `count` are the table's: without a heap, and without a crate beside the library's own, a table is as long
-    // as the longest and has its count beside it.
+    // The first `count` are the table's: without a heap, and without a crate beside the library's own, a table is as
+    // long as the longest and has its count beside it.
     held: [Row; ROWS],
     count: usize,
     ghost fits: { count ≤ ROWS },

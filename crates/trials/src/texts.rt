@@ -9,8 +9,8 @@ use std::fmt::{self, Write};
 // Bytes enough for every text of a generated table.
 pub const SPACE: usize = 1024;
 
-// A text, at most SPACE long: its bytes are counted beside them, without a heap and without a crate beside the library's
-// own. What has no room is dropped, and a text cut short would be seen as a difference.
+// A text, at most SPACE long: its bytes are counted beside them, without a heap and without a crate beside the
+// library's own. What has no room is dropped, and a text cut short would be seen as a difference.
 #[derive(Clone, Copy)]
 pub struct Text {
     bytes: [u8; SPACE],
