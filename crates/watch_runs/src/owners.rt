@@ -6,7 +6,7 @@ use super::steps::Rank;
 use rows::MAX_TASKS;
 
 // The rank of the earliest of the next releases; of several on one tick, the highest. A loop and not `min_by_key`: tried,
-// and the proof does not close, since no law of the library says which of equal keys it takes.
+// and the proof does not close, since no lemma of the library says which of equal keys it takes.
 fn earliest(nexts: &[u64]) -> usize
     requires { 1 ≤ length nexts.now }
     ensures { EarliestIs nexts.now result }
