@@ -155,9 +155,9 @@ fn watch_table(
     place_ranks(numbers, rows, positions);
     let lent = LentOrder { rows, positions };
     let rows = OrderInLimits { lent };
-    let mut ranks = [Rank::NONE; MAX_TASKS];
+    let mut ranks = [Rank::default(); MAX_TASKS];
     let ranks = &mut ranks[..n];
-    let mut ranges = [Range::NONE; MAX_TASKS];
+    let mut ranges = [Range::default(); MAX_TASKS];
     let ranges = &mut ranges[..n];
     fill_ranks(rows, releases, ranks, ranges);
     let order = Ranking {
