@@ -13,7 +13,7 @@ ghost use Rattle.rows.specs.inside.LentOrders.{rows_in_order};
 ghost use Rattle.analysis.specs.inside.Above.{Fillable, Filled, Under, FiguresIn};
 
 use basics::larger;
-use curves::{curve_margin, points_from};
+use curves::{Responses, curve_margin, points_from};
 use fixed_points::{Tasks, largest_fixed, least_fixed};
 use responses::{Figures, Load, NoFigures};
 use rows::{
@@ -23,7 +23,9 @@ use rows::{
 // The least hold that keeps the processor past a tick.
 const LEAST_HOLD: u64 = 2;
 
-// The loads of the rows above a row: by what a job of each takes at most, and at least.
+// The loads of the rows above a row: by what a job of each takes at most, and at least. They are the two lists of the
+// definitions, and the search of W goes over one of them again and again: one slice of three numbers would make each pass
+// longer (docs/DECISIONS.md, "The rows above a row are two slices of loads").
 #[derive(Clone, Copy)]
 pub struct Above<'a> {
     pub worst: &'a [Load],
@@ -31,25 +33,26 @@ pub struct Above<'a> {
 }
 
 // How far responses are inside the stability line of alpha and beta.
-fn line_margin(alpha: u64, beta: u64, latest: u64, earliest: u64) -> i64
-    requires { (alpha ≤ max_alpha) × (beta ≤ max_beta) × (latest ≤ max_ticks) × (earliest ≤ latest) }
-    ensures { result ≡ sub_ℕ beta (1000 * earliest + alpha * (latest - earliest)) }
+fn line_margin(alpha: u64, beta: u64, responses: Responses) -> i64
+    requires { (alpha ≤ max_alpha) × (beta ≤ max_beta) }
+    ensures { result ≡ sub_ℕ beta (1000 * responses.earliest + alpha * (responses.latest - responses.earliest)) }
 {
-    let used = 1000 * earliest + alpha * (latest - earliest);
+    // both are far below 2^63, so that `as` loses nothing
+    let used = 1000 * responses.earliest + alpha * responses.jitter();
     beta as i64 - used as i64
 }
 
 // How far responses of a row are inside its stability condition: that of its curve, or with no points its line.
-pub fn margin(row: &RowNumbers, latest: u64, earliest: u64) -> i64
-    requires { (in_range (row_from row.now) ≡ true) × (latest ≤ max_ticks) × (earliest ≤ latest) }
-    ensures { result ≡ margin_at (row_from row.now) latest earliest }
+pub fn margin(row: &RowNumbers, responses: Responses) -> i64
+    requires { in_range (row_from row.now) ≡ true }
+    ensures { result ≡ margin_at (row_from row.now) responses.latest responses.earliest }
 {
     let points = row[POINTS];
     if points == 0 {
-        return line_margin(row[ALPHA], row[BETA], latest, earliest);
+        return line_margin(row[ALPHA], row[BETA], responses);
     }
     let curve = points_from(&row[FIRST_POINT..SWITCH], points as usize);
-    curve_margin(curve, latest, earliest)
+    curve_margin(curve, responses)
 }
 
 // The earliest response of a row, whose latest is known, under some rows: in a stretch of its own none of them counts.
@@ -143,11 +146,12 @@ pub fn figures_under(row: &RowNumbers, blocked: u64, above: Above) -> Result<Fig
         return Err(NoFigures::Late);
     };
     let earliest = earliest(row, latest, best);
-    let margin = margin(row, latest, earliest);
+    let responses = Responses { latest, earliest };
+    let margin = margin(row, responses);
     Ok(Figures {
         worst: latest as u32,
         best: earliest as u32,
-        jitter: (latest - earliest) as u32,
+        jitter: responses.jitter() as u32,
         margin,
         stable: 0 <= margin,
     })

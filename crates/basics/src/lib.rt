@@ -1,4 +1,5 @@
-// What every crate says of tests, numbers, ranges and lists of numbers.
+// What every crate says of tests, numbers, ranges and lists of numbers. Each function here ties a method of the library to
+// the definition that proofs cite.
 #![tactic(auto)]
 
 ghost use Rattle.std.specs.Prelude.{◌≡◌};

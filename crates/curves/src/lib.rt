@@ -2,7 +2,7 @@
 // points are lent as they follow one another, each as its two numbers.
 #![tactic(auto)]
 
-ghost use Rattle.std.specs.Prelude.{◌≡◌, true, ◌*◌, ◌≤◌, ◌<◌, ◌^◌, length, MatchOption};
+ghost use Rattle.std.specs.Prelude.{◌≡◌, true, ◌-◌, ◌*◌, ◌≤◌, ◌<◌, ◌^◌, length, MatchOption};
 ghost use Rattle.std.proofs.Math.IntN.{sub_ℕ};
 ghost use Rattle.curves.specs.Curves.{max_delay, max_allow, max_response, well_formed, point_from, points_of, points_from};
 ghost use Rattle.curves.specs.Curves.{on_line, permitted, floor_of, thousandths, curve_margin};
@@ -10,7 +10,8 @@ ghost use Rattle.curves.specs.inside.Places.{Passed, Reached};
 
 use basics::within;
 
-// A point's numbers, and where each stands among them.
+// A point's numbers, and where each stands among them: an array and no struct, since a row's numbers are lent as they stand
+// (docs/DECISIONS.md, "Rows are lent as arrays of their numbers").
 pub type PointNumbers = [u64; 2];
 
 pub const DELAY: usize = 0;
@@ -33,7 +34,8 @@ pub const ALLOW_MIN: u64 = 0;
 
 pub const ALLOW_MAX: u64 = 1_000_000;
 
-// The first n points of numbers that stand by turns: the last place where a count stands beside them.
+// The first n points of numbers that stand by turns: a row has the count of its points beside room for the most, and the
+// points that are lent have it within.
 pub fn points_from(numbers: &[u64], n: usize) -> &[PointNumbers]
     requires { 2 * n ≤ length numbers.now }
     ensures points { points_of result.now ≡ points_from n numbers.now }
@@ -67,12 +69,31 @@ pub fn well_formed(points: &[PointNumbers]) -> bool
 
 // over / under.
 #[derive(Clone, Copy)]
-pub struct Fraction {
-    pub over: u64,
-    pub under: u64,
+struct Fraction {
+    over: u64,
+    under: u64,
 }
 
-// (a - b) / d rounded down. Signed `/` rounds towards zero, so both signs divide without a sign.
+// The latest and the earliest response of a row, in ticks.
+#[derive(Clone, Copy)]
+pub struct Responses {
+    pub latest: u64,
+    pub earliest: u64,
+    pub ghost in_limits: { latest ≤ max_response },
+    pub ghost ordered: { earliest ≤ latest },
+}
+
+impl Responses {
+    // How far apart they are.
+    pub fn jitter(self) -> u64
+        ensures { result ≡ self.latest - self.earliest }
+    {
+        self.latest - self.earliest
+    }
+}
+
+// (a - b) / d rounded down. Signed `/` rounds towards zero, so both signs divide without a sign, and a quotient below 2^63
+// gets one by `as`, which loses nothing.
 fn floor_of(a: u64, b: u64, d: u64) -> i64
     requires { (1 ≤ d) × (a < 2 ^ 63) × (b < 2 ^ 63) }
     ensures { result ≡ floor_of (sub_ℕ a b) d }
@@ -127,15 +148,15 @@ fn permitted(points: &[PointNumbers], earliest: u64) -> Fraction
 }
 
 // The margin of responses under a curve.
-pub fn curve_margin(points: &[PointNumbers], latest: u64, earliest: u64) -> i64
-    requires { (1 ≤ length points.now) × (well_formed (points_of points.now) ≡ true)
-        × (latest ≤ max_response) × (earliest ≤ latest) }
-    ensures { result ≡ curve_margin (points_of points.now) latest earliest }
+pub fn curve_margin(points: &[PointNumbers], responses: Responses) -> i64
+    requires { (1 ≤ length points.now) × (well_formed (points_of points.now) ≡ true) }
+    ensures { result ≡ curve_margin (points_of points.now) responses.latest responses.earliest }
 {
+    let earliest = responses.earliest;
     let last = points[points.len() - 1][DELAY];
     if last < earliest {
         return floor_of(1000 * last, 1000 * earliest, 1);
     }
     let f = permitted(points, earliest);
-    thousandths(f, latest - earliest)
+    thousandths(f, responses.jitter())
 }

@@ -56,8 +56,8 @@ pub fn row_figures(numbers: &[u64], n: usize, i: usize) -> Result<Figures, NoFig
         rows,
         positions: &positions[..n],
     };
-    let mut worst = [Load::NONE; MAX_TASKS];
-    let mut best = [Load::NONE; MAX_TASKS];
+    let mut worst = [Load::default(); MAX_TASKS];
+    let mut best = [Load::default(); MAX_TASKS];
     let worst = &mut worst[..i];
     let best = &mut best[..i];
     fill_loads(order.front(i), worst, best);

@@ -19,7 +19,7 @@ pub struct Tasks<'a> {
 }
 
 // x / p rounded up. A window is often within the period, and a test is faster than a division; x + p is far below 2^32,
-// and division is faster there than in 64 bits.
+// and division is faster there than in 64 bits, so that `as` loses nothing.
 fn ceil(x: u64, p: u64) -> u64
     requires { (1 ≤ x) × (x ≤ max_ticks) × (1 ≤ p) × (p ≤ max_ticks) }
     ensures { result ≡ ceiling x p }
@@ -48,6 +48,9 @@ pub struct Tried {
     pub last: u64,
     pub steps: u64,
 }
+
+// The base, the limit and the tasks go side by side from here on. A struct of the three, with their bounds, would ask more
+// of the callers of the next two: the first value has no limit, and either takes a base of 0.
 
 // The first value that it tries: the base and one job of each task, which is what a window of one tick meets.
 pub fn first_value(base: u64, tasks: Tasks) -> u64

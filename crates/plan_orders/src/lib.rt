@@ -50,7 +50,8 @@ pub fn buffer() -> [u8; ROOM]
 }
 
 // The ranks of an order, the highest first, up to the first late one; the loads of its rows are lent. How long their text
-// is, or the first late rank, counted from 1.
+// is, or the first late rank, counted from 1. `as` loses no number: a row's task is in range, and there are no more ranks
+// than loads.
 fn put_ranks(out: &mut [u8], order: OrderInLimits, loads: Above) -> Result<usize, u32>
     requires filled { Filled (rows_in_order order.lent) loads.worst.now loads.best.now }
     requires room { length (rows_in_order order.lent) * rank_room ≤ length out.old }
@@ -92,8 +93,8 @@ fn put_plan<const MOST: usize>(
     ensures { PutsPlan board (rows_in_order order.entry.lent) text.old text.new result }
 {
     let n = order.lent.len();
-    let mut worst = [Load::NONE; MOST];
-    let mut best = [Load::NONE; MOST];
+    let mut worst = [Load::default(); MOST];
+    let mut best = [Load::default(); MOST];
     let worst = &mut worst[..n];
     let best = &mut best[..n];
     fill_loads(order.lent, worst, best);
@@ -151,7 +152,8 @@ pub fn plan_order(out: &mut [u8], board: u16, order: OrderInLimits) -> Result<us
 }
 
 // What a program prints of an answer: the plan that stands in the buffer, as long as it says and the buffer is, or the
-// refusal's lines.
+// refusal's lines. The four calls that print by this stand apart: what they have in common is this call, and each promises
+// what its own program prints.
 pub fn printed<const LONG: usize>(answer: Result<usize, Refusal>, out: &mut [u8; LONG]) -> usize
     requires { plan_room ≤ LONG }
     ensures { Wrote (to_print answer out.old) out.old out.new result }

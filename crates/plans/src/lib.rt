@@ -43,7 +43,7 @@ impl Refusal {
         }
     }
 
-    // Its line or rank; 0 where it has neither.
+    // Its line or rank; 0 where it has neither, which is the place that the documents give such a refusal.
     pub fn place(self) -> u32
         ensures { result ≡ place self }
     {

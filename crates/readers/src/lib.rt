@@ -19,7 +19,7 @@ mod progress;
 pub const MOST_NUMBERS: usize = HEAD + FIELDS * MAX_TASKS + MAX_TASKS;
 
 // A row's lines have at least so many bytes: eight lines of seven.
-pub const ROW_BYTES: usize = 56;
+const ROW_BYTES: usize = 56;
 
 // How many numbers are room enough for the table of a short text, and of longer ones.
 pub const FEW_NUMBERS: usize = 64;

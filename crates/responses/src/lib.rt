@@ -2,19 +2,16 @@
 // `analysis`.
 #![tactic(auto)]
 
-// A task by what counts of it in a window: its period, and the ticks that each of its jobs takes.
-#[derive(Clone, Copy, Debug, PartialEq, Eq)]
+// A task by what counts of it in a window: its period, and the ticks that each of its jobs takes. The default stands where
+// no task is put yet, and takes nothing.
+#[derive(Clone, Copy, Debug, Default, PartialEq, Eq)]
 pub struct Load {
     pub period: u64,
     pub cost: u64,
 }
 
-impl Load {
-    // No task, which takes nothing.
-    pub const NONE: Load = Load { period: 0, cost: 0 };
-}
-
-// The figures of a row that is in time: times in ticks, the margin in thousandths of a tick.
+// The figures of a row that is in time: times in ticks, the margin in thousandths of a tick. It is stable where the margin
+// is not below 0; `figures::row_figures` promises that as a field of its own.
 #[derive(Clone, Copy, Debug, PartialEq, Eq)]
 pub struct Figures {
     pub worst: u32,

@@ -10,10 +10,12 @@ use super::numbers::{FIELDS, FIRST_POINT, POINTS, SWITCH, TASK, WORST};
 use super::{Row, full_cost};
 use curves::{POINTS_MAX, points_from, well_formed};
 
-// The numbers of a row.
+// The numbers of a row, with names for their places (numbers.rt) and no struct: they are the reader's numbers, lent as they
+// stand, and records would have to be made anew (docs/DECISIONS.md, "Rows are lent as arrays of their numbers").
 pub type RowNumbers = [u64; FIELDS];
 
-// The first n rows of some numbers: the last place where a count stands beside them.
+// The first n rows of some numbers: the reader, and the calls that take numbers, have the count of the rows beside them,
+// and the rows that are lent have it within.
 pub fn rows_from(numbers: &[u64], n: usize) -> &[RowNumbers]
     requires { field_count * n ≤ length numbers.now }
     ensures table { table_of result.now ≡ rows_of n numbers.now }
@@ -63,8 +65,9 @@ fn position_of(task: u16, rows: &[RowNumbers]) -> Option<usize>
     rows.iter().position(|row| row[TASK] == sought)
 }
 
-// Where each of some tasks stands among the rows; their number where one does not. By the index k, as in `numbers`:
-// a `zip` is no plainer, and its invariant is over two iterators in place of one index.
+// Where each of some tasks stands among the rows; their number where one does not, as the definition has it and the
+// customer's formal statements ask for it. By the index k, as in `numbers`: a `zip` is no plainer, and its invariant is
+// over two iterators in place of one index.
 pub fn positions_for(tasks: &[u16], rows: &[RowNumbers], positions: &mut [usize])
     requires { length tasks.now ≤ length positions.old }
     ensures { positions.new ≡ positions_for tasks.now (table_of rows.now) ++ drop (length tasks.now) positions.old }

@@ -1,4 +1,5 @@
-// A task's row: its limits, and rows and orders as numbers. What a row is stands in specs/Rows.antt.
+// A task's row: its limits, and rows and orders as numbers. What a row is stands in specs/Rows.antt. `as` loses no number in
+// here: one goes into more bits, or keeps the limits; `u64::from` was tried, and adds a fact for each call to the answers.
 #![tactic(auto)]
 
 ghost use Rattle.std.specs.Prelude.{◌≡◌, ◌^◌, ◌<◌, leb};
@@ -42,7 +43,8 @@ pub struct Row {
     pub curve: [u64; CURVE],
 }
 
-// An order, highest rank first: at most MAX_TASKS task numbers and a count, since it goes by value and no heap is used.
+// An order, highest rank first: at most MAX_TASKS task numbers and a count, the form of document 01, since it goes by value
+// and no heap is used. No ghost field bounds the count: definitions make orders too, and each would owe a proof of it.
 #[derive(Clone, Copy)]
 pub struct Order {
     pub tasks: [u16; MAX_TASKS],
@@ -115,7 +117,7 @@ impl Row {
     }
 
     // The row of some numbers and a curve, if they keep its limits. Each number has its name here, which an array of them
-    // would not show.
+    // would not show. For callers who have rows as records, the form that document 01 names.
     pub fn new(
         task: u64,
         period: u64,

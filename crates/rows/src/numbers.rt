@@ -84,7 +84,8 @@ fn put_row(numbers: &mut [u64; NUMBERS], i: usize, row: &Row)
     }
 }
 
-// The rows are put among the numbers, one after another: all of them if there is room for all.
+// The rows are put among the numbers, one after another: all of them if there is room for all. For callers who have rows
+// as records, the form that document 01 names.
 pub fn put_rows(rows: &[Row], numbers: &mut [u64; NUMBERS])
     ensures { RowsPut (as_rows rows.now) numbers.old numbers.new }
 {
@@ -93,7 +94,7 @@ pub fn put_rows(rows: &[Row], numbers: &mut [u64; NUMBERS])
     }
 }
 
-// Whether a value is among some numbers.
+// Whether a value is among some numbers: it ties the library's method to the definition that proofs cite.
 pub fn is_among(numbers: &[u64], value: u64) -> bool
     ensures { result ≡ is_in value numbers.now }
 {

@@ -51,7 +51,8 @@ fn power(i: usize) -> usize
 }
 
 // The search of a table's order: its rows, what is known of each set of them, and places for the loads above a row. A
-// ghost field has one proof at most, so what the record knows stands between bars.
+// ghost field has one proof at most, so what the record knows stands between bars. Each method says by `kept` what it
+// leaves of the search: its rows are a field, since every method reads them, and `&mut self` lends that too.
 #[derive(Drop)]
 struct Search<'a, const SETS: usize, const TASKS: usize> {
     rows: &'a [RowNumbers],
@@ -209,8 +210,8 @@ fn order_within<const SETS: usize, const TASKS: usize>(rows: &[RowNumbers]) -> O
     let mut search: Search<'_, SETS, TASKS> = Search {
         rows,
         sets: [UNKNOWN; SETS],
-        worst: [Load::NONE; TASKS],
-        best: [Load::NONE; TASKS],
+        worst: [Load::default(); TASKS],
+        best: [Load::default(); TASKS],
     };
     search.order()
 }
@@ -233,7 +234,8 @@ fn choose_long(rows: &[RowNumbers]) -> Option<Order>
 }
 
 // The order of rows by the rule. n rows have 2 to the power n sets: fewer rows have a shorter record, which is sooner
-// filled.
+// filled. What rows it takes is a clause here and in the two functions above: a type for it would be made for this call
+// alone, and taken apart again in `order_within`.
 pub fn choose(rows: &[RowNumbers]) -> Option<Order>
     requires { Lent rows.now }
     ensures { Chooses (table_of rows.now) result }
@@ -248,7 +250,7 @@ pub fn choose(rows: &[RowNumbers]) -> Option<Order>
     choose_long(rows)
 }
 
-// The order of a table's rows by the rule.
+// The order of a table's rows by the rule. For callers who have rows as records, the form that document 01 names.
 pub fn order_of(rows: &[Row]) -> Option<Order>
     requires { TableRows (as_rows rows.now) }
     ensures { Chooses (as_rows rows.now) result }

@@ -12,11 +12,12 @@ mod runs;
 mod tables;
 mod texts;
 
+// No program names Found, Late and Margins, but public functions answer them.
 pub use counts::{Spread, Tally, count_if, print_count};
 pub use dice::Dice;
 pub use generator::any_table;
 pub use permutations::{Found, Order, first_stable};
 pub use questions::{Answer, Question, Refusal};
 pub use runs::{Finishes, Lengths, Run};
-pub use tables::{Late, Margins, ROWS, Row, Table};
+pub use tables::{Late, Margins, Row, Table};
 pub use texts::{SPACE, Text, print};

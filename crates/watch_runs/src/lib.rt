@@ -60,7 +60,7 @@ fn run(out: &mut [u8], ticks: u64, board: &Board) -> usize
     requires { Startable ticks board.now }
     ensures { Runs ticks board.now out.old out.new result }
 {
-    let mut jobs = [Pending::NONE; MAX_TASKS];
+    let mut jobs = [Pending::default(); MAX_TASKS];
     let pending = &mut jobs[..board.ranks.len()];
     begin(pending, board);
     let mut end = 0;

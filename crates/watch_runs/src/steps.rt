@@ -5,23 +5,14 @@ ghost use Rattle.watch_runs.specs.inside.States.{TurnIs, length_in, Begins, Stea
 
 use super::owners::{next_slot, seek};
 
-// A rank: its task, its first release, its period, and the most ticks that a job of it takes.
-#[derive(Clone, Copy)]
+// A rank: its task, its first release, its period, and the most ticks that a job of it takes. The default stands where no
+// rank is known yet.
+#[derive(Clone, Copy, Default)]
 pub struct Rank {
     pub task: u64,
     pub offset: u64,
     pub period: u64,
     pub cost: u64,
-}
-
-impl Rank {
-    // What stands where no rank is known yet.
-    pub const NONE: Rank = Rank {
-        task: 0,
-        offset: 0,
-        period: 0,
-        cost: 0,
-    };
 }
 
 // What a run knows: its ranks, the highest first, and the lengths of the first jobs, with the rank of each. The ranks are
@@ -33,21 +24,13 @@ pub struct Board<'a> {
     pub lengths: &'a [u64],
 }
 
-// A rank's oldest unfinished job: its release, the ticks that it still needs, and its slot among the lengths.
-#[derive(Clone, Copy)]
+// A rank's oldest unfinished job: its release, the ticks that it still needs, and its slot among the lengths. The default
+// stands where no job is known yet.
+#[derive(Clone, Copy, Default)]
 pub struct Pending {
     pub start: u64,
     pub left: u64,
     pub slot: Option<usize>,
-}
-
-impl Pending {
-    // What stands where no job is known yet.
-    pub const NONE: Pending = Pending {
-        start: 0,
-        left: 0,
-        slot: None,
-    };
 }
 
 // The rank and the release of a job that a tick finishes.

@@ -158,9 +158,9 @@ fn watch_table(
         positions,
     };
     let order = OrderInLimits { lent };
-    let mut ranks = [Rank::NONE; MAX_TASKS];
+    let mut ranks = [Rank::default(); MAX_TASKS];
     let ranks = &mut ranks[..n];
-    let mut ranges = [Range::NONE; MAX_TASKS];
+    let mut ranges = [Range::default(); MAX_TASKS];
     let ranges = &mut ranges[..n];
     fill_ranks(order, releases, ranks, ranges);
     let ranking = Ranking {

@@ -6,16 +6,11 @@ ghost use Rattle.watches.specs.inside.Lines.{low_of, high_of, ReadsNumbers, Read
 
 use text::{Cursor, LineRefusal, line_at};
 
-// From which number to which.
-#[derive(Clone, Copy)]
+// From which number to which. The default stands where no range is known yet.
+#[derive(Clone, Copy, Default)]
 pub struct Range {
     pub low: u64,
     pub high: u64,
-}
-
-impl Range {
-    // What stands where no range is known yet.
-    pub const NONE: Range = Range { low: 0, high: 0 };
 }
 
 // Lines with one key, each with the range of its number's owner.

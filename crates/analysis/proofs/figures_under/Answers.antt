@@ -1,6 +1,7 @@
 -- What each search answers is the response of the rows whose loads are lent (`found`); the rest is reading.
-use Rattle.std.proofs.Common.{◌≡◌, ℕ, ◌+◌, List, ap, ap₂, sym, ◌∙◌, arith}
-use Rattle.std.specs.Prelude.{Some}
+use Rattle.std.proofs.Common.{◌≡◌, ℕ, ◌+◌, List, ap₂, sym, ◌∙◌, arith}
+use Rattle.std.specs.Prelude.{Some, Ok, ℤ, pos}
+use Rattle.std.specs.Int.Signed.{le_z}
 use mir.Syntax.{w64}
 use mir.Facts.{to_z-of_z}
 use lib.ListN.{get_or}
@@ -10,7 +11,7 @@ use Rattle.rows.proofs.RowNumbers.{line_from}
 use Rattle.rows.proofs.Limits.{times, in_range_times}
 use Rattle.responses.specs.declared.Load.{Load}
 use Rattle.responses.specs.Interference.{least_fixed}
-use Rattle.responses.specs.Figures.{figures_at}
+use Rattle.responses.specs.Figures.{Answered}
 use Rattle.responses.proofs.Responses.{late_answer, timely_answer}
 use Rattle.fixed_points.specs.inside.Values as V
 use Rattle.fixed_points.proofs.Values.{found_some, found_none}
@@ -67,40 +68,12 @@ earliest-earliest-requires c =
     c.cost.ensures c.in-Some.ensures in
     (c.requires.is_in_range, f.latest_max, f.best_fits)
 
-pub margin-margin-requires : goal.margin-margin-requires
-margin-margin-requires c =
+pub invariant_of-responses : goal.invariant_of-responses
+invariant_of-responses c =
     let a = c.args in
     let f = timely a.row.now c.cost.result a.blocked c.in-Some.latest a.above.worst.now a.above.best.now c.requires
     c.cost.ensures c.in-Some.ensures in
-    (c.requires.is_in_range, f.latest_max, f.earliest_latest _ c.earliest-earliest.ensures)
-
-pub overflow_cast-result : goal.overflow_cast-result
-overflow_cast-result c =
-    let a = c.args in
-    let f = timely a.row.now c.cost.result a.blocked c.in-Some.latest a.above.worst.now a.above.best.now c.requires
-    c.cost.ensures c.in-Some.ensures in
-    record { fits = omega (arith, f.latest_max) }
-
-pub overflow_cast-result-2 : goal.overflow_cast-result-2
-overflow_cast-result-2 c =
-    let a = c.args in
-    let f = timely a.row.now c.cost.result a.blocked c.in-Some.latest a.above.worst.now a.above.best.now c.requires
-    c.cost.ensures c.in-Some.ensures in
-    record { fits = omega (arith, f.latest_max, f.earliest_latest _ c.earliest-earliest.ensures) }
-
-pub overflow_sub-result : goal.overflow_sub-result
-overflow_sub-result c =
-    let a = c.args in
-    let f = timely a.row.now c.cost.result a.blocked c.in-Some.latest a.above.worst.now a.above.best.now c.requires
-    c.cost.ensures c.in-Some.ensures in
-    f.earliest_latest _ c.earliest-earliest.ensures
-
-pub overflow_cast-result-3 : goal.overflow_cast-result-3
-overflow_cast-result-3 c =
-    let a = c.args in
-    let f = timely a.row.now c.cost.result a.blocked c.in-Some.latest a.above.worst.now a.above.best.now c.requires
-    c.cost.ensures c.in-Some.ensures in
-    record { fits = omega (arith, f.latest_max) }
+    record { in_limits = f.latest_max; ordered = f.earliest_latest _ c.earliest-earliest.ensures }
 
 pub returns : goal.returns
 returns c rows below f blocked =
@@ -113,6 +86,13 @@ returns c rows below f blocked =
     let latest = least ∙ latest_found t below f blocked in
     let earliest = earliest_found t below f blocked w e latest c.earliest-earliest.ensures in
     let m = to_z-of_z {w = w64} {z = c.margin-margin.result} (record { sfits = c.margin-margin.type_inv }) in
-    ap (figures_at w e) m
+    let with_jitter : ℕ → ℤ → Answered = λ j z. Ok record {
+      worst = w;
+      best = e;
+      jitter = j;
+      margin = z;
+      stable = le_z (pos 0) z;
+    } in
+    ap₂ with_jitter c.jitter.ensures m
     ∙ timely_answer t rows below w e c.margin-margin.result (found_some _ w c.in-Some.ensures).1 latest earliest
     c.margin-margin.ensures

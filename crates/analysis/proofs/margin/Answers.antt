@@ -28,26 +28,26 @@ module _ (ws : List ℕ) (h : in_range (row_from ws) ≡ true) where
   few = omega (arith, as_many, few_of (row_from ws).curve (limits (row_from ws) h).curve)
 
 pub points_from-curve-requires : goal.points_from-curve-requires
-points_from-curve-requires c = let ws = c.args.row.now in omega (arith, few ws c.requires.0, c.told-row)
+points_from-curve-requires c = let ws = c.args.row.now in omega (arith, few ws c.requires, c.told-row)
 
 pub curve_margin-requires : goal.curve_margin-requires
 curve_margin-requires c =
     let ws = c.args.row.now in
-    let h = c.requires.0 in
+    let h = c.requires in
     let lent = c.points_from-curve.ensures in (
       omega (arith, c.if-points-eq0.false, lent.count),
       ap well_formed (lent.points ∙ is_curve ws h) ∙ (limits (row_from ws) h).curve,
-      c.requires.1,
-      c.requires.2,
     )
 
 pub returns : goal.returns
 returns c =
     let a = c.args in
     let ws = a.row.now in
-    let h = c.requires.0 in
+    let w = a.responses.latest in
+    let e = a.responses.earliest in
+    let h = c.requires in
     let lines = lines_from ws in
     let some : 1 ≤ length (row_from ws).curve = omega (arith, as_many ws h, c.if-points-eq0.false) in
     answered _ _ record { sfits = c.curve_margin.type_inv } (c.curve_margin.ensures
-    ∙ ap (λ (p : List Point). curve_margin p a.latest a.earliest) (c.points_from-curve.ensures.points ∙ is_curve ws h)
-    ∙ sym (curve_margin_lem (get_or lines alpha_at 0) (get_or lines beta_at 0) a.latest a.earliest (row_from ws).curve some))
+    ∙ ap (λ (p : List Point). curve_margin p w e) (c.points_from-curve.ensures.points ∙ is_curve ws h)
+    ∙ sym (curve_margin_lem (get_or lines alpha_at 0) (get_or lines beta_at 0) w e (row_from ws).curve some))

@@ -14,20 +14,21 @@ pub returns-then-last-earliest : goal.returns-then-last-earliest
 returns-then-last-earliest c =
     let curve = points_of c.args.points.now in
     let l = last_is c.args.points.now c.requires.0 in
-    let q = past_last curve c.args.latest c.args.earliest (omega (arith, l)) in
+    let q = past_last curve c.args.responses.latest c.args.responses.earliest (omega (arith, l)) in
     answered _ _ record { sfits = c.floor_of.type_inv } (c.floor_of.ensures
-    ∙ (floor_one _ ∙ (ap (λ (d : ℕ). sub_ℕ (1000 * d) (1000 * c.args.earliest)) (sym l) ∙ sym q)))
+    ∙ (floor_one _ ∙ (ap (λ (d : ℕ). sub_ℕ (1000 * d) (1000 * c.args.responses.earliest)) (sym l) ∙ sym q)))
 
 pub thousandths-requires : goal.thousandths-requires
 thousandths-requires c =
     let curve = points_of c.args.points.now in
-    let p = permitted_parts curve c.args.earliest c.permitted-f.result c.requires.1 c.permitted-f.ensures in
-    (p.under_some, p.under_max, p.over_max, omega (arith, c.requires.2))
+    let p = permitted_parts curve c.args.responses.earliest c.permitted-f.result c.requires.1 c.permitted-f.ensures in
+    (p.under_some, p.under_max, p.over_max, omega (arith, c.jitter.ensures, c.args.responses.in_limits))
 
 pub returns : goal.returns
 returns c =
     let curve = points_of c.args.points.now in
     let l = last_is c.args.points.now c.requires.0 in
-    let q = up_to_last curve c.args.latest c.args.earliest (omega (arith, l)) in
+    let q = up_to_last curve c.args.responses.latest c.args.responses.earliest (omega (arith, l)) in
     answered _ _ record { sfits = c.thousandths.type_inv } (c.thousandths.ensures
-    ∙ (ap (λ f. thousandths f (c.args.latest - c.args.earliest)) c.permitted-f.ensures ∙ sym q))
+    ∙ (ap (thousandths c.permitted-f.result) c.jitter.ensures
+    ∙ (ap (λ f. thousandths f (c.args.responses.latest - c.args.responses.earliest)) c.permitted-f.ensures ∙ sym q)))
