@@ -49,9 +49,7 @@ impl Trials for Seen {
         self.shown += runs;
         Ok(())
     }
-}
 
-impl Seen {
     fn print(&self) {
         let shown = self.shown;
         trials::print_count(self.plans, "plans, each run six times for 5000 ticks");
@@ -63,7 +61,5 @@ impl Seen {
 }
 
 fn main() {
-    if let Ok(seen) = Seen::of(TABLES) {
-        seen.print();
-    }
+    Seen::run(TABLES);
 }

@@ -47,9 +47,7 @@ impl Trials for Seen {
             .count(tried(&review, any_room(&review, dice), fill)?);
         Ok(())
     }
-}
 
-impl Seen {
     fn print(&self) {
         trials::print_count(u64::from(TABLES), "tables compared");
         trials::print_count(self.spread.ordered, "with a stable order");
@@ -67,7 +65,5 @@ impl Seen {
 }
 
 fn main() {
-    if let Ok(seen) = Seen::of(TABLES) {
-        seen.print();
-    }
+    Seen::run(TABLES);
 }

@@ -67,4 +67,14 @@ pub trait Trials: Default + Drop {
         }
         Ok(seen)
     }
+
+    // Prints what has been shown.
+    fn print(&self);
+
+    // Prints what so many tables have shown, if no call differs.
+    fn run(tables: u32) {
+        if let Ok(seen) = Self::of(tables) {
+            seen.print();
+        }
+    }
 }

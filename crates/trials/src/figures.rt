@@ -1,5 +1,6 @@
 // The figures of document 01 by plain scanning.
-ghost use Rattle.std.specs.Prelude.{◌<◌, ◌≤◌, length, IfSome};
+ghost use Rattle.std.specs.Prelude.{◌≤◌, length, IfSome};
+ghost use Rattle.trials.specs.declared.tables.TheConstants.{ROWS};
 
 use crate::tables::Row;
 
@@ -36,19 +37,15 @@ impl Row {
 pub struct Rank<'a> {
     pub row: Row,
     pub above: &'a [Row],
-    ghost few: { length above.now ≤ 6 },
+    ghost few: { length above.now ≤ ROWS },
 }
 
 impl<'a> Rank<'a> {
-    // Of rows that stand highest rank first the one at k.
-    pub fn of(rows: &'a [Row], k: usize) -> Self
-        requires few { length rows.now ≤ 6 }
-        requires inside { k < length rows.now }
+    // A row under those above it.
+    pub fn of(row: Row, above: &'a [Row]) -> Self
+        requires { length above.now ≤ ROWS }
     {
-        Rank {
-            row: rows[k],
-            above: &rows[..k],
-        }
+        Rank { row, above }
     }
 
     // Whether ticks of its own and those that each row above takes fill a window exactly.

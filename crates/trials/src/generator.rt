@@ -82,12 +82,13 @@ fn any_loose(dice: &mut Dice) -> u16 {
 
 // Sets betas that make the rows' own sequence a stable order, or miss that by one thousandth at one rank.
 fn line_up(rows: &mut [Row], dice: &mut Dice)
-    requires { length rows.old ≤ 6 }
+    requires { length rows.old ≤ ROWS }
 {
     let short = usize::from(dice.between(0, 11));
     let loose = any_loose(dice);
+    // By position: a row is written while those above it are read.
     for k in 0..rows.len() {
-        let line = Rank::of(rows, k).figures().map(|f| f.line);
+        let line = Rank::of(rows[k], &rows[..k]).figures().map(|f| f.line);
         rows[k].beta = any_beta(dice, line, k == short, loose);
     }
 }

@@ -1,6 +1,4 @@
 // Every order of a table's rows, one by one: no sets, and none left out.
-ghost use Rattle.std.specs.Prelude.{◌≤◌};
-
 use crate::tables::{ROWS, Row, Table};
 
 // The rows of a table by their positions in it, highest rank first.
@@ -12,7 +10,7 @@ pub struct Order {
 impl Order {
     // Of the orders of n rows the one with this code: each digit picks a rank's row among those left.
     pub fn at(n: usize, code: u64) -> Self {
-        let mut rows = [0, 1, 2, 3, 4, 5];
+        let mut rows: [usize; ROWS] = std::array::from_fn(|i| i);
         let n = n.min(rows.len());
         let mut rest = code;
         for k in 0..n {

@@ -15,7 +15,8 @@ pub enum Question {
     Review(Table, Order),
 }
 
-// A refusal's number, and its place.
+// A refusal's number, and its place. The number is the document's own and no kind of the planner's: an answer is held
+// against what the document says, and shares nothing with the crates that give it.
 #[derive(Clone, Copy, PartialEq, Eq)]
 pub struct Refusal {
     pub number: u8,

@@ -116,18 +116,17 @@ impl Seat {
 
 // The seats of rows before tick 0, with first releases from 0 to `spread`.
 fn seated(rows: &[Row], spread: u16, dice: &mut Dice) -> [Seat; ROWS]
-    requires { length rows.now ≤ 6 }
+    requires { length rows.now ≤ ROWS }
 {
     let mut seats = [Seat::default(); ROWS];
     // The last of the first releases above.
     let mut last = None;
-    for k in 0..rows.len() {
-        let rank = Rank::of(rows, k);
+    for (k, row) in rows.iter().enumerate() {
         let first = dice.between(0, spread);
-        let held_from = last.map_or(0, |last| u64::from(last) + u64::from(rank.row.period));
+        let held_from = last.map_or(0, |last| u64::from(last) + u64::from(row.period));
         seats[k] = Seat {
-            row: rank.row,
-            figures: rank.figures().unwrap_or_default(),
+            row: *row,
+            figures: Rank::of(*row, &rows[..k]).figures().unwrap_or_default(),
             held_from,
             next: u64::from(first),
             job: None,

@@ -1,5 +1,6 @@
 // Tables of a few tasks, and what their figures say of them.
 ghost use Rattle.std.specs.Prelude.{◌≤◌, length};
+ghost use Rattle.trials.specs.declared.tables.TheConstants.{ROWS};
 
 use crate::figures::Rank;
 
@@ -20,10 +21,11 @@ pub struct Row {
 #[derive(Clone, Copy)]
 pub struct Table {
     pub board: u16,
-    // The first `count` are the table's: without a heap a table is as long as the longest.
+    // The first `count` are the table's: without a heap, and without a crate beside the library's own, a table is as
+    // long as the longest and has its count beside it.
     held: [Row; ROWS],
     count: usize,
-    ghost fits: { count ≤ 6 },
+    ghost fits: { count ≤ ROWS },
 }
 
 // The first rank that is late, from 1.
@@ -43,7 +45,7 @@ pub struct Margins {
 
 impl Table {
     pub fn new(board: u16, rows: &[Row]) -> Self
-        requires { length rows.now ≤ 6 }
+        requires { length rows.now ≤ ROWS }
     {
         let mut held = [Row::default(); ROWS];
         held[..rows.len()].copy_from_slice(rows);
@@ -55,7 +57,7 @@ impl Table {
     }
 
     pub fn rows(&self) -> &[Row]
-        ensures { length result.now ≤ 6 }
+        ensures { length result.now ≤ ROWS }
     {
         &self.held[..self.count]
     }
@@ -65,8 +67,8 @@ impl Table {
         let rows = self.rows();
         let mut stable = true;
         let mut edge = false;
-        for k in 0..rows.len() {
-            let rank = Rank::of(rows, k);
+        for (k, row) in rows.iter().enumerate() {
+            let rank = Rank::of(*row, &rows[..k]);
             let figures = rank.figures().ok_or(Late { rank: k as u32 + 1 })?;
             stable &= figures.margin >= 0;
             edge |= figures.margin == 0;

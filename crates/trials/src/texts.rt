@@ -1,5 +1,6 @@
 // Tables and plans as text, in fixed memory.
-ghost use Rattle.std.specs.Prelude.{◌≤◌, length};
+ghost use Rattle.std.specs.Prelude.{◌≤◌};
+ghost use Rattle.trials.specs.declared.texts.TheConstants.{SPACE};
 
 use crate::figures::{Figures, Rank};
 use crate::tables::{Row, Table};
@@ -8,12 +9,13 @@ use std::fmt::{self, Write};
 // Bytes enough for every text of a generated table.
 pub const SPACE: usize = 1024;
 
-// A text, at most SPACE long: there is no heap. What has no room is dropped, and a text cut short would be seen as a difference.
+// A text, at most SPACE long: its bytes are counted beside them, without a heap and without a crate beside the
+// library's own. What has no room is dropped, and a text cut short would be seen as a difference.
 #[derive(Clone, Copy)]
 pub struct Text {
     bytes: [u8; SPACE],
     len: usize,
-    ghost fits: { len ≤ 1024 },
+    ghost fits: { len ≤ SPACE },
 }
 
 impl Text {
@@ -123,10 +125,9 @@ impl fmt::Display for Plan {
     fn fmt<W: fmt::Write>(&self, f: &mut fmt::Formatter<W>) -> fmt::Result {
         let rows = self.0.rows();
         write!(f, "plan=1\nboard={}\ntasks={}\n", self.0.board, rows.len())?;
-        for k in 0..rows.len() {
-            let rank = Rank::of(rows, k);
-            let figures = rank.figures().unwrap_or_default();
-            write!(f, "rank={}\ntask={}\n{figures}", k + 1, rank.row.task)?;
+        for (k, row) in rows.iter().enumerate() {
+            let figures = Rank::of(*row, &rows[..k]).figures().unwrap_or_default();
+            write!(f, "rank={}\ntask={}\n{figures}", k + 1, row.task)?;
         }
         Ok(())
     }

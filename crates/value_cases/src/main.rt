@@ -59,12 +59,7 @@ fn all_in_range(tasks: &[Load]) -> bool
     if MOST_TASKS < tasks.len() {
         return false;
     }
-    for task in tasks {
-        if !in_range(*task) {
-            return false;
-        }
-    }
-    true
+    tasks.iter().all(|task| in_range(*task))
 }
 
 // A line of its own for a task over a largest hold, below some tasks. Nothing is printed of tasks out of range.
