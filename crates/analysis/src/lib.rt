@@ -2,7 +2,7 @@
 // block it for some ticks.
 #![tactic(auto)]
 
-ghost use Rattle.std.specs.Prelude.{◌≡◌, true, ◌+◌, ◌-◌, ◌*◌, ◌≤◌, ◌<◌, length, drop};
+ghost use Rattle.std.specs.Prelude.{◌≡◌, true, ◌+◌, ◌-◌, ◌*◌, ◌≤◌, length, drop};
 ghost use Rattle.std.proofs.Math.IntN.{sub_ℕ};
 ghost use Rattle.basics.specs.Basics.{pick};
 ghost use Rattle.rows.specs.Rows.{max_ticks, max_alpha, max_beta, in_range, times_in_range};
@@ -73,7 +73,8 @@ pub fn blocking_time(largest: u64) -> u64
     largest.saturating_sub(1)
 }
 
-// The blocking time of the rows of an order.
+// The blocking time of the rows of an order. A loop and not `map` with `max`: tried, and the proof does not close that
+// a closure which reads a row may be called at each position.
 pub fn blocking_from(order: LentOrder) -> u64
     ensures { result ≡ blocking (rows_in_order order.entry) }
 {
@@ -117,7 +118,8 @@ pub fn load_at_best(row: &RowNumbers) -> Load
     }
 }
 
-// The loads of the rows of an order, as many places as rows.
+// The loads of the rows of an order, as many places as rows. By the index k: a `zip` of three is no plainer, and its
+// invariant is over three iterators in place of one index.
 pub fn fill_loads(order: LentOrder, worst: &mut [Load], best: &mut [Load])
     requires { Fillable (rows_in_order order) (length worst.old) (length best.old) }
     ensures { Filled (rows_in_order order.entry) worst.new best.new }

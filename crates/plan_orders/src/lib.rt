@@ -1,7 +1,7 @@
 // An order's plan: the figures of each rank are found and written in one pass. And what a program prints of an answer.
 #![tactic(auto)]
 
-ghost use Rattle.std.specs.Prelude.{◌≡◌, true, ◌+◌, ◌*◌, ◌≤◌, length, replicate};
+ghost use Rattle.std.specs.Prelude.{◌≡◌, true, ◌*◌, ◌≤◌, length, replicate};
 ghost use Rattle.text.specs.Buffers.{Wrote};
 ghost use Rattle.rows.specs.Rows.{max_tasks, in_range, all_rows};
 ghost use Rattle.rows.specs.inside.LentOrders.{rows_in_order};

@@ -40,7 +40,8 @@ pub trait Written: Copy {
 impl Written for u64 {
     ghost spelled = { decimal };
 
-    // The digits are put from the last to the first.
+    // The digits are put from the last to the first. By the place's index, which the proof counts by:
+    // `iter_mut().rev()` was tried and is no plainer, since its proof has to count what is left of the iterator.
     fn put(self, out: &mut [u8]) -> usize {
         let long = places(self);
         let mut rest = self;

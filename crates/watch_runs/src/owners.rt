@@ -5,7 +5,8 @@ ghost use Rattle.watch_runs.specs.inside.Owners.{EarliestIs, Mergeable, Owns, Sl
 use super::steps::Rank;
 use rows::MAX_TASKS;
 
-// The rank of the earliest of the next releases; of several on one tick, the highest.
+// The rank of the earliest of the next releases; of several on one tick, the highest. A loop and not `min_by_key`: tried,
+// and the proof does not close, since no lemma of the library says which of equal keys it takes.
 fn earliest(nexts: &[u64]) -> usize
     requires { 1 ≤ length nexts.now }
     ensures { EarliestIs nexts.now result }
@@ -27,6 +28,7 @@ pub fn fill_owners(owners: &mut [usize], ranks: &[Rank])
 {
     let mut releases = [0u64; MAX_TASKS];
     let nexts = &mut releases[..ranks.len()];
+    // By the index j: a `zip` is no plainer, and its invariant is over two iterators in place of one index.
     for (j, next) in nexts.iter_mut().enumerate() {
         *next = ranks[j].offset;
     }
