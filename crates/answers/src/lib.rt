@@ -12,17 +12,10 @@ pub fn put_answer(returned: Result<usize, Refusal>, answer: &mut [u64])
     ensures { answer.new ≡ answered returned answer.old }
 {
     if answer.len() >= 3 {
-        match returned {
-            Ok(long) => {
-                answer[0] = 0;
-                answer[1] = 0;
-                answer[2] = long as u64;
-            }
-            Err(refusal) => {
-                answer[0] = refusal.number() as u64;
-                answer[1] = refusal.place() as u64;
-                answer[2] = 0;
-            }
-        }
+        let numbers = match returned {
+            Ok(long) => [0, 0, long as u64],
+            Err(refusal) => [refusal.number() as u64, refusal.place() as u64, 0],
+        };
+        answer[..3].copy_from_slice(&numbers);
     }
 }

@@ -1,10 +1,10 @@
 -- Where pieces end: the first piece is the front of its text, and the others are the pieces of what is left.
 use mathlib.Core.Path.{◌≡◌, refl, sym, ap, ◌∙◌}
-use Rattle.std.proofs.Common.{Some, None}
-use mathlib.Core.Bool.{true, false}
+use Rattle.std.proofs.Common.{Option, Some, None, MatchOption}
+use mathlib.Core.Bool.{Bool, true, false}
 use mathlib.Core.List.{List, [], ◌∷◌, ◌++◌, append-nil}
 use mathlib.Core.Logic.{inl, inr}
-use Prim.Native.Nat.{ℕ, suc, ◌+◌, ◌≤◌, ◌<◌}
+use Prim.Native.Nat.{ℕ, zero, suc, ◌+◌, ◌-◌, ◌≤◌, ◌<◌}
 use native.Mathlib.Omega.{arith}
 use lib.Dec.{eqb}
 use lib.ListN.{length, get_or, set, take, drop, length-append, length-drop, length-set, drop_of_length-le}
@@ -63,6 +63,42 @@ module _ (text : List ℕ) (i : ℕ) (h : i < length text) where
   first_on e =
       ap first_long (drop-cons text i 0 h)
       ∙ ap (λ c. pick c 1 (suc (first_long (drop (suc i) text)))) e
+
+-- whether the text is cut after the byte at i
+abbrev pub CutAt : List ℕ → Bool → ℕ → Type 0
+CutAt text cut i = cut_after board_key (get_or text i 0) (drop (suc i) text) ≡ cut
+
+-- n bytes after which it isn't cut are of the first piece
+first_past : (text : List ℕ) (from n : ℕ) → from + n ≤ length text
+    → ((i : ℕ) → from ≤ i → i < from + n → CutAt text false i)
+    → first_long (drop from text) ≡ n + first_long (drop (from + n) text)
+first_past text from zero l none =
+    let at : from ≡ from + 0 = omega arith in
+    omega (arith, ap (λ k. first_long (drop k text)) at)
+first_past text from (suc n) l none =
+    let on = first_on text from (omega arith) (none from (omega arith) (omega arith)) in
+    let past = first_past text (suc from) n (omega arith) (λ i a b. none i (omega arith) (omega arith)) in
+    let at : suc from + n ≡ from + suc n = omega arith in
+    omega (arith, on, past, ap (λ k. first_long (drop k text)) at)
+
+-- it ends after the first byte after which the text is cut, or with the text
+pub first_ends : (text : List ℕ) (from : ℕ) (r : Option ℕ) → from ≤ length text
+    → MatchOption r ((i : ℕ) → from ≤ i → i < length text → CutAt text false i)
+    (λ i. (from ≤ i) × (i < length text) × CutAt text true i
+    × ((k : ℕ) → from ≤ k → k < i → CutAt text false k))
+    → MatchOption r (from + first_long (drop from text) ≡ length text)
+    (λ i. from + first_long (drop from text) ≡ suc i)
+first_ends text from None l none =
+    let n = length text - from in
+    let past = first_past text from n (omega arith) (λ i a b. none i a (omega arith)) in
+    let end = ap first_long (drop_of_length-le text {i = from + n} (omega arith)) in
+    omega (arith, past, end)
+first_ends text from (Some i) l (onward, inside, cut, none) =
+    let n = i - from in
+    let past = first_past text from n (omega arith) (λ k a b. none k a (omega arith)) in
+    let at : from + n ≡ i = omega arith in
+    let end = ap (λ k. first_long (drop k text)) at ∙ first_cut text i inside cut in
+    omega (arith, past, end)
 
 -- ---- piece by piece
 pub ends_length : (at : ℕ) (ps : List (List ℕ)) → length (ends_from at ps) ≡ length ps

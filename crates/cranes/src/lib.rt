@@ -4,7 +4,7 @@
 ghost use Rattle.std.specs.Prelude.{◌≡◌, suc, ◌+◌, ◌≤◌, ◌<◌, length, get_or, drop, replicate};
 ghost use Rattle.io.specs.Counts.{IsPrefixLen};
 ghost use Rattle.text.specs.Buffers.{Wrote};
-ghost use Rattle.crane_demands.specs.Pieces.{cut_after, board_key, max_pieces};
+ghost use Rattle.crane_demands.specs.Pieces.{cut_after, board_key};
 ghost use Rattle.crane_demands.specs.Calls.{crane_text, crane_room, crane_prints};
 ghost use Rattle.crane_demands.specs.Demands.{CraneSays};
 ghost use Rattle.cranes.specs.inside.Ends.{first_long, AreEnds, Cuts};
@@ -32,11 +32,7 @@ fn cut_after(text: &[u8], i: usize) -> bool
     requires { i < length text.now }
     ensures { result ≡ cut_after board_key (get_or text.now i 0) (drop (suc i) text.now) }
 {
-    if text[i] != b'\n' {
-        return false;
-    }
-    let next = i + 1;
-    starts_with(&text[next..], b"board=")
+    text[i] == b'\n' && starts_with(&text[i + 1..], b"board=")
 }
 
 // Where the piece that begins at an offset ends.
@@ -44,12 +40,9 @@ fn piece_end(text: &[u8], from: usize) -> usize
     requires { from ≤ length text.now }
     ensures { result ≡ from + first_long (drop from text.now) }
 {
-    for i in from..text.len() {
-        if cut_after(text, i) {
-            return i + 1;
-        }
-    }
-    text.len()
+    (from..text.len())
+        .find(|i| cut_after(text, *i))
+        .map_or(text.len(), |i| i + 1)
 }
 
 // Where each piece ends, and how many there are, where they are no more than the most: in one pass over the text, which
@@ -58,9 +51,9 @@ fn cut(text: &[u8], ends: &mut [usize; MAX_PIECES]) -> Option<usize>
     ensures { Cuts text.now ends.new result }
 {
     let mut at = 0;
-    for i in 0..MAX_PIECES {
+    for (i, end) in ends.iter_mut().enumerate() {
         at = piece_end(text, at);
-        ends[i] = at;
+        *end = at;
         if text.len() <= at {
             return Some(i + 1);
         }

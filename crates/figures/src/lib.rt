@@ -16,12 +16,7 @@ use rows::{FIELDS, LentOrder, MAX_TASKS, RowNumbers, in_range, rows_from};
 fn all_in_range(rows: &[RowNumbers]) -> bool
     ensures { result ≡ all_rows in_range (table_of rows.now) }
 {
-    for row in rows {
-        if !in_range(row) {
-            return false;
-        }
-    }
-    true
+    rows.iter().all(|row| in_range(row))
 }
 
 // Whether row i is one of n rows that are there and in the limits of a table.

@@ -128,9 +128,9 @@ impl<const SETS: usize, const TASKS: usize> Search<'_, SETS, TASKS> {
     {
         let rows = self.rows;
         let blocked = blocking_time(largest);
-        for i in 0..rows.len() {
+        for (i, row) in rows.iter().enumerate() {
             if self.may_go(m, i, blocked) {
-                let outside = larger(rows[i][HOLD], largest);
+                let outside = larger(row[HOLD], largest);
                 if self.settled(m - power(i), outside) {
                     return Some(i as u8);
                 }
