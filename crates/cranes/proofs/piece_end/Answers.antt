@@ -1,5 +1,5 @@
 -- The first byte after which the text is cut ends the piece; where there is none, the text does.
-use Rattle.std.proofs.Common.{rules, true, false, sym, arith}
+use Rattle.std.proofs.Common.{rules, true, false}
 use Rattle.std.proofs.lemmas.Iterator.{first_from_Range}
 use Rattle.cranes.proofs.Ends.{CutAt, first_ends}
 use Rattle.cranes.proofs.piece_end.Goals as goal
