@@ -1,5 +1,5 @@
 // The response analysis: W, E, margin and stability of a row under rows of which the loads are lent, over rows that
-// block it for some ticks.
+// block it for some ticks. Each `as` is proved to lose nothing.
 #![tactic(auto)]
 
 ghost use Rattle.std.specs.Prelude.{◌≡◌, true, ◌+◌, ◌-◌, ◌*◌, ◌≤◌, length, drop};
@@ -24,8 +24,8 @@ use rows::{
 const LEAST_HOLD: u64 = 2;
 
 // The loads of the rows above a row: by what a job of each takes at most, and at least. They are the two lists of the
-// definitions, and the search of W goes over one of them again and again: one slice of three numbers would make each pass
-// longer (docs/DECISIONS.md, "The rows above a row are two slices of loads").
+// definitions, so that what is promised of a window is an equation with the slice itself; one slice of three numbers would
+// be taken apart for it.
 #[derive(Clone, Copy)]
 pub struct Above<'a> {
     pub worst: &'a [Load],
@@ -37,7 +37,6 @@ fn line_margin(alpha: u64, beta: u64, responses: Responses) -> i64
     requires { (alpha ≤ max_alpha) × (beta ≤ max_beta) }
     ensures { result ≡ sub_ℕ beta (1000 * responses.earliest + alpha * (responses.latest - responses.earliest)) }
 {
-    // both are far below 2^63, so that `as` loses nothing
     let used = 1000 * responses.earliest + alpha * responses.jitter();
     beta as i64 - used as i64
 }

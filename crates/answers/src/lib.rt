@@ -1,4 +1,5 @@
-// What a call returns, as numbers in a buffer of their own, for programs in other languages.
+// What a call returns, as numbers in a buffer of their own, for programs in other languages. Each
+// `as` is proved to lose nothing.
 #![tactic(auto)]
 
 ghost use Rattle.std.specs.Prelude.{◌≡◌};

@@ -35,7 +35,7 @@ fn cut_after(text: &[u8], i: usize) -> bool
     text[i] == b'\n' && starts_with(&text[i + 1..], b"board=")
 }
 
-// Where the piece that begins at an offset ends.
+// Where the piece that begins at an offset ends, counted from the text's beginning, as the next piece begins there.
 fn piece_end(text: &[u8], from: usize) -> usize
     requires { from ≤ length text.now }
     ensures { result ≡ from + first_long (drop from text.now) }

@@ -122,7 +122,8 @@ fn place_of(points: &[PointNumbers], earliest: u64) -> Option<usize>
 // What the line from one point to the next permits.
 fn on_line(left: &PointNumbers, right: &PointNumbers, earliest: u64) -> Fraction
     requires { let p = point_from left.now in let q = point_from right.now in
-        (p.delay ≤ earliest) × (earliest ≤ q.delay) × (q.delay ≤ max_delay) × (p.allow ≤ max_allow) × (q.allow ≤ max_allow) }
+        (p.delay ≤ earliest) × (earliest ≤ q.delay) × (q.delay ≤ max_delay)
+        × (p.allow ≤ max_allow) × (q.allow ≤ max_allow) }
     ensures { result ≡ on_line (point_from left.now) (point_from right.now) earliest }
 {
     let from = left[DELAY];

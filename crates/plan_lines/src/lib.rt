@@ -1,6 +1,6 @@
 // The lines of a plan and of a refusal, put into a lent buffer. They are put by hand, and no type has a `Display`: the
-// contracts name each byte of a buffer that is lent, and nothing is allocated. `as` loses no
-// number here, since each goes into more bits; `u64::from` was tried, and the proofs then carry an equation for each call.
+// contracts name each byte of a buffer that is lent, and nothing is allocated. each `as` is
+// proved to lose nothing; `u64::from` was tried, and the proofs then carry an equation for each call.
 #![tactic(auto)]
 
 ghost use Rattle.std.specs.Prelude.{◌≤◌, ◌⊎◌, length};

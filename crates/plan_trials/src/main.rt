@@ -1,5 +1,6 @@
 // The planner and the reviewer on generated tables: every answer is compared with the brute force's, with every byte of
-// its buffer. Prints DIFFERS and the text at the first that is another, and stops.
+// its buffer. Prints DIFFERS and the text at the first that is another, and stops. The one
+// `as` is proved to lose nothing.
 #![tactic(auto)]
 
 use trial_calls::{Differs, Trials, tried};

@@ -1,4 +1,4 @@
-// A table as text: what is read, and what is refused on which line.
+// A table as text: what is read, and what is refused on which line. Each `as` is proved to lose nothing.
 #![tactic(auto)]
 
 ghost use Rattle.std.specs.Prelude.{◌≡◌, ◌≤◌, leb, length};

@@ -1,4 +1,5 @@
-// The line that is expected: its key, its range, and the test of its number beside the range.
+// The line that is expected: its key, its range, and the test of its number beside the range. Place, stand and numbers go
+// side by side: between two lines the next number is written, so that no value can hold the numbers for longer.
 ghost use Rattle.std.specs.Prelude.{◌≡◌, ◌+◌, ◌≤◌, ◌<◌, false, length, Ok};
 ghost use Rattle.basics.specs.Basics.{pick};
 ghost use Rattle.text.specs.Text.{bytes};

@@ -26,8 +26,9 @@ pub enum Part {
 
 // Where in the table the reading stands: the rows that are whole, how many are left after the one that is being read,
 // and how many of its numbers are there; before the rows, how many are to come; or, behind them, the ranks that are left
-// after the next and those so far. The same few numbers for every part, since it goes by value from line to line. What is
-// known of them (`Counted`) is a clause, and no ghost field: each definition of a stand would have to prove it.
+// after the next and those so far. The same few numbers for every part: the laws of a step are by the part alone, and
+// with numbers in its cases each definition (specs/inside/Stands.antt) would be by cases of cases. What is known of them
+// (`Counted`) is a clause, and no ghost field: each definition of a stand would have to prove it.
 #[derive(Clone, Copy)]
 pub struct Stand {
     pub part: Part,

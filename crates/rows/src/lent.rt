@@ -65,9 +65,8 @@ fn position_of(task: u16, rows: &[RowNumbers]) -> Option<usize>
     rows.iter().position(|row| row[TASK] == sought)
 }
 
-// Where each of some tasks stands among the rows; their number where one does not, as the definition has it and the
-// customer's formal statements ask for it. By the index k, as in `numbers`: a `zip` is no plainer, and its invariant is
-// over two iterators in place of one index.
+// Where each of some tasks stands among the rows; their number where one does not, as the definition `position_of` has it.
+// By the index k: a `zip` is no plainer, and its invariant is over two iterators in place of one index.
 pub fn positions_for(tasks: &[u16], rows: &[RowNumbers], positions: &mut [usize])
     requires { length tasks.now ≤ length positions.old }
     ensures { positions.new ≡ positions_for tasks.now (table_of rows.now) ++ drop (length tasks.now) positions.old }

@@ -101,7 +101,8 @@ pub fn is_among(numbers: &[u64], value: u64) -> bool
     numbers.contains(&value)
 }
 
-// The order of some task numbers.
+// The order of some task numbers. That they are tasks' (`TaskNumbers`) is a clause: it is said of some of a table's numbers
+// only. By the index, as in `positions_for`.
 pub fn order_from(tasks: &[u64]) -> Order
     requires few { length tasks.now ≤ max_tasks }
     requires task_numbers { TaskNumbers tasks.now }

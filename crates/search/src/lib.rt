@@ -42,6 +42,9 @@ const UNKNOWN: u8 = 254;
 
 const NO_ORDER: u8 = 255;
 
+// A set of rows is a number, bit i for row i: it is computed with, so that its bound is a clause of each method and no type
+// of its own. Each `as` is proved to lose nothing.
+
 // 2 to the power i.
 fn power(i: usize) -> usize
     requires { i ≤ max_tasks }

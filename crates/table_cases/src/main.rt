@@ -1,6 +1,6 @@
 // Reads stored texts as tables and prints what each reads as: the refusal's number and its line, or 0 and 0, then the
 // board, the numbers of each row's lines and its switch, and the ranks. docs/src/table_cases.py makes the texts and what
-// must be printed.
+// must be printed. Each `as` is proved to lose nothing.
 #![tactic(auto)]
 
 ghost use Rattle.std.specs.Prelude.{◌≡◌, ◌+◌, ◌≤◌, length};

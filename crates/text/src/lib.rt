@@ -1,4 +1,5 @@
-// Text as bytes: lines read, and numbers and lines written.
+// Text as bytes: lines read, and numbers and lines written. Each `as` is proved to lose nothing; `u64::from` adds an
+// equation for each call to the proofs.
 #![tactic(auto)]
 
 // writers.rt: numbers and lines put into a lent buffer.
@@ -86,7 +87,7 @@ struct Front {
     size: usize,
 }
 
-// Modulo 2^64, so that neither too many digits, whose number nobody wants, nor a byte below the digits needs a test of
+// The digits at the front of a text. Modulo 2^64, so that neither too many digits, whose number nobody wants, nor a byte below the digits needs a test of
 // its own. `is_ascii_digit` was tried, and lines took a quarter longer to read.
 fn digits_at(s: &[u8]) -> Front
     ensures { Fronts s.now result }

@@ -1,4 +1,5 @@
-// Tables of a few tasks, and what their figures say of them.
+// Tables of a few tasks, and what their figures say of them. Here and in the other files each `as` is proved to lose
+// nothing, and rows are lent on as slices with the clause that they are no more than ROWS.
 ghost use Rattle.std.specs.Prelude.{◌≤◌, length};
 ghost use Rattle.trials.specs.declared.tables.TheConstants.{ROWS};
 

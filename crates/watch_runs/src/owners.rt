@@ -6,7 +6,7 @@ use super::steps::Rank;
 use rows::MAX_TASKS;
 
 // The rank of the earliest of the next releases; of several on one tick, the highest. A loop and not `min_by_key`: tried,
-// and the proof does not close, since no lemma of the library says which of equal keys it takes.
+// and the proof did not close: no lemma of the library says which of equal keys it takes.
 fn earliest(nexts: &[u64]) -> usize
     requires { 1 ≤ length nexts.now }
     ensures { EarliestIs nexts.now result }
@@ -39,7 +39,8 @@ pub fn fill_owners(owners: &mut [usize], ranks: &[Rank])
     }
 }
 
-// The first slot of a rank among the owners, from a slot on.
+// The first slot of a rank among the owners, from a slot on; slots are counted from the first, so a part of the owners with
+// no index beside it would not do.
 pub fn seek(owners: &[usize], from: usize, rank: usize) -> Option<usize>
     ensures { Sought owners.now from rank result }
 {

@@ -15,8 +15,8 @@ pub struct Rank {
     pub cost: u64,
 }
 
-// What a run knows: its ranks, the highest first, and the lengths of the first jobs, with the rank of each. The ranks are
-// found before the lengths are read, and stand in an array of their own.
+// What a run knows: its ranks, the highest first, and the lengths of the first jobs, with the rank of each. The rank
+// of each length is found before the lengths are read, so that the two stand in arrays of their own.
 #[derive(Clone, Copy)]
 pub struct Board<'a> {
     pub ranks: &'a [Rank],

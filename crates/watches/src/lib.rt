@@ -1,4 +1,5 @@
-// The watcher's calls: a text with a table, its ranks and a run, and the jobs that its board finishes.
+// The watcher's calls: a text with a table, its ranks and a run, and the jobs that its board finishes. Each `as` is proved
+// to lose nothing.
 #![tactic(auto)]
 
 ghost use Rattle.std.specs.Prelude.{◌≡◌, ◌≤◌, length, replicate};

@@ -21,7 +21,8 @@ pub struct Lines<'a> {
     pub owners: &'a [usize],
 }
 
-// The numbers of the lines from a place on, as many as there is room for: the offset after them.
+// The numbers of the lines from a place on, as many as there is room for: the offset after them. The index m is also the
+// line's own number, counted from the first. The `as` is proved to lose nothing.
 pub fn read_numbers(from: Cursor, lines: &Lines, numbers: &mut [u64]) -> Result<usize, LineRefusal>
     requires key_value { is_in line_feed lines.now.key.now ≡ false }
     requires readable { Readable from.line lines.now.ranges.now lines.now.owners.now numbers.old }

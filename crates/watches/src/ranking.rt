@@ -10,7 +10,9 @@ use readers::Table;
 use rows::{BEST, PERIOD, TASK, cost, positions_for};
 use watch_runs::Rank;
 
-// A table's order, and its ranks, with the range of the lengths of each, which are lent later.
+// A table's order, and its ranks, with the range of the lengths of each. The ranks are what a run is lent, and the ranges
+// what the lines of its lengths are, so each has an array of its own. Two lifetimes: the order's rows are read before either
+// array is filled.
 #[derive(Clone, Copy)]
 pub struct Ranking<'o, 'a> {
     pub order: OrderInLimits<'o>,
@@ -30,7 +32,8 @@ pub fn place_ranks(table: Table, positions: &mut [usize])
     positions_for(&order.tasks[..table.count], table.rows(), positions);
 }
 
-// The ranks of an order, the first release of each that of its row, and the ranges of their lengths.
+// The ranks of an order, the first release of each that of its row, and the ranges of their lengths. By the index k, as in
+// `rows::positions_for`: a `zip` of three is no plainer.
 pub fn fill_ranks(order: OrderInLimits, releases: &[u64], ranks: &mut [Rank], ranges: &mut [Range])
     requires { Rankable order.lent releases.now ranks.old ranges.old }
     ensures { RanksAre order.entry.lent releases.now ranks.new ranges.new }
