@@ -1,7 +1,7 @@
 // An order's plan: the figures of each rank are found and written in one pass. And what a program prints of an answer.
 #![tactic(auto)]
 
-ghost use Rattle.std.specs.Prelude.{◌≡◌, true, ◌*◌, ◌≤◌, length, replicate};
+ghost use Rattle.std.specs.Prelude.{◌≡◌, true, ◌*◌, ◌^◌, ◌≤◌, ◌<◌, length, replicate};
 ghost use Rattle.text.specs.Buffers.{Wrote};
 ghost use Rattle.rows.specs.Rows.{max_tasks, in_range, all_rows};
 ghost use Rattle.rows.specs.inside.LentOrders.{rows_in_order};
@@ -89,7 +89,7 @@ fn put_plan<const MOST: usize>(
     order: OrderInLimits,
 ) -> Result<usize, u32>
     requires room { room_for (length (rows_in_order order.lent)) ≤ length text.old }
-    requires most { (length (rows_in_order order.lent) ≤ MOST) × (MOST ≤ loads_max) }
+    requires most { (length (rows_in_order order.lent) ≤ MOST) × (MOST < 2 ^ 59) }
     ensures { PutsPlan board (rows_in_order order.entry.lent) text.old text.new result }
 {
     let n = order.lent.len();
@@ -123,14 +123,14 @@ pub fn put_whole(out: &mut [u8], text: &[u8]) -> Result<usize, Refusal>
 }
 
 // The plan of an order, or its refusal. It is written whole into a text of so many bytes, so that a refusal leaves out as
-// it was; with loads of so many rows.
+// it was; with loads of so many rows. No array is as long as the bounds of the two lengths.
 pub fn plan_in<const MOST: usize, const TEXT: usize>(
     out: &mut [u8],
     board: u16,
     order: OrderInLimits,
 ) -> Result<usize, Refusal>
-    requires room { (room_for (length (rows_in_order order.lent)) ≤ TEXT) × (TEXT ≤ room_for loads_max) }
-    requires most { (length (rows_in_order order.lent) ≤ MOST) × (MOST ≤ loads_max) }
+    requires room { (room_for (length (rows_in_order order.lent)) ≤ TEXT) × (TEXT < 2 ^ 63) }
+    requires most { (length (rows_in_order order.lent) ≤ MOST) × (MOST < 2 ^ 59) }
     ensures { Written (if_in_time (length out.old) board (rows_in_order order.entry.lent)) out.old out.new result }
 {
     let mut text = [0; TEXT];
