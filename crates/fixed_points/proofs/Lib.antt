@@ -1,3 +1,3 @@
--- Laws of the interference of the tasks that columns hold, and of the search of W.
+-- Laws of the interference of tasks as loads, and of the search of W.
 pub mod Loads
 pub mod Values

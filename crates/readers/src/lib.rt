@@ -6,7 +6,7 @@ ghost use Rattle.readers.specs.inside.Numbers.{most_numbers, bytes_for, Room};
 ghost use Rattle.readers.specs.inside.Readings.{ReadAs};
 
 pub use numbers::{BOARD, HEAD, HEAD_SWITCH, Table};
-pub use progress::{Part, Progress, Stand, next_line, rank_lines};
+pub use progress::{Part, Progress, Stand, next_line, rank_lines, take_line};
 use rows::{FIELDS, MAX_TASKS};
 use text::{LineRefusal, end_at};
 

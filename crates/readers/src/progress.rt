@@ -6,12 +6,12 @@ ghost use Rattle.rows.specs.inside.Numbers.{line_count, switch_at, between};
 ghost use Rattle.tables.specs.TableLines.{is_whole};
 ghost use Rattle.readers.specs.inside.Numbers.{row_start};
 ghost use Rattle.readers.specs.inside.Stands.{is_end, begun, ranks_next, rows_next, after_field, stand_after, Counted};
-ghost use Rattle.readers.specs.inside.Stands.{read_by, ends_row, PutAt, with_number, Stands, TakesLine};
+ghost use Rattle.readers.specs.inside.Stands.{read_by, ends_row, PutAt, with_number, Stands, TakesLine, TakesOrEnds};
 
 use super::lines::expected_line;
 use super::{HEAD, HEAD_SWITCH};
 use rows::{FIELDS, POINTS, SWITCH};
-use text::{Cursor, LineRefusal};
+use text::{Cursor, LineRefusal, end_at};
 
 // The line that is expected next: one of the head, of a row, a rank, or none.
 #[derive(Clone, Copy, PartialEq, Eq)]
@@ -275,4 +275,22 @@ pub fn next_line(
         line: before.line + 1,
         offset: number.next,
     })
+}
+
+// The reading past the line that is expected, or behind the last the end of the text, where there is no line more. For a
+// caller who takes a table line by line to its text's end; `read_table` asks for the end once, behind its loop.
+pub fn take_line(
+    text: &[u8],
+    before: Progress,
+    numbers: &mut [u64],
+) -> Result<Option<Progress>, LineRefusal>
+    requires { Stands text.now before.offset before.stand before.line numbers.old }
+    ensures { TakesOrEnds before text.now numbers.old result numbers.new }
+{
+    if before.stand.part == Part::End {
+        end_at(before.cursor(text))?;
+        return Ok(None);
+    }
+    let next = next_line(text, before, numbers)?;
+    Ok(Some(next))
 }

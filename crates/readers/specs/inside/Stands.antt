@@ -1,5 +1,5 @@
 -- Promised between functions: where in a table the code stands, and what that says of the text's reading.
-use Rattle.std.specs.Prelude.{◌≡◌, Bool, true, false, List, [], ◌∷◌, ◌++◌, ℕ, zero, suc, ◌+◌, ◌*◌, ◌≤◌, ◌<◌, length, take, drop, set, Result, MatchResult}
+use Rattle.std.specs.Prelude.{◌≡◌, Bool, true, false, List, [], ◌∷◌, ◌++◌, ℕ, zero, suc, ◌+◌, ◌*◌, ◌≤◌, ◌<◌, length, take, drop, set, Option, Some, None, Result, Ok, Err, MatchResult}
 use Rattle.basics.specs.Basics.{pick}
 use Rattle.text.specs.Text.{bytes}
 use Rattle.text.specs.Lines.{line_at, end_at}
@@ -7,7 +7,7 @@ use Rattle.text.specs.Line.{Line}
 use Rattle.text.specs.declared.LineRefusal.{LineRefusal}
 use Rattle.grammars.specs.inside.Answers.{tested}
 use Rattle.grammars.specs.inside.Readers.{Reader, Takes, Refuses}
-use Rattle.grammars.specs.Grammars.{step}
+use Rattle.grammars.specs.Grammars.{accepted, step, stops}
 use Rattle.curves.specs.Curves.{min_points, max_points}
 use Rattle.rows.specs.Rows.{min_task, max_task, min_switch, max_switch, min_tasks, max_tasks, lines_for}
 use Rattle.rows.specs.inside.Numbers.{line_count}
@@ -202,3 +202,11 @@ TakesLine p text ns r ms =
     let ranked = p.stand.ranked in
     let taken = step (table ranked) text (stage_of p.stand ns) p.offset p.line in
     MatchResult r (λ q. Takes reader (On ranked text) taken (q, ms)) (Refuses taken)
+
+-- past the line that it takes, or where none is expected, at the text's end
+abbrev pub TakesOrEnds : Progress → List ℕ → List ℕ → Result (Option Progress) LineRefusal → List ℕ → Type 0
+TakesOrEnds p text ns (Ok None) ms =
+    let s = stage_of p.stand ns in
+    (step (table p.stand.ranked) text s p.offset p.line ≡ stops (accepted s)) × (ms ≡ ns)
+TakesOrEnds p text ns (Ok (Some q)) ms = TakesLine p text ns (Ok q) ms
+TakesOrEnds p text ns (Err e) ms = TakesLine p text ns (Err e) ms
