@@ -41,8 +41,8 @@ pub struct OrderInLimits<'a> {
     pub ghost is_in_range: { all_rows in_range (rows_in_order lent) ≡ true },
 }
 
-// A buffer with room for every plan. The crane and the watcher have one each, by the same line: a function of all three would ask for
-// the room, which is all that they say.
+// A buffer with room for every plan. The crane and the watcher have one each, by the same line: a function of all three
+// would ask for the room, which is all that they say.
 pub fn buffer() -> [u8; ROOM]
     ensures { result ≡ replicate plan_room 0 }
 {

@@ -87,8 +87,8 @@ struct Front {
     size: usize,
 }
 
-// The digits at the front of a text. Modulo 2^64, so that neither too many digits, whose number nobody wants, nor a byte below the digits needs a test of
-// its own. `is_ascii_digit` was tried, and lines took a quarter longer to read.
+// The digits at the front of a text. Modulo 2^64, so that neither too many digits, whose number nobody wants, nor a byte
+// below the digits needs a test of its own. `is_ascii_digit` was tried, and lines took a quarter longer to read.
 fn digits_at(s: &[u8]) -> Front
     ensures { Fronts s.now result }
 {
