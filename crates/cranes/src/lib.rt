@@ -46,7 +46,7 @@ fn piece_end(text: &[u8], from: usize) -> usize
 }
 
 // Where each piece ends, and how many there are, where they are no more than the most: in one pass over the text, which
-// stops there.
+// stops there. The ends stand in an array of the most, with their count: no heap is used.
 fn cut(text: &[u8], ends: &mut [usize; MAX_PIECES]) -> Option<usize>
     ensures { Cuts text.now ends.new result }
 {

@@ -54,7 +54,7 @@ fn length_at(lengths: &[u64], slot: Option<usize>, cost: u64) -> u64
     slot.and_then(|m| lengths.get(m)).copied().unwrap_or(cost)
 }
 
-// The first job of each rank.
+// The first job of each rank. The index is the rank itself, by which its slots are sought.
 pub fn begin(pending: &mut [Pending], board: &Board)
     requires { length pending.old ≡ length board.now.ranks.now }
     ensures { Begins board.now pending.new }
