@@ -1,4 +1,5 @@
--- Runs that meet the conditions of the claims, and runs past the figures that count no hold or no switch, by computing.
+-- Runs that meet the conditions of the claims, and runs past the figures that count no hold, no switch or one job, by
+-- computing.
 use mathlib.Core.Path.{◌≡◌, refl}
 use mathlib.Core.Bool.{true, false}
 use mathlib.Core.List.{List, [], ◌∷◌}
@@ -9,12 +10,14 @@ use Rattle.basics.proofs.Tests.{true_not_false}
 use Rattle.rows.specs.Rows.{row_at, cost}
 use Rattle.rows.specs.Rows.{Row}
 use Rattle.responses.specs.Extremes.{smallest, largest}
+use Rattle.responses.specs.BusyIntervals.{jobs_in, longest_response, latest_by}
 use Rattle.responses.specs.Figures.{rows_above, rows_below, blocking, is_late}
 use Rattle.responses.specs.Claims.{NoneHolds, switched}
-use Rattle.boards.specs.Claims.{LastsInRange, NoneLate}
+use Rattle.boards.specs.Claims.{LastsInRange, AfterFirstReleases, NoneLate}
 use Rattle.boards.specs.Runs.{board_goes_to}
 use Rattle.boards.specs.Witnesses.{with_holds, example_order, held_order, switched_order, at_once, lasting}
 use Rattle.boards.specs.Witnesses.{never, NeedsByNumbers, RunsMet, HoldsCount, SwitchCounts}
+use Rattle.boards.specs.Witnesses.{overrun_order, released_at, OverrunsCount}
 
 -- of three ranks, each
 each : (P : ℕ → Type 0) → P 0 → P 1 → P 2 → (i : ℕ) → i < 3 → P i
@@ -27,11 +30,11 @@ abbrev InTime : List Row → ℕ → Type 0
 InTime order i = is_late (row_at order i) (rows_above order i) (rows_below order i) ≡ false
 
 in_time : NoneLate example_order
-unfolding smallest cost blocking
+unfolding smallest jobs_in longest_response latest_by cost blocking
 in_time = each (InTime example_order) refl refl refl
 
 in_time_held : NoneLate held_order
-unfolding smallest cost blocking
+unfolding smallest jobs_in longest_response latest_by cost blocking
 in_time_held = each (InTime held_order) refl refl refl
 
 no_hold_lem : (m l : ℕ) → m ≤ 1 → l ≤ 1 → NoneHolds (with_holds m l)
@@ -100,7 +103,7 @@ runs_met = record {
 }
 
 pub holds_count : HoldsCount
-unfolding smallest largest cost blocking
+unfolding smallest largest jobs_in longest_response latest_by cost blocking
 holds_count = record {
   none_late = in_time_held;
   latest_is = refl;
@@ -122,7 +125,7 @@ holds_count = record {
 
 -- ---- under a switch
 pub switch_counts : SwitchCounts
-unfolding smallest largest cost blocking
+unfolding smallest largest jobs_in longest_response latest_by cost blocking
 switch_counts = record {
   none_late = each (InTime switched_order) refl refl refl;
   latest_is = refl;
@@ -137,4 +140,45 @@ switch_counts = record {
   held_lasts = longest_under 1 5;
   held_latest = refl;
   held_reached = refl;
+}
+
+-- ---- past the next release
+either : (P : ℕ → Type 0) → P 0 → P 1 → (i : ℕ) → i < 2 → P i
+either P a b zero l = a
+either P a b (suc zero) l = b
+either P a b (suc (suc i)) l = absurd (omega arith)
+
+lasts_over : (c : ℕ) → (40 ≤ c) × (c ≤ 62) → LastsInRange overrun_order (lasting (26 ∷ c ∷ []))
+lasts_over c lower = lasts_by overrun_order need
+    (λ i k l. either (λ i. ((row_at overrun_order i).best ≤ need i k)
+    × (need i k ≤ (row_at overrun_order i).worst + (row_at overrun_order i).switch)) (omega arith, omega arith) lower i l)
+  where
+    need : ℕ → ℕ → ℕ
+    need = lasting (26 ∷ c ∷ [])
+
+held_over : AfterFirstReleases overrun_order (released_at (0 ∷ 30 ∷ [])) 1 730
+held_over zero l = omega arith
+held_over (suc j) l = absurd (omega arith)
+
+pub overruns_count : OverrunsCount
+unfolding smallest largest jobs_in longest_response latest_by cost blocking
+overruns_count = record {
+  none_late = either (InTime overrun_order) refl refl;
+  lasts_latest = lasts_over 62 (omega arith, omega arith);
+  jobs_are = refl;
+  latest_is = refl;
+  first-is = refl;
+  fifth_is = refl;
+  last_is = refl;
+  first_reached = refl;
+  latest_reached = refl;
+  last_reached = refl;
+  older_first = refl;
+  late_below = refl;
+  earliest_is = refl;
+  lasts_earliest = lasts_over 40 (omega arith, omega arith);
+  held_early = held_over;
+  earliest_reached = refl;
+  held_first = refl;
+  held_fifth = refl;
 }

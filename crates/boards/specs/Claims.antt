@@ -1,5 +1,5 @@
 -- What is claimed of a run: every job finishes, once, within its task's latest response, and none that is released a
--- period of its own after the first releases above finishes before its earliest. Row i of an order has rank i.
+-- deadline of its own after the first releases above finishes before its earliest. Row i of an order has rank i.
 use Rattle.std.specs.Prelude.{◌≡◌, Bool, true, false, List, ℕ, ◌+◌, ◌*◌, ◌≤◌, ◌<◌, length}
 use Rattle.rows.specs.Rows.{row_at, cost}
 use Rattle.rows.specs.Rows.{Row}
@@ -15,9 +15,9 @@ LastsInRange order need =
 abbrev pub Finishes : List Row → (ℕ → ℕ) → (ℕ → ℕ → ℕ) → (ℕ → Bool) → ℕ → ℕ → ℕ → Type 0
 Finishes order offset need keeps i r f = is_done i r f (after_ticks order offset need keeps f).finished ≡ true
 
--- r is a period of rank i's own, or more, after the first release of every task above it
+-- r is a deadline of rank i's own, or more, after the first release of every task above it
 abbrev pub AfterFirstReleases : List Row → (ℕ → ℕ) → ℕ → ℕ → Type 0
-AfterFirstReleases order offset i r = (j : ℕ) → j < i → offset j + (row_at order i).period ≤ r
+AfterFirstReleases order offset i r = (j : ℕ) → j < i → offset j + (row_at order i).deadline ≤ r
 
 -- a run keeps each rank's latest and earliest response
 pub record Kept (order : List Row) (offset : ℕ → ℕ) (need : ℕ → ℕ → ℕ) (keeps : ℕ → Bool)

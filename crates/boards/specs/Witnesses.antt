@@ -1,11 +1,13 @@
 -- Nothing is claimed of runs in vain: runs that meet each condition of a claim, of an order of document 01's example;
--- with holds, runs past the figures that count none; and with a switch, a run past those that count none.
+-- with holds, runs past the figures that count none; with a switch, a run past those that count none; and with jobs that
+-- overrun their period, a run past the response of the first.
 use Rattle.std.specs.Prelude.{◌≡◌, Bool, true, false, List, [], ◌∷◌, map, ℕ, ◌+◌, ◌≤◌, ◌<◌, leb, length, get_or}
 use Rattle.basics.specs.Basics.{pick}
-use Rattle.rows.specs.Rows.{row, row_at, cost}
+use Rattle.rows.specs.Rows.{row, row_at, with_deadline, cost}
 use Rattle.rows.specs.Rows.{Row}
 use Rattle.responses.specs.Interference.{least_fixed, largest_fixed}
-use Rattle.responses.specs.Figures.{rows_above, worst_load, best_load}
+use Rattle.responses.specs.BusyIntervals.{jobs_in}
+use Rattle.responses.specs.Figures.{rows_above, rows_below, worst_load, best_load, finish_of, is_late}
 use Rattle.responses.specs.Claims.{NoneHolds, NoSwitch, switched, SwitchUpTo}
 use Rattle.boards.specs.Claims.{LastsInRange, Finishes, AfterFirstReleases, latest_at, earliest_at, NoneLate}
 use Rattle.boards.specs.Runs.{board_goes_to}
@@ -13,7 +15,7 @@ use Rattle.boards.specs.Runs.{board_goes_to}
 -- the rows of document 01's example, with holds of the middle rank and of the lowest
 abbrev pub with_holds : ℕ → ℕ → List Row
 with_holds middle lowest =
-    row 12 18 2 2 1000 8000 0 0 ∷ row 11 24 6 6 1000 8000 middle 0 ∷ row 13 200 19 17 3000 57000 lowest 0 ∷ []
+    row 12 18 18 2 2 1000 8000 0 0 ∷ row 11 24 24 6 6 1000 8000 middle 0 ∷ row 13 200 200 19 17 3000 57000 lowest 0 ∷ []
 
 abbrev pub example_order : List Row
 example_order = with_holds 0 0
@@ -120,3 +122,44 @@ pub record SwitchCounts : Type 0 where
   pub held_lasts : LastsInRange (switched 1 held_order) (lasting (3 ∷ 7 ∷ 20 ∷ []))
   pub held_latest : latest_at (switched 1 held_order) 1 ≡ 14
   pub held_reached : Finishes (switched 1 held_order) (ahead_from 2) (lasting (3 ∷ 7 ∷ 20 ∷ [])) always 1 1 15
+
+-- ---- the lower of two tasks may be done after its next release
+abbrev pub overrun_order : List Row
+overrun_order = row 21 70 70 26 26 1000 26000 0 0 ∷ row 22 100 118 62 40 1000 1000000 0 0 ∷ []
+
+-- first releases rank by rank
+abbrev pub released_at : List ℕ → ℕ → ℕ
+released_at ticks i = get_or ticks i 0
+
+-- w(q) of rank i
+abbrev pub finish_at : List Row → ℕ → ℕ → ℕ
+finish_at order i q = finish_of (row_at order i) (rows_above order i) (rows_below order i) q
+
+pub record OverrunsCount : Type 0 where
+  pub none_late : NoneLate overrun_order
+  pub lasts_latest : LastsInRange overrun_order (lasting (26 ∷ 62 ∷ []))
+  -- the busy interval of the lower task has seven jobs; its latest response is 118, that of the fifth, where the first
+  -- takes 114 and the last 94
+  pub jobs_are : jobs_in (finish_at overrun_order 1) 100 ≡ 7
+  pub latest_is : latest_at overrun_order 1 ≡ 118
+  pub first-is : finish_at overrun_order 1 0 ≡ 114
+  pub fifth_is : finish_at overrun_order 1 4 ≡ 518
+  pub last_is : finish_at overrun_order 1 6 ≡ 694
+  -- in the run in which both are released at tick 0 and every job takes its worst, these jobs finish just then
+  pub first_reached : Finishes overrun_order at_once (lasting (26 ∷ 62 ∷ [])) never 1 0 114
+  pub latest_reached : Finishes overrun_order at_once (lasting (26 ∷ 62 ∷ [])) never 1 400 518
+  pub last_reached : Finishes overrun_order at_once (lasting (26 ∷ 62 ∷ [])) never 1 600 694
+  -- the second is released at 100, while the first is pending, and finishes after it
+  pub older_first : Finishes overrun_order at_once (lasting (26 ∷ 62 ∷ [])) never 1 100 202
+  -- a deadline of 117 is missed
+  pub late_below : is_late (with_deadline 117 (row_at overrun_order 1)) (rows_above overrun_order 1) [] ≡ true
+  -- a job that is released a deadline or more after the first release above, and takes its earliest response, 40
+  pub earliest_is : earliest_at overrun_order 1 ≡ 40
+  pub lasts_earliest : LastsInRange overrun_order (lasting (26 ∷ 40 ∷ []))
+  pub held_early : AfterFirstReleases overrun_order (released_at (0 ∷ 30 ∷ [])) 1 730
+  pub earliest_reached :
+      Finishes overrun_order (released_at (0 ∷ 30 ∷ [])) (lasting (26 ∷ 40 ∷ [])) never 1 730 770
+  -- over a hold of 5 each of the jobs is blocked once and not once for each: the first is done in 118 ticks, four more,
+  -- and the fifth in 522
+  pub held_first : finish_of (row_at overrun_order 1) (rows_above overrun_order 1) (row_at held_order 2 ∷ []) 0 ≡ 118
+  pub held_fifth : finish_of (row_at overrun_order 1) (rows_above overrun_order 1) (row_at held_order 2 ∷ []) 4 ≡ 522

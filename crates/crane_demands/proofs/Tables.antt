@@ -68,7 +68,7 @@ field_differs =
                     λ s. refl,
                     (
                       λ s. refl,
-                      (λ s. refl, each_point F (λ at s. refl) (λ at s. refl) first_point_at 7),
+                      (λ s. refl, (λ s. refl, each_point F (λ at s. refl) (λ at s. refl) first_point_at 7)),
                     ),
                   ),
                 ),

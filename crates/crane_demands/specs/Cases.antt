@@ -89,5 +89,5 @@ cranes =
     -- each piece has its own switch
     ∷ prints (one_under "switch=3" "worst=7" "best=7" "hold=0" ++ (one ++ one_under "switch=2" "worst=7" "best=7" "hold=0"))
     (switched_plan "worst=10" "jitter=3" "margin=0" ++ (one_plan ++ switched_plan "worst=9" "jitter=2" "margin=1000"))
-    ∷ prints (one ++ lined ("x" ∷ []) ++ one) (lined ("plan=0" ∷ "refusal=1" ∷ "line=12" ∷ []) ++ one_plan)
+    ∷ prints (one ++ lined ("x" ∷ []) ++ one) (lined ("plan=0" ∷ "refusal=1" ∷ "line=13" ∷ []) ++ one_plan)
     ∷ []

@@ -1,4 +1,4 @@
--- The starred cases, the others, and those of holds, of the switch and of curves are so, by computing.
+-- The starred cases, the others, and those of holds, of the switch, of curves and of deadlines are so, by computing.
 use mathlib.Core.Path.{◌≡◌, refl, sym, ◌∙◌}
 use mathlib.Core.Bool.{true}
 use mathlib.Core.List.{List, [], ◌∷◌}
@@ -11,9 +11,10 @@ use Rattle.grammars.specs.Forms.{form_at}
 use Rattle.grammars.specs.Grammars.{read_for}
 use Rattle.tables.specs.TableLines.{read_table}
 use Rattle.curves.specs.Curves.{Point, point, permitted, curve_margin}
-use Rattle.rows.specs.Rows.{cost, with_switch, with_curve}
+use Rattle.rows.specs.Rows.{row, cost, with_deadline, with_switch, with_curve}
 use Rattle.rows.specs.Rows.{Row}
 use Rattle.responses.specs.Extremes.{smallest, largest}
+use Rattle.responses.specs.BusyIntervals.{jobs_in, longest_response, latest_by}
 use Rattle.responses.specs.Figures.{blocking, is_late}
 use Rattle.responses.specs.Claims.{NoneHolds}
 use Rattle.responses.proofs.Blocking.{no_blocking}
@@ -23,7 +24,7 @@ use Rattle.plans.specs.Plans.{rank_text, head_text, plan_text, refusal_text}
 use Rattle.plans.specs.Outcomes.{fitted, if_in_time}
 use Rattle.demands.specs.Calls.{on_table, if_ordered}
 use Rattle.demands.specs.Cases.{HasFigures, AllSo, row11, row12, row13, starred, unstarred, of_tasks, of_holds}
-use Rattle.demands.specs.Cases.{of_switch, curved13, of_curves, of_curve_texts}
+use Rattle.demands.specs.Cases.{of_switch, curved13, of_curves, of_curve_texts, row21, row22, of_deadlines}
 
 -- the rows below count by their blocking time, which is that of none
 none_blocks : (below : List Row) → NoneHolds below → blocking below ≡ blocking []
@@ -47,7 +48,7 @@ late_over t above h below none =
 
 pub starred_so : AllSo starred
 unfolding digits decimal signed key_line number_of line_at form_at read_for read_table
-    cost blocking smallest largest over_set rank_text head_text plan_text fitted on_table if_ordered
+    cost blocking smallest largest jobs_in longest_response latest_by over_set rank_text head_text plan_text fitted on_table if_ordered
 starred_so = (
   over (row13 57000) [] (refl, refl, refl, refl, refl),
   (
@@ -70,7 +71,7 @@ starred_so = (
 
 pub unstarred_so : AllSo unstarred
 unfolding digits decimal signed key_line number_of line_at form_at read_for read_table
-    cost blocking smallest largest over_set rank_text head_text plan_text refusal_text fitted if_in_time on_table if_ordered
+    cost blocking smallest largest jobs_in longest_response latest_by over_set rank_text head_text plan_text refusal_text fitted if_in_time on_table if_ordered
 unstarred_so = (refl, (refl, (refl, (refl, (refl, (refl, (refl, tt)))))))
 
 pub tasks_so : AllSo of_tasks
@@ -79,7 +80,7 @@ tasks_so = (refl, tt)
 
 pub holds_so : AllSo of_holds
 unfolding digits decimal signed key_line number_of line_at form_at read_for read_table
-    cost blocking smallest largest over_set rank_text head_text plan_text fitted on_table if_ordered
+    cost blocking smallest largest jobs_in longest_response latest_by over_set rank_text head_text plan_text fitted on_table if_ordered
 holds_so = (
   (refl, refl, refl, refl, refl),
   (
@@ -96,7 +97,7 @@ holds_so = (
 
 pub switch_so : AllSo of_switch
 unfolding digits decimal signed key_line number_of line_at form_at read_for read_table
-    cost blocking smallest largest over_set rank_text head_text plan_text refusal_text fitted if_in_time on_table if_ordered
+    cost blocking smallest largest jobs_in longest_response latest_by over_set rank_text head_text plan_text refusal_text fitted if_in_time on_table if_ordered
 switch_so = (
   over (with_switch 5 (row13 57000)) [] (refl, refl, refl, refl, refl),
   (
@@ -129,7 +130,7 @@ judge : (c : List Point) {e w j : ℕ} {m : ℤ} → HasFigures (curved13 c) (ro
 judge c h = over (curved13 c) (row11 8000 ∷ row12 8000 ∷ []) h
 
 pub curves_so : AllSo of_curves
-unfolding cost blocking smallest largest permitted curve_margin
+unfolding cost blocking smallest largest jobs_in longest_response latest_by permitted curve_margin
 curves_so =
     judge (point 30 10 ∷ []) (refl, refl, refl, refl, refl)
     also judge (point 25 12 ∷ []) (refl, refl, refl, refl, refl)
@@ -163,10 +164,29 @@ curves_so =
 
 pub curve_texts_so : AllSo of_curve_texts
 unfolding digits decimal signed key_line number_of line_at form_at read_for read_table
-    cost blocking smallest largest permitted curve_margin over_set rank_text head_text plan_text refusal_text fitted if_in_time
+    cost blocking smallest largest jobs_in longest_response latest_by permitted curve_margin over_set rank_text head_text plan_text refusal_text fitted if_in_time
     on_table if_ordered
 curve_texts_so =
     refl also refl also refl also refl also refl also refl also refl also refl
     also refl also refl also refl also refl also refl also refl also refl also refl
     also refl also refl also refl also refl also refl also refl also refl also refl
     also refl also tt
+
+pub deadlines_so : AllSo of_deadlines
+unfolding digits decimal signed key_line number_of line_at form_at read_for read_table
+    cost blocking smallest largest jobs_in longest_response latest_by over_set rank_text head_text plan_text refusal_text fitted
+    if_in_time on_table if_ordered
+deadlines_so =
+    over (row22 118) (row21 ∷ []) (refl, refl, refl, refl, refl)
+    also over (row22 1000000) (row21 ∷ []) (refl, refl, refl, refl, refl)
+    also late_over (row22 117) (row21 ∷ []) refl
+    also late_over (row22 100) (row21 ∷ []) refl
+    also (refl, refl, refl, refl, refl)
+    also over (with_switch 1 (row 22 100 1000000 60 40 1000 1000000 0 0)) (with_switch 1 (row 21 70 70 25 25 1000 26000 0 0) ∷ [])
+    (refl, refl, refl, refl, refl)
+    also over (row22 62) [] (refl, refl, refl, refl, refl)
+    also late_over (row22 61) [] refl
+    also late_over (row22 1) [] refl
+    also over (row22 118) (with_deadline 1 row21 ∷ []) (refl, refl, refl, refl, refl)
+    also refl also refl also refl also refl also refl also refl also refl also refl
+    also refl also refl also refl also refl also refl also refl also refl also tt

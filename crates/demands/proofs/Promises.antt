@@ -14,6 +14,8 @@ use Rattle.responses.specs.Figures.{rows_above, rows_below}
 use Rattle.responses.specs.Claims.{Figured, AsRequest2, AsDocument01, NoSwitch, NoneHolds, SwitchUpTo, Grows}
 use Rattle.responses.proofs.Conditions.{by_condition, own_curve}
 use Rattle.responses.proofs.Responses.{figured, without_either}
+use Rattle.responses.proofs.Finishes.{ends, within_period}
+use Rattle.responses.proofs.Deadlines.{own_deadline}
 use Rattle.responses.proofs.Switches.{by_numbers, without_switch, switch_grows}
 use Rattle.responses.proofs.Sequences.{by_set}
 use Rattle.responses.proofs.Blocking.{rest_holds}
@@ -68,16 +70,20 @@ module _ (order : List Row) (ok : all_rows in_range order ≡ true) (in_time : N
       let below = rows_below order i in
       entry_is i h ∙ entry_same t above above' below below' (by_set t above above' below below' p q)
 
-  before_switch : NoSwitch order → (i : ℕ) → i < length order
+  at_times : (i : ℕ) → i < length order → times_in_range (row_at order i) ≡ true
+  at_times i h = at_passes times_in_range order i times_ok h
+
+  before_switch : NoSwitch order → (i : ℕ) → i < length order → (row_at order i).deadline ≡ (row_at order i).period
       → AsRequest2 (row_at order i) (rows_above order i) (rows_below order i)
-  before_switch none i h =
-      without_switch (row_at order i) (rows_above order i) (rows_below order i) (none i h)
+  before_switch none i h due =
+      without_switch (row_at order i) (rows_above order i) (rows_below order i) (at_times i h) due (none i h)
       (front_each (λ r. r.switch ≡ 0) order i none)
 
   as_before : NoSwitch order → NoneHolds order → (i : ℕ) → i < length order
+      → (row_at order i).deadline ≡ (row_at order i).period
       → AsDocument01 (row_at order i) (rows_above order i) (rows_below order i)
-  as_before free none i h =
-      without_either (row_at order i) (rows_above order i) (rows_below order i) (free i h)
+  as_before free none i h due =
+      without_either (row_at order i) (rows_above order i) (rows_below order i) (at_times i h) due (free i h)
       (front_each (λ r. r.switch ≡ 0) order i free) (none i h) (rest_holds order (suc i) none)
 
   grows : (s : ℕ) → SwitchUpTo s order → (i : ℕ) → i < length order
@@ -91,10 +97,15 @@ module _ (order : List Row) (ok : all_rows in_range order ≡ true) (in_time : N
     as_many = entries_length [] order;
     entry_is = entry_is;
     by_formulas = by_formulas;
+    ends = λ i h.
+        ends (row_at order i) (rows_above order i) (rows_below order i) (at_times i h)
+        (front_passes times_in_range i order times_ok);
     by_condition = λ i h.
         by_condition (row_at order i) (rows_above order i) (rows_below order i) (at_passes in_range order i ok h);
     own_curve = λ i h. own_curve (row_at order i) (rows_above order i) (rows_below order i);
     by_sets = by_sets;
+    own_deadline = λ i d h. own_deadline (row_at order i) (rows_above order i) (rows_below order i) d (at_times i h);
+    within_period = λ i h due. within_period (row_at order i) (rows_above order i) (rows_below order i) (at_times i h) due;
     by_numbers = λ i h. by_numbers (row_at order i) (rows_above order i) (rows_below order i);
     without_switch = before_switch;
     without_either = as_before;

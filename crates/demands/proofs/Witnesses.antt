@@ -5,6 +5,7 @@ use mathlib.Core.Bool.{true, false}
 use mathlib.Core.List.{List, [], ◌∷◌, map}
 use Prim.Native.Nat.{ℕ, ◌-◌, ◌*◌, ◌/◌, ◌≤◌}
 use native.Mathlib.Omega.{arith}
+use borrow.Author.Tests.{ne_eqb}
 use lib.ListN.{length}
 use Rattle.text.specs.Text.{digits, decimal, signed, key_line}
 use Rattle.text.specs.Lines.{number_of, line_at}
@@ -15,9 +16,13 @@ use Rattle.rows.specs.Rows.{max_task, max_ticks, cost}
 use Rattle.rows.specs.Rows.{Row}
 use Rattle.tables.specs.TableLines.{TableRead, read_table}
 use Rattle.responses.specs.Extremes.{smallest, largest}
+use Rattle.responses.specs.BusyIntervals.{jobs_in, longest_response, latest_by}
 use Rattle.responses.specs.Figures.{worst_load, best_load, worst_in, best_in, blocking, is_late, latest, earliest, margin_at}
-use Rattle.responses.specs.Claims.{Figured, switched}
+use Rattle.responses.specs.Interference.{least_fixed}
+use Rattle.responses.specs.Claims.{Figured, AsRequest4, switched}
 use Rattle.responses.proofs.Responses.{figured}
+use Rattle.responses.proofs.Finishes.{within_period}
+use Rattle.responses.proofs.FixedPoints.{least_fixed_lem, least_least}
 use Rattle.responses.proofs.Sums.{interference_mono}
 use Rattle.orders.specs.Orders.{over_set}
 use Rattle.plans.specs.declared.Entry.{Entry}
@@ -25,7 +30,7 @@ use Rattle.plans.specs.Entries.{entry, entries}
 use Rattle.plans.specs.Plans.{rank_text, head_text, plan_text, rank_room}
 use Rattle.plans.specs.Outcomes.{refuses, if_in_time}
 use Rattle.demands.specs.Calls.{on_table, planned, reviewed}
-use Rattle.demands.specs.Cases.{table, pointed}
+use Rattle.demands.specs.Cases.{table, pointed, row21, row22, overrun}
 use Rattle.boards.specs.Witnesses.{example_order}
 use Rattle.boards.proofs.Witnesses.{runs_met}
 use Rattle.demands.specs.Witnesses.{example, example_rows, timely_text, late_order, late_text, malformed}
@@ -48,20 +53,33 @@ module _ where
   unfolding cost
   figures = figured lowest above [] refl refl
 
-  whole_period : (is_late lowest above [] ≡ false) × (latest lowest above [] ≤ max_ticks)
+  -- its deadline is its period, so one job decides
+  abbrev solution : ℕ
+  solution = least_fixed (cost lowest + blocking []) max_ticks (map worst_load above)
+
+  solved : (1 ≤ solution) × (solution ≤ max_ticks)
   unfolding cost blocking
-  whole_period = figures.latest_least max_ticks (omega arith) refl (omega arith)
+  solved =
+      least_least (cost lowest + blocking []) max_ticks (map worst_load above) max_ticks (omega arith) refl (omega arith)
+
+  one_job : AsRequest4 lowest above []
+  unfolding cost
+  one_job = within_period lowest above [] refl refl
+
+  whole_period : is_late lowest above [] ≡ false
+  whole_period = one_job.late_then ∙ ne_eqb solution 0 (λ z. omega (arith, z, solved.0))
 
   latest_whole : latest lowest above [] ≡ max_ticks
   unfolding cost blocking
   latest_whole =
-      let w = figures.latest_fixed whole_period.0 in
+      let w = least_fixed_lem (cost lowest + blocking []) max_ticks (map worst_load above) solved.0 in
       let once : worst_in 1 above ≡ 9 * (max_ticks / 10) = refl in
-      omega (arith, w.0, w.2, once, interference_mono 0 1 (latest lowest above []) (map worst_load above) w.1)
+      one_job.latest_then
+      ∙ omega (arith, w.0, w.1, once, interference_mono 0 1 solution (map worst_load above) solved.0)
 
   earliest_tenth : earliest lowest above [] ≡ max_ticks / 10
   earliest_tenth =
-      let e = figures.earliest_fixed (omega arith) whole_period.0 in
+      let e = figures.earliest_fixed (omega arith) whole_period in
       let none : best_in max_ticks above ≡ 0 = refl in
       omega (
         arith,
@@ -84,7 +102,7 @@ module _ where
 
 pub met : Met
 unfolding digits decimal signed key_line number_of line_at form_at read_for read_table
-    cost blocking smallest largest well_formed permitted curve_margin over_set rank_text head_text plan_text if_in_time on_table
+    cost blocking smallest largest jobs_in longest_response latest_by well_formed permitted curve_margin over_set rank_text head_text plan_text if_in_time on_table
 met =
     let late_told = telling true late_text refl in
     let late = Reviewer.review_demands late_text 0 in
@@ -121,6 +139,10 @@ met =
       hold_past = refl;
       switch_most = refl;
       switch_past = refl;
+      deadline_least = refl;
+      deadline_most = refl;
+      deadline_none = refl;
+      deadline_past = refl;
       curve_met = refl;
       curve_most = refl;
       delay_not_above = refl;
@@ -131,6 +153,10 @@ met =
       tells_curved = telling false curved_text refl;
       by_rule_curved = Planner.rule_of curved_text 0 refl curved_rows refl;
       line_fails = (Planner.choice (pointed ("points=0" ∷ [])) refl).none_passes refl;
+      tells_overrun = telling false (overrun "deadline=118") refl;
+      by_rule_overrun = Planner.rule_of (overrun "deadline=118") 0 refl (row21 ∷ row22 118 ∷ []) refl;
+      period_fails = (Planner.choice (overrun "deadline=100") refl).none_passes refl;
+      due_at_period = refl;
       lent_whole = refl;
       lent_as_rows = refl;
       lent_second = refl;
@@ -140,7 +166,7 @@ met =
       room_is = refl;
       head_filled = refl;
       rank_in_limits = refl;
-      rank_timely = whole_period.0;
+      rank_timely = whole_period;
       rank_filled = filled;
     }
 
@@ -154,7 +180,7 @@ unfolding number_of line_at form_at read_for read_table
 example_accepted = refl
 
 late_only : (room : ℕ) → reviewed late_text room ≡ refuses 7 3
-unfolding number_of line_at form_at read_for read_table cost blocking smallest if_in_time on_table
+unfolding number_of line_at form_at read_for read_table cost blocking smallest jobs_in longest_response latest_by if_in_time on_table
 late_only room = refl
 
 pub excluded : Excluded

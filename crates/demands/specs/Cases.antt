@@ -1,12 +1,12 @@
--- Document 01's starred cases, each row with a hold of 0 and no points under a switch of 0, in one list under one
--- proposition about the definitions; its other cases, as the programs print them; and cases of holds, of the switch
--- and of curves.
+-- Document 01's starred cases, each row with its period as deadline, a hold of 0 and no points under a switch of 0, in
+-- one list under one proposition about the definitions; its other cases, as the programs print them; and cases of holds,
+-- of the switch, of curves and of deadlines.
 use Rattle.std.specs.Prelude.{◌≡◌, true, false, List, [], ◌∷◌, ◌++◌, ℕ, ℤ, pos, negsuc}
 use Rattle.std.proofs.Math.Option.{Option, none, some}
 use Prim.Native.String.{String}
 use Rattle.text.specs.Text.{lined}
 use Rattle.curves.specs.Curves.{Point, point}
-use Rattle.rows.specs.Rows.{row, with_switch, with_curve, tasks_of}
+use Rattle.rows.specs.Rows.{row, with_deadline, with_switch, with_curve, tasks_of}
 use Rattle.rows.specs.Rows.{Row}
 use Rattle.responses.specs.Figures.{latest, is_late, earliest, jitter, margin}
 use Rattle.responses.specs.Claims.{NoneHolds}
@@ -57,20 +57,20 @@ AllSo (c ∷ cs) = IsSo c × AllSo cs
 
 -- the paper's rows and table, with the betas of tasks 11, 12 and 13; the table also with the line of its switch
 abbrev pub row11 : ℕ → Row
-row11 beta = row 11 24 6 6 1000 beta 0 0
+row11 beta = row 11 24 24 6 6 1000 beta 0 0
 
 abbrev pub row12 : ℕ → Row
-row12 beta = row 12 18 2 2 1000 beta 0 0
+row12 beta = row 12 18 18 2 2 1000 beta 0 0
 
 abbrev pub row13 : ℕ → Row
-row13 beta = row 13 200 19 17 3000 beta 0 0
+row13 beta = row 13 200 200 19 17 3000 beta 0 0
 
 abbrev pub table_under : String → String → String → String → List ℕ
 table_under switch beta11 beta12 beta13 = lined (
     "board=7" ∷ "tasks=3" ∷ switch
-    ∷ "task=11" ∷ "period=24" ∷ "worst=6" ∷ "best=6" ∷ "alpha=1000" ∷ beta11 ∷ "hold=0" ∷ "points=0"
-    ∷ "task=12" ∷ "period=18" ∷ "worst=2" ∷ "best=2" ∷ "alpha=1000" ∷ beta12 ∷ "hold=0" ∷ "points=0"
-    ∷ "task=13" ∷ "period=200" ∷ "worst=19" ∷ "best=17" ∷ "alpha=3000" ∷ beta13 ∷ "hold=0" ∷ "points=0"
+    ∷ "task=11" ∷ "period=24" ∷ "deadline=24" ∷ "worst=6" ∷ "best=6" ∷ "alpha=1000" ∷ beta11 ∷ "hold=0" ∷ "points=0"
+    ∷ "task=12" ∷ "period=18" ∷ "deadline=18" ∷ "worst=2" ∷ "best=2" ∷ "alpha=1000" ∷ beta12 ∷ "hold=0" ∷ "points=0"
+    ∷ "task=13" ∷ "period=200" ∷ "deadline=200" ∷ "worst=19" ∷ "best=17" ∷ "alpha=3000" ∷ beta13 ∷ "hold=0" ∷ "points=0"
     ∷ [])
 
 abbrev pub table : String → String → String → List ℕ
@@ -89,7 +89,7 @@ plan_with margin13 = lined (
 abbrev pub alone : String → String → List ℕ
 alone worst beta = lined (
     "board=7" ∷ "tasks=1" ∷ "switch=0"
-    ∷ "task=1" ∷ "period=10" ∷ worst ∷ "best=10" ∷ "alpha=1000" ∷ beta ∷ "hold=0" ∷ "points=0"
+    ∷ "task=1" ∷ "period=10" ∷ "deadline=10" ∷ worst ∷ "best=10" ∷ "alpha=1000" ∷ beta ∷ "hold=0" ∷ "points=0"
     ∷ [])
 
 abbrev pub starred : List Case
@@ -117,8 +117,8 @@ starred =
 abbrev pub eleven_above : List ℕ
 eleven_above = lined (
     "board=7" ∷ "tasks=2" ∷ "switch=0"
-    ∷ "task=11" ∷ "period=24" ∷ "worst=6" ∷ "best=6" ∷ "alpha=1000" ∷ "beta=8000" ∷ "hold=0" ∷ "points=0"
-    ∷ "task=13" ∷ "period=200" ∷ "worst=19" ∷ "best=17" ∷ "alpha=3000" ∷ "beta=57000" ∷ "hold=0" ∷ "points=0"
+    ∷ "task=11" ∷ "period=24" ∷ "deadline=24" ∷ "worst=6" ∷ "best=6" ∷ "alpha=1000" ∷ "beta=8000" ∷ "hold=0" ∷ "points=0"
+    ∷ "task=13" ∷ "period=200" ∷ "deadline=200" ∷ "worst=19" ∷ "best=17" ∷ "alpha=3000" ∷ "beta=57000" ∷ "hold=0" ∷ "points=0"
     ∷ "rank=11" ∷ "rank=13"
     ∷ [])
 
@@ -130,7 +130,7 @@ unstarred =
     ∷ planner [] (lined ("plan=0" ∷ "refusal=1" ∷ "line=1" ∷ []))
     ∷ planner (lined ("board=07" ∷ [])) (lined ("plan=0" ∷ "refusal=2" ∷ "line=1" ∷ []))
     ∷ planner (lined ("board=7" ∷ "tasks=17" ∷ [])) (lined ("plan=0" ∷ "refusal=3" ∷ "line=2" ∷ []))
-    ∷ planner (alone "worst=11" "beta=10000") (lined ("plan=0" ∷ "refusal=4" ∷ "line=6" ∷ []))
+    ∷ planner (alone "worst=11" "beta=10000") (lined ("plan=0" ∷ "refusal=4" ∷ "line=7" ∷ []))
     ∷ reviewer eleven_above
     (lined (
     "plan=1" ∷ "board=7" ∷ "tasks=2"
@@ -146,14 +146,14 @@ of_tasks = planner (lined ("board=7" ∷ "tasks=16" ∷ [])) (lined ("plan=0" �
 -- ---- holds
 -- the paper's task 13 with a hold
 abbrev pub holding13 : ℕ → Row
-holding13 hold = row 13 200 19 17 3000 57000 hold 0
+holding13 hold = row 13 200 200 19 17 3000 57000 hold 0
 
 -- a short loop over a long one that may hold the bus for 3 ticks, with the beta of the first and the line of its hold
 abbrev pub bus : String → String → List ℕ
 bus beta hold = lined (
     "board=7" ∷ "tasks=2" ∷ "switch=0"
-    ∷ "task=1" ∷ "period=10" ∷ "worst=2" ∷ "best=2" ∷ "alpha=1000" ∷ beta ∷ "hold=0" ∷ "points=0"
-    ∷ "task=2" ∷ "period=20" ∷ "worst=5" ∷ "best=3" ∷ "alpha=1000" ∷ "beta=20000" ∷ hold ∷ "points=0"
+    ∷ "task=1" ∷ "period=10" ∷ "deadline=10" ∷ "worst=2" ∷ "best=2" ∷ "alpha=1000" ∷ beta ∷ "hold=0" ∷ "points=0"
+    ∷ "task=2" ∷ "period=20" ∷ "deadline=20" ∷ "worst=5" ∷ "best=3" ∷ "alpha=1000" ∷ "beta=20000" ∷ hold ∷ "points=0"
     ∷ [])
 
 abbrev pub of_holds : List Case
@@ -161,7 +161,7 @@ of_holds =
     -- the largest hold below less 1; a hold of 1 blocks nobody, nor does one above or the task's own
     between (row11 8000) (row12 8000 ∷ []) (holding13 5 ∷ []) 6 12 6 (negsuc 3999)
     ∷ between (row11 8000) (row12 8000 ∷ []) (holding13 1 ∷ []) 6 8 2 (pos 0)
-    ∷ between (row11 8000) (row 12 18 2 2 1000 8000 2 0 ∷ []) [] 6 8 2 (pos 0)
+    ∷ between (row11 8000) (row 12 18 18 2 2 1000 8000 2 0 ∷ []) [] 6 8 2 (pos 0)
     ∷ between (holding13 1) (row11 8000 ∷ row12 8000 ∷ []) [] 25 35 10 (pos 2000)
     -- a task that may hold for 2 ticks has its best as E
     ∷ between (holding13 2) (row11 8000 ∷ row12 8000 ∷ []) [] 17 35 18 (negsuc 13999)
@@ -173,8 +173,8 @@ of_holds =
     ∷ "rank=2" ∷ "task=2" ∷ "best=3" ∷ "worst=7" ∷ "jitter=4" ∷ "margin=13000"
     ∷ []))
     ∷ refusal (bus "beta=3999" "hold=3") 8 0
-    ∷ refusal (bus "beta=6000" "hold=6") 4 18
-    ∷ refusal (bus "beta=6000" "rank=1") 1 18
+    ∷ refusal (bus "beta=6000" "hold=6") 4 20
+    ∷ refusal (bus "beta=6000" "rank=1") 1 20
     ∷ []
 
 -- ---- the switch
@@ -182,7 +182,7 @@ of_holds =
 abbrev pub alone_under : List String → String → String → String → List ℕ
 alone_under head worst best hold =
     lined head
-    ++ lined ("task=1" ∷ "period=10" ∷ worst ∷ best ∷ "alpha=1000" ∷ "beta=10000" ∷ hold ∷ "points=0" ∷ [])
+    ++ lined ("task=1" ∷ "period=10" ∷ "deadline=10" ∷ worst ∷ best ∷ "alpha=1000" ∷ "beta=10000" ∷ hold ∷ "points=0" ∷ [])
 
 -- under a switch, by its line
 abbrev pub one_under : String → String → String → String → List ℕ
@@ -228,11 +228,11 @@ of_switch =
     "plan=1" ∷ "board=7" ∷ "tasks=1"
     ∷ "rank=1" ∷ "task=1" ∷ "best=7" ∷ "worst=10" ∷ "jitter=3" ∷ "margin=0"
     ∷ []))
-    ∷ refusal (one_under "switch=3" "worst=8" "best=7" "hold=0") 4 6
-    ∷ refusal (one_under "switch=1000" "worst=1" "best=1" "hold=0") 4 6
+    ∷ refusal (one_under "switch=3" "worst=8" "best=7" "hold=0") 4 7
+    ∷ refusal (one_under "switch=1000" "worst=1" "best=1" "hold=0") 4 7
     -- best and hold are held to worst alone
-    ∷ refusal (one_under "switch=3" "worst=7" "best=8" "hold=0") 4 7
-    ∷ refusal (one_under "switch=3" "worst=7" "best=7" "hold=8") 4 10
+    ∷ refusal (one_under "switch=3" "worst=7" "best=8" "hold=0") 4 8
+    ∷ refusal (one_under "switch=3" "worst=7" "best=7" "hold=8") 4 11
     -- the line: past its limit, no number, missing, doubled, before its place and behind it
     ∷ planner (one_under "switch=1001" "worst=7" "best=7" "hold=0") (refused_at "refusal=3" "line=3")
     ∷ planner (one_under "switch=" "worst=7" "best=7" "hold=0") (refused_at "refusal=2" "line=3")
@@ -242,7 +242,7 @@ of_switch =
     ∷ planner (alone_under ("board=7" ∷ "switch=0" ∷ "tasks=1" ∷ []) "worst=7" "best=7" "hold=0")
     (refused_at "refusal=1" "line=2")
     ∷ planner (one_under "switch=0" "worst=7" "best=7" "hold=0" ++ lined ("switch=0" ∷ []))
-    (refused_at "refusal=1" "line=12")
+    (refused_at "refusal=1" "line=13")
     ∷ []
 
 -- ---- curves
@@ -258,7 +258,7 @@ judged c m = figures (curved13 c) (row11 8000 ∷ row12 8000 ∷ []) 25 35 10 m
 abbrev pub pointed : List String → List ℕ
 pointed lines =
     lined ("board=7" ∷ "tasks=1" ∷ "switch=0"
-    ∷ "task=1" ∷ "period=10" ∷ "worst=10" ∷ "best=7" ∷ "alpha=1000" ∷ "beta=9999" ∷ "hold=0" ∷ lines)
+    ∷ "task=1" ∷ "period=10" ∷ "deadline=10" ∷ "worst=10" ∷ "best=7" ∷ "alpha=1000" ∷ "beta=9999" ∷ "hold=0" ∷ lines)
 
 abbrev pub pointed_plan : String → List ℕ
 pointed_plan margin = lined (
@@ -307,7 +307,7 @@ of_curves =
     ∷ late (with_curve (point 1000000 1000000 ∷ []) (row12 8000)) (row13 57000 ∷ [])
     ∷ []
 
--- ---- curves in a text: the line of the points is its eleventh, and the pairs follow
+-- ---- curves in a text: the line of the points is its twelfth, and the pairs follow
 abbrev pub of_curve_texts : List Case
 of_curve_texts =
     -- a text whose line has no order, and whose curve has: alpha and beta are read and not used
@@ -321,28 +321,98 @@ of_curve_texts =
     (pointed_plan "margin=-334")
     ∷ reviewer (pointed ("points=1" ∷ "delay=5" ∷ "allow=9" ∷ "rank=1" ∷ [])) (pointed_plan "margin=-2000")
     -- 11 on the line of a delay and of an allow, each held to the point before it; not on those of a first point
-    ∷ refusal (pointed ("points=2" ∷ "delay=7" ∷ "allow=3" ∷ "delay=7" ∷ "allow=3" ∷ [])) 11 14
-    ∷ refusal (pointed ("points=2" ∷ "delay=7" ∷ "allow=3" ∷ "delay=6" ∷ "allow=3" ∷ [])) 11 14
-    ∷ refusal (pointed ("points=2" ∷ "delay=7" ∷ "allow=3" ∷ "delay=0" ∷ "allow=3" ∷ [])) 11 14
-    ∷ refusal (pointed ("points=2" ∷ "delay=7" ∷ "allow=3" ∷ "delay=8" ∷ "allow=4" ∷ [])) 11 15
-    ∷ refusal (pointed ("points=3" ∷ "delay=1" ∷ "allow=5" ∷ "delay=5" ∷ "allow=2" ∷ "delay=3" ∷ [])) 11 16
-    ∷ refusal (pointed ("points=3" ∷ "delay=1" ∷ "allow=5" ∷ "delay=5" ∷ "allow=2" ∷ "delay=6" ∷ "allow=3" ∷ [])) 11 17
+    ∷ refusal (pointed ("points=2" ∷ "delay=7" ∷ "allow=3" ∷ "delay=7" ∷ "allow=3" ∷ [])) 11 15
+    ∷ refusal (pointed ("points=2" ∷ "delay=7" ∷ "allow=3" ∷ "delay=6" ∷ "allow=3" ∷ [])) 11 15
+    ∷ refusal (pointed ("points=2" ∷ "delay=7" ∷ "allow=3" ∷ "delay=0" ∷ "allow=3" ∷ [])) 11 15
+    ∷ refusal (pointed ("points=2" ∷ "delay=7" ∷ "allow=3" ∷ "delay=8" ∷ "allow=4" ∷ [])) 11 16
+    ∷ refusal (pointed ("points=3" ∷ "delay=1" ∷ "allow=5" ∷ "delay=5" ∷ "allow=2" ∷ "delay=3" ∷ [])) 11 17
+    ∷ refusal (pointed ("points=3" ∷ "delay=1" ∷ "allow=5" ∷ "delay=5" ∷ "allow=2" ∷ "delay=6" ∷ "allow=3" ∷ [])) 11 18
     -- 3, 2 and 1 before it
-    ∷ refusal (pointed ("points=2" ∷ "delay=7" ∷ "allow=3" ∷ "delay=1000001" ∷ [])) 3 14
-    ∷ refusal (pointed ("points=2" ∷ "delay=7" ∷ "allow=3" ∷ "delay=8" ∷ "allow=1000001" ∷ [])) 3 15
-    ∷ refusal (pointed ("points=2" ∷ "delay=7" ∷ "allow=3" ∷ "delay=07" ∷ [])) 2 14
-    ∷ refusal (pointed ("points=2" ∷ "delay=7" ∷ "allow=3" ∷ "allow=3" ∷ [])) 1 14
+    ∷ refusal (pointed ("points=2" ∷ "delay=7" ∷ "allow=3" ∷ "delay=1000001" ∷ [])) 3 15
+    ∷ refusal (pointed ("points=2" ∷ "delay=7" ∷ "allow=3" ∷ "delay=8" ∷ "allow=1000001" ∷ [])) 3 16
+    ∷ refusal (pointed ("points=2" ∷ "delay=7" ∷ "allow=3" ∷ "delay=07" ∷ [])) 2 15
+    ∷ refusal (pointed ("points=2" ∷ "delay=7" ∷ "allow=3" ∷ "allow=3" ∷ [])) 1 15
     -- both sides of the limits of a delay, of an allow and of the points
     ∷ plan (pointed ("points=1" ∷ "delay=1000000" ∷ "allow=1000000" ∷ [])) (pointed_plan "margin=999997000")
-    ∷ refusal (pointed ("points=1" ∷ "delay=1000001" ∷ "allow=3" ∷ [])) 3 12
-    ∷ refusal (pointed ("points=1" ∷ "delay=7" ∷ "allow=1000001" ∷ [])) 3 13
+    ∷ refusal (pointed ("points=1" ∷ "delay=1000001" ∷ "allow=3" ∷ [])) 3 13
+    ∷ refusal (pointed ("points=1" ∷ "delay=7" ∷ "allow=1000001" ∷ [])) 3 14
     ∷ plan
     (pointed ("points=8" ∷ "delay=0" ∷ "allow=9" ∷ "delay=1" ∷ "allow=9" ∷ "delay=2" ∷ "allow=8" ∷ "delay=3" ∷ "allow=8"
     ∷ "delay=4" ∷ "allow=7" ∷ "delay=5" ∷ "allow=6" ∷ "delay=6" ∷ "allow=5" ∷ "delay=7" ∷ "allow=4" ∷ []))
     (pointed_plan "margin=1000")
-    ∷ refusal (pointed ("points=9" ∷ [])) 3 11
+    ∷ refusal (pointed ("points=9" ∷ [])) 3 12
     -- as many pairs as the points say, and the line of the points itself
-    ∷ refusal (pointed ("points=1" ∷ "delay=7" ∷ "allow=3" ∷ "delay=8" ∷ "allow=3" ∷ [])) 1 14
-    ∷ refusal (pointed ("points=2" ∷ "delay=7" ∷ "allow=3" ∷ [])) 1 14
-    ∷ refusal (pointed []) 1 11
+    ∷ refusal (pointed ("points=1" ∷ "delay=7" ∷ "allow=3" ∷ "delay=8" ∷ "allow=3" ∷ [])) 1 15
+    ∷ refusal (pointed ("points=2" ∷ "delay=7" ∷ "allow=3" ∷ [])) 1 15
+    ∷ refusal (pointed []) 1 12
+    ∷ []
+
+-- ---- deadlines
+-- two tasks of which the lower is done after its next release, with its deadline; as a table, with the line of that
+abbrev pub row21 : Row
+row21 = row 21 70 70 26 26 1000 26000 0 0
+
+abbrev pub row22 : ℕ → Row
+row22 deadline = row 22 100 deadline 62 40 1000 1000000 0 0
+
+abbrev pub overrun : String → List ℕ
+overrun deadline = lined (
+    "board=7" ∷ "tasks=2" ∷ "switch=0"
+    ∷ "task=21" ∷ "period=70" ∷ "deadline=70" ∷ "worst=26" ∷ "best=26" ∷ "alpha=1000" ∷ "beta=26000" ∷ "hold=0" ∷ "points=0"
+    ∷ "task=22" ∷ "period=100" ∷ deadline ∷ "worst=62" ∷ "best=40" ∷ "alpha=1000" ∷ "beta=1000000" ∷ "hold=0" ∷ "points=0"
+    ∷ [])
+
+abbrev pub overrun_plan : List ℕ
+overrun_plan = lined (
+    "plan=1" ∷ "board=7" ∷ "tasks=2"
+    ∷ "rank=1" ∷ "task=21" ∷ "best=26" ∷ "worst=26" ∷ "jitter=0" ∷ "margin=0"
+    ∷ "rank=2" ∷ "task=22" ∷ "best=40" ∷ "worst=118" ∷ "jitter=78" ∷ "margin=882000"
+    ∷ [])
+
+-- one task that needs 10 ticks of each 10, with the lines between its number and its worst
+abbrev pub due_alone : List String → List ℕ
+due_alone lines =
+    lined ("board=7" ∷ "tasks=1" ∷ "switch=0" ∷ "task=1" ∷ [])
+    ++ lined lines
+    ++ lined ("worst=10" ∷ "best=10" ∷ "alpha=1000" ∷ "beta=10000" ∷ "hold=0" ∷ "points=0" ∷ [])
+
+abbrev pub alone_plan : List ℕ
+alone_plan = lined (
+    "plan=1" ∷ "board=7" ∷ "tasks=1" ∷ "rank=1" ∷ "task=1" ∷ "best=10" ∷ "worst=10" ∷ "jitter=0" ∷ "margin=0" ∷ [])
+
+abbrev pub of_deadlines : List Case
+of_deadlines =
+    -- the responses of the seven jobs are 114, 102, 116, 104, 118, 106 and 94: W is that of the fifth, within a deadline
+    -- of 118 or more, past one of 117
+    figures (row22 118) (row21 ∷ []) 40 118 78 (pos 882000)
+    ∷ figures (row22 1000000) (row21 ∷ []) 40 118 78 (pos 882000)
+    ∷ late (row22 117) (row21 ∷ [])
+    ∷ late (row22 100) (row21 ∷ [])
+    -- blocked once and not once for each job: over a hold of 5 each job is 4 ticks later
+    ∷ between (row22 1000000) (row21 ∷ []) (holding13 5 ∷ []) 40 122 82 (pos 878000)
+    -- each job of its own takes the switch, and each above
+    ∷ figures (with_switch 1 (row 22 100 1000000 60 40 1000 1000000 0 0)) (with_switch 1 (row 21 70 70 25 25 1000 26000 0 0) ∷ [])
+    40 113 73 (pos 887000)
+    -- a deadline below the period, and below worst; the others' do not count
+    ∷ figures (row22 62) [] 40 62 22 (pos 938000)
+    ∷ late (row22 61) []
+    ∷ late (row22 1) []
+    ∷ figures (row22 118) (with_deadline 1 row21 ∷ []) 40 118 78 (pos 882000)
+    -- texts: with a deadline of 118 there is an order, with 117 and with the period there is none
+    ∷ plan (overrun "deadline=118") overrun_plan
+    ∷ refusal (overrun "deadline=117") 8 0
+    ∷ refusal (overrun "deadline=100") 8 0
+    ∷ reviewer (overrun "deadline=118" ++ lined ("rank=21" ∷ "rank=22" ∷ [])) overrun_plan
+    ∷ reviewer (overrun "deadline=117" ++ lined ("rank=21" ∷ "rank=22" ∷ [])) (refused_at "refusal=7" "line=2")
+    -- the line: both sides of its limits, no number, missing, doubled, before its place and behind it
+    ∷ plan (due_alone ("period=10" ∷ "deadline=10" ∷ [])) alone_plan
+    ∷ plan (due_alone ("period=10" ∷ "deadline=1000000" ∷ [])) alone_plan
+    ∷ refusal (due_alone ("period=10" ∷ "deadline=9" ∷ [])) 8 0
+    ∷ refusal (due_alone ("period=10" ∷ "deadline=1" ∷ [])) 8 0
+    ∷ refusal (due_alone ("period=10" ∷ "deadline=0" ∷ [])) 3 6
+    ∷ refusal (due_alone ("period=10" ∷ "deadline=1000001" ∷ [])) 3 6
+    ∷ refusal (due_alone ("period=10" ∷ "deadline=" ∷ [])) 2 6
+    ∷ refusal (due_alone ("period=10" ∷ [])) 1 6
+    ∷ refusal (due_alone ("period=10" ∷ "deadline=10" ∷ "deadline=10" ∷ [])) 1 7
+    ∷ refusal (due_alone ("deadline=10" ∷ "period=10" ∷ [])) 1 5
     ∷ []

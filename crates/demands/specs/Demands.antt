@@ -8,8 +8,8 @@ use Rattle.rows.specs.Rows.{tasks_of, rows_for, row_at}
 use Rattle.rows.specs.Rows.{Row}
 use Rattle.tables.specs.Claims.{Tells, Fails, table_refusals, ranked_refusals, Read}
 use Rattle.responses.specs.Figures.{rows_above, rows_below, is_late}
-use Rattle.responses.specs.Claims.{Figured, ByCondition, CurveCounts, ByNumbers, AsRequest2, AsDocument01, NoSwitch}
-use Rattle.responses.specs.Claims.{NoneHolds, SwitchUpTo, Grows}
+use Rattle.responses.specs.Claims.{Figured, Ends, ByCondition, CurveCounts, ByNumbers, DeadlineCounts}
+use Rattle.responses.specs.Claims.{AsRequest4, AsRequest2, AsDocument01, NoSwitch, NoneHolds, SwitchUpTo, Grows}
 use Rattle.orders.specs.Orders.{Possible, position_in, positions_up, not_after, Chosen}
 use Rattle.orders.specs.Stability.{stable, order_stable}
 use Rattle.boards.specs.Claims.{LastsInRange, Kept, NoneLate}
@@ -33,6 +33,8 @@ pub record Promised (order : List Row) : Type 0 where
   pub entry_is :
       (i : ℕ) → i < length order → entry_at order i ≡ entry (row_at order i) (rows_above order i) (rows_below order i)
   pub by_formulas : (i : ℕ) → i < length order → Figured (row_at order i) (rows_above order i) (rows_below order i)
+  -- its busy interval always ends
+  pub ends : (i : ℕ) → i < length order → Ends (row_at order i) (rows_above order i) (rows_below order i)
   -- the margin is that of its row's stability condition, its curve or with no points its line, and of no other row's
   pub by_condition : (i : ℕ) → i < length order → ByCondition (row_at order i) (rows_above order i) (rows_below order i)
   pub own_curve : (i : ℕ) → i < length order → CurveCounts (row_at order i) (rows_above order i) (rows_below order i)
@@ -41,14 +43,21 @@ pub record Promised (order : List Row) : Type 0 where
       (i : ℕ) (above' below' : List Row) → i < length order
       → Perm (rows_above order i) above' → Perm (rows_below order i) below'
       → entry_at order i ≡ entry (row_at order i) above' below'
-  -- with the switch beside each `worst` and nowhere else; with a switch of 0 those before it, and with every hold 0 or 1
-  -- too, those of document 01
+  -- a deadline counts for its own row alone, and a longer one changes no figure
+  pub own_deadline :
+      (i d : ℕ) → i < length order → DeadlineCounts (row_at order i) (rows_above order i) (rows_below order i) d
+  -- with the switch beside each `worst` and nowhere else; with the period as deadline those of request 4, with a switch
+  -- of 0 too those before it, and with every hold 0 or 1 too, those of document 01
   pub by_numbers : (i : ℕ) → i < length order → ByNumbers (row_at order i) (rows_above order i) (rows_below order i)
+  pub within_period :
+      (i : ℕ) → i < length order → (row_at order i).deadline ≡ (row_at order i).period
+      → AsRequest4 (row_at order i) (rows_above order i) (rows_below order i)
   pub without_switch :
-      NoSwitch order → (i : ℕ) → i < length order
+      NoSwitch order → (i : ℕ) → i < length order → (row_at order i).deadline ≡ (row_at order i).period
       → AsRequest2 (row_at order i) (rows_above order i) (rows_below order i)
   pub without_either :
       NoSwitch order → NoneHolds order → (i : ℕ) → i < length order
+      → (row_at order i).deadline ≡ (row_at order i).period
       → AsDocument01 (row_at order i) (rows_above order i) (rows_below order i)
   -- under a greater switch no `worst` line of the same order falls and no `best` line changes, and what is stable there
   -- is stable here

@@ -6,7 +6,7 @@ use Prim.Native.String.{String}
 use Rattle.text.specs.Text.{bytes, lined, decimal, key_line}
 use Rattle.rows.specs.Rows.{max_task, max_ticks, min_alpha, max_beta, min_hold, min_switch, max_switch, max_tasks, max_buffer}
 use Rattle.curves.specs.Curves.{Point, point}
-use Rattle.rows.specs.Rows.{row, row_with, with_switch, with_curve, in_range}
+use Rattle.rows.specs.Rows.{row, row_with, row_at, with_switch, with_curve, in_range}
 use Rattle.rows.specs.Rows.{Row}
 use Rattle.rows.specs.Numbers.{field_count, rows_of, row_in}
 use Rattle.boards.specs.Claims.{NoneLate}
@@ -16,7 +16,7 @@ use Rattle.responses.specs.Claims.{switched}
 use Rattle.plans.specs.Entries.{entry, entries}
 use Rattle.plans.specs.Plans.{rank_text, head_text, plan_text, head_room, rank_room, plan_room}
 use Rattle.plans.specs.Outcomes.{writes, refuses}
-use Rattle.demands.specs.Cases.{row11, row12, row13, table_under, table, pointed}
+use Rattle.demands.specs.Cases.{row11, row12, row13, table_under, table, pointed, row21, row22, overrun}
 use Rattle.tables.specs.TableLines.{max_board}
 use Rattle.tables.specs.Claims.{Tells, Fails}
 use Rattle.demands.specs.Demands.{EveryOrderFails, ByRule, PlanDemands}
@@ -39,12 +39,12 @@ late_order = row11 8000 ∷ row13 57000 ∷ row12 8000 ∷ []
 abbrev pub late_text : List ℕ
 late_text = example ++ lined ("rank=11" ∷ "rank=13" ∷ "rank=12" ∷ [])
 
--- a text that is no table; a table of two tasks up to its first period, and more lines
+-- a text that is no table; a table of two tasks up to its first deadline, and more lines
 abbrev pub malformed : List ℕ
 malformed = lined ("board=07" ∷ [])
 
 abbrev pub two_tasks : List String → List ℕ
-two_tasks more = lined ("board=7" ∷ "tasks=2" ∷ "switch=0" ∷ "task=1" ∷ "period=10" ∷ more)
+two_tasks more = lined ("board=7" ∷ "tasks=2" ∷ "switch=0" ∷ "task=1" ∷ "period=10" ∷ "deadline=10" ∷ more)
 
 -- a task more than a table can have
 abbrev pub too_many : List ℕ
@@ -52,7 +52,7 @@ too_many = lined ("board=7" ∷ []) ++ key_line (bytes "tasks=") (decimal (suc m
 
 -- tasks that take a tenth of the longest period each; as many as a table can have, as text too
 abbrev pub tenth : ℕ → Row
-tenth task = row task max_ticks (max_ticks / 10) (max_ticks / 10) min_alpha max_beta min_hold min_switch
+tenth task = row task max_ticks max_ticks (max_ticks / 10) (max_ticks / 10) min_alpha max_beta min_hold min_switch
 
 abbrev pub tenths : ℕ → List Row
 tenths zero = []
@@ -63,7 +63,7 @@ tenth_lines zero = []
 tenth_lines (suc k) =
     key_line (bytes "task=") (decimal (suc k))
     ++ lined (
-    "period=1000000" ∷ "worst=100000" ∷ "best=100000" ∷ "alpha=1000" ∷ "beta=200000000000" ∷ "hold=0" ∷ "points=0" ∷ [])
+    "period=1000000" ∷ "deadline=1000000" ∷ "worst=100000" ∷ "best=100000" ∷ "alpha=1000" ∷ "beta=200000000000" ∷ "hold=0" ∷ "points=0" ∷ [])
     ++ tenth_lines k
 
 abbrev pub most_text : List ℕ
@@ -86,19 +86,19 @@ abbrev pub curved_text : List ℕ
 curved_text = pointed ("points=1" ∷ "delay=7" ∷ "allow=3" ∷ [])
 
 abbrev pub curved_rows : List Row
-curved_rows = row_with (point 7 3 ∷ []) 1 10 10 7 1000 9999 0 0 ∷ []
+curved_rows = row_with (point 7 3 ∷ []) 1 10 10 10 7 1000 9999 0 0 ∷ []
 
 -- two rows as numbers: one with a point of the eight that there is room for, and one with none under a switch
 abbrev pub lent_numbers : List ℕ
 lent_numbers =
-    1 ∷ 10 ∷ 10 ∷ 7 ∷ 1000 ∷ 9999 ∷ 0 ∷ 1
+    1 ∷ 10 ∷ 10 ∷ 10 ∷ 7 ∷ 1000 ∷ 9999 ∷ 0 ∷ 1
     ∷ 7 ∷ 3 ∷ 0 ∷ 0 ∷ 0 ∷ 0 ∷ 0 ∷ 0 ∷ 0 ∷ 0 ∷ 0 ∷ 0 ∷ 0 ∷ 0 ∷ 0 ∷ 0 ∷ 0
-    ∷ 2 ∷ 20 ∷ 5 ∷ 4 ∷ 1000 ∷ 9000 ∷ 3 ∷ 0
+    ∷ 2 ∷ 20 ∷ 25 ∷ 5 ∷ 4 ∷ 1000 ∷ 9000 ∷ 3 ∷ 0
     ∷ 0 ∷ 0 ∷ 0 ∷ 0 ∷ 0 ∷ 0 ∷ 0 ∷ 0 ∷ 0 ∷ 0 ∷ 0 ∷ 0 ∷ 0 ∷ 0 ∷ 0 ∷ 0 ∷ 6
     ∷ []
 
 abbrev pub lent_rows : List Row
-lent_rows = curved_rows ++ (row 2 20 5 4 1000 9000 3 6 ∷ [])
+lent_rows = curved_rows ++ (row 2 20 25 5 4 1000 9000 3 6 ∷ [])
 
 -- n points, each a tick behind the one before it
 abbrev pub falling_from : ℕ → List Point
@@ -106,23 +106,23 @@ falling_from zero = []
 falling_from (suc n) = point (10 - n) n ∷ falling_from n
 
 abbrev pub with_points : List Point → Row
-with_points c = row_with c 1 10 7 7 1000 0 7 3
+with_points c = row_with c 1 10 10 7 7 1000 0 7 3
 
 pub record Met : Type 0 where
   -- refusals 1 to 6 and 11, each at its line
   pub missing : Fails false [] 1 1
-  pub trailing : Fails false (example ++ bytes "x") 1 28
+  pub trailing : Fails false (example ++ bytes "x") 1 31
   pub no_number : Fails false malformed 2 1
   pub out_of_range : Fails false too_many 3 2
-  pub exceeding : Fails false (two_tasks ("worst=11" ∷ [])) 4 6
+  pub exceeding : Fails false (two_tasks ("worst=11" ∷ [])) 4 7
   pub repeated :
       Fails false (two_tasks (
-      "worst=10" ∷ "best=1" ∷ "alpha=1000" ∷ "beta=0" ∷ "hold=0" ∷ "points=0" ∷ "task=1" ∷ [])) 5 12
-  pub impossible : Fails true (example ++ lined ("rank=11" ∷ "rank=11" ∷ [])) 6 29
+      "worst=10" ∷ "best=1" ∷ "alpha=1000" ∷ "beta=0" ∷ "hold=0" ∷ "points=0" ∷ "task=1" ∷ [])) 5 13
+  pub impossible : Fails true (example ++ lined ("rank=11" ∷ "rank=11" ∷ [])) 6 32
   pub disorderly :
       Fails false (two_tasks (
       "worst=10" ∷ "best=1" ∷ "alpha=1000" ∷ "beta=0" ∷ "hold=0"
-      ∷ "points=2" ∷ "delay=5" ∷ "allow=0" ∷ "delay=5" ∷ [])) 11 14
+      ∷ "points=2" ∷ "delay=5" ∷ "allow=0" ∷ "delay=5" ∷ [])) 11 15
   -- a table with an order, in a room that is too short too, and one with none
   pub tells : Tells false example 7 example_rows []
   pub by_rule : ByRule example_rows example_order
@@ -142,12 +142,17 @@ pub record Met : Type 0 where
   pub beside_most : in_limits (tenth max_task) (tenths (max_tasks - 1)) [] ≡ true
   pub beside_more : in_limits (tenth max_task) (tenths max_tasks) [] ≡ false
   -- a row at its limits under a switch, and a tick past each; a switch at its limit, and past it
-  pub limits_met : in_range (row 1 10 7 7 1000 0 7 3) ≡ true
-  pub worst_past : in_range (row 1 10 8 7 1000 0 7 3) ≡ false
-  pub best_past : in_range (row 1 10 7 8 1000 0 7 3) ≡ false
-  pub hold_past : in_range (row 1 10 7 7 1000 0 8 3) ≡ false
-  pub switch_most : in_range (row 1 max_ticks 7 7 1000 0 7 max_switch) ≡ true
-  pub switch_past : in_range (row 1 max_ticks 7 7 1000 0 7 (suc max_switch)) ≡ false
+  pub limits_met : in_range (row 1 10 10 7 7 1000 0 7 3) ≡ true
+  pub worst_past : in_range (row 1 10 10 8 7 1000 0 7 3) ≡ false
+  pub best_past : in_range (row 1 10 10 7 8 1000 0 7 3) ≡ false
+  pub hold_past : in_range (row 1 10 10 7 7 1000 0 8 3) ≡ false
+  pub switch_most : in_range (row 1 max_ticks max_ticks 7 7 1000 0 7 max_switch) ≡ true
+  pub switch_past : in_range (row 1 max_ticks max_ticks 7 7 1000 0 7 (suc max_switch)) ≡ false
+  -- a deadline is free of the other times: at both limits it is in range, and a tick past each it is not
+  pub deadline_least : in_range (row 1 10 1 7 7 1000 0 7 3) ≡ true
+  pub deadline_most : in_range (row 1 10 1000000 7 7 1000 0 7 3) ≡ true
+  pub deadline_none : in_range (row 1 10 0 7 7 1000 0 7 3) ≡ false
+  pub deadline_past : in_range (row 1 10 1000001 7 7 1000 0 7 3) ≡ false
   -- a curve at its limits, and past each: a delay not above the one before it, an allow above the one before it, a delay
   -- and an allow past the limit, a point too many
   pub curve_met : in_range (with_points (point 0 1000000 ∷ point 1 1000000 ∷ point 1000000 0 ∷ [])) ≡ true
@@ -161,7 +166,13 @@ pub record Met : Type 0 where
   pub tells_curved : Tells false curved_text 7 curved_rows []
   pub by_rule_curved : ByRule curved_rows curved_rows
   pub line_fails : EveryOrderFails (map (with_curve []) curved_rows)
-  -- rows as they are lent, with their curve and their switch
+  -- a table with a task that overruns its period, with an order that it does not have with its period as deadline; and a
+  -- deadline that is the period
+  pub tells_overrun : Tells false (overrun "deadline=118") 7 (row21 ∷ row22 118 ∷ []) []
+  pub by_rule_overrun : ByRule (row21 ∷ row22 118 ∷ []) (row21 ∷ row22 118 ∷ [])
+  pub period_fails : EveryOrderFails (row21 ∷ row22 100 ∷ [])
+  pub due_at_period : (row_at example_order 2).deadline ≡ (row_at example_order 2).period
+  -- rows as they are lent, with their deadline, their curve and their switch
   pub lent_whole : length lent_numbers ≡ field_count * 2
   pub lent_as_rows : rows_of 2 lent_numbers ≡ lent_rows
   pub lent_second : row_in lent_numbers 1 ∷ [] ≡ drop 1 lent_rows

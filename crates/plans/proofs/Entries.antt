@@ -172,12 +172,11 @@ pub entry_limits : (r : Row) (above below : List Row) → in_range r ≡ true �
 entry_limits r above below hr ha l =
     let limit = limits r hr in
     let f = figured r above below (in_range_times r hr) (all_times above ha) in
-    let w = f.latest_fixed l in
     let some : min_ticks ≤ earliest r above below = elim (le-or-lt 2 r.hold) [
       | inl h ↦ omega (arith, f.earliest_held h, limit.best.low_le)
       | inr h ↦ (f.earliest_fixed (omega arith) l).1
     ] in
-    let most : latest r above below ≤ max_ticks = omega (arith, w.2, limit.period.le_high) in
+    let most : latest r above below ≤ max_ticks = omega (arith, (f.latest_is l).2, limit.deadline.le_high) in
     let steep = mul-le-mul {n₁ = r.alpha} {m₁ = jitter r above below} {n₂ = max_alpha} {m₂ = jitter r above below}
     limit.alpha.le_high (omega arith) in
     record {

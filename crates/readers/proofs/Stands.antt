@@ -329,7 +329,10 @@ key_long =
                   omega arith,
                   (
                     omega arith,
-                    (omega arith, (omega arith, each_point F (λ at. omega arith) (λ at. omega arith) first_point_at 7)),
+                    (
+                      omega arith,
+                      (omega arith, (omega arith, each_point F (λ at. omega arith) (λ at. omega arith) first_point_at 7)),
+                    ),
                   ),
                 ),
               ),

@@ -18,17 +18,17 @@ mod progress;
 // Room for the numbers of the longest table with its ranks.
 pub const MOST_NUMBERS: usize = HEAD + FIELDS * MAX_TASKS + MAX_TASKS;
 
-// A row's lines have at least so many bytes: eight lines of seven.
-const ROW_BYTES: usize = 56;
+// A row's lines have at least so many bytes: nine lines of seven.
+const ROW_BYTES: usize = 63;
 
 // How many numbers are room enough for the table of a short text, and of longer ones.
 pub const FEW_NUMBERS: usize = 64;
 
-pub const SOME_NUMBERS: usize = 96;
+pub const SOME_NUMBERS: usize = 100;
 
-pub const MORE_NUMBERS: usize = 216;
+pub const MORE_NUMBERS: usize = 232;
 
-pub const MANY_NUMBERS: usize = 320;
+pub const MANY_NUMBERS: usize = 344;
 
 // Whether a text is so short that some numbers are room enough for its table's.
 pub fn fits_in(text: &[u8], numbers: usize) -> bool

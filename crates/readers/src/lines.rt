@@ -14,8 +14,8 @@ ghost use Rattle.readers.specs.inside.Stands.{is_end, row_line_tested, line_here
 use super::progress::{Part, Stand};
 use super::{HEAD, HEAD_SWITCH, Table};
 use rows::{
-    ALPHA, BEST, BETA, FIELDS, FIRST_POINT, HOLD, MAX_TASKS, PERIOD, POINTS, Row, TASK, WORST,
-    has_task, is_among,
+    ALPHA, BEST, BETA, DEADLINE, FIELDS, FIRST_POINT, HOLD, MAX_TASKS, PERIOD, POINTS, Row, TASK,
+    WORST, has_task, is_among,
 };
 use text::{Cursor, Fault, LineRefusal, Number, line_at};
 
@@ -101,6 +101,7 @@ fn row_line(at: Cursor, stand: Stand, numbers: &[u64]) -> Result<Number, LineRef
             refused => refused,
         },
         PERIOD => line_at(at, b"period=", Row::TICKS_MIN, Row::TICKS_MAX),
+        DEADLINE => line_at(at, b"deadline=", Row::TICKS_MIN, Row::TICKS_MAX),
         WORST => match line_at(at, b"worst=", Row::TICKS_MIN, Row::TICKS_MAX) {
             Ok(worst) => {
                 let fits = Row::fits(worst.value, numbers[HEAD_SWITCH], numbers[start + PERIOD]);

@@ -1,6 +1,6 @@
--- Where no job may hold the processor past a tick and a switch costs nothing, the figures are those of document 03,
--- whose definitions stand here as they stand there: a job takes at most the row's worst, and the rows below delay
--- nobody.
+-- Where no job may hold the processor past a tick, a switch costs nothing and the deadline is the period, the figures
+-- are those of document 03, whose definitions stand here as they stand there: a job takes at most the row's worst, the
+-- rows below delay nobody, and no job is done past the next release.
 use mathlib.Core.Path.{◌≡◌, refl, ap, ap₂, sym, ◌∙◌}
 use mathlib.Core.Bool.{Bool, true, false, ◌&&◌, not, cond}
 use mathlib.Core.Logic.{inl, inr}
@@ -147,13 +147,13 @@ less_is a b = elim (test_of (leb b a)) [
 
 -- ---- figures of rows whose times are in range
 module _ (t : Row) (rs below : List Row) (own : t.hold ≤ 1) (none : NoneHolds below) (free : t.switch ≡ 0)
-    (others : NoSwitch rs) (ht : times_in_range t ≡ true) (hr : all_rows times_in_range rs ≡ true) where
+    (others : NoSwitch rs) (due : t.deadline ≡ t.period) (ht : times_in_range t ≡ true) (hr : all_rows times_in_range rs ≡ true) where
   pub latest_is : latest t rs ≡ F.latest t rs below
   latest_is =
       let l = times t ht in
       let some : 1 ≤ t.worst = omega (arith, l.best_some, l.best_cost, cost_is t, free) in
       raised t rs (suc t.period) t.worst some (omega arith) (λ v a e b. omega arith) (omega arith)
-      ∙ sym (without_either t rs below free others own none).latest_then
+      ∙ sym (without_either t rs below ht due free others own none).latest_then
 
   from_latest : (w : ℕ) → w ≡ F.latest t rs below → earliest_from w t rs w ≡ largest_fixed t.best w (map best_load rs)
   unfolding largest
@@ -167,7 +167,7 @@ module _ (t : Row) (rs below : List Row) (own : t.hold ≤ 1) (none : NoneHolds 
   pub earliest_is : earliest t rs ≡ F.earliest t rs below
   earliest_is = from_latest (latest t rs) latest_is
       ∙ ap (λ (w : ℕ). largest_fixed t.best w (map best_load rs)) latest_is
-      ∙ sym (without_either t rs below free others own none).earliest_then
+      ∙ sym (without_either t rs below ht due free others own none).earliest_then
 
   spent_is : cost t rs ≡ 1000 * F.earliest t rs below + t.alpha * F.jitter t rs below
   spent_is = ap₂ (λ (w e : ℕ). 1000 * e + t.alpha * (w - e)) latest_is earliest_is
@@ -208,12 +208,12 @@ said true l true w w' e e' m m' s h = let g = h refl in rw g.0 refl
 said true l false w w' e e' m m' s h = let g = h refl in rw (g.0, g.1, g.2, g.3, g.4) refl
 
 pub figures_say : (t : Row) (rs below : List Row) → t.hold ≤ 1 → NoneHolds below → t.switch ≡ 0 → NoSwitch rs
-    → length t.curve ≡ 0 → FiguresSay t rs below (F.figures_of t rs below)
-figures_say t rs below own none free others bare =
+    → t.deadline ≡ t.period → length t.curve ≡ 0 → FiguresSay t rs below (F.figures_of t rs below)
+figures_say t rs below own none free others due bare =
     said (F.in_limits t rs below) (is_late t rs) (F.is_late t rs below) (latest t rs) (F.latest t rs below)
     (earliest t rs) (F.earliest t rs below) (margin t rs) (F.margin t rs below) (is_stable t rs) (λ ok.
     let h = limits_times t rs below ok in
-    let w = latest_is t rs below own none free others h.0 h.1 in
-    let e = earliest_is t rs below own none free others h.0 h.1 in
-    let m = margin_is t rs below own none free others h.0 h.1 bare in
-    (ap (λ (x : ℕ). eqb x 0) w, w, e, m, stable_is t rs below own none free others h.0 h.1 bare))
+    let w = latest_is t rs below own none free others due h.0 h.1 in
+    let e = earliest_is t rs below own none free others due h.0 h.1 in
+    let m = margin_is t rs below own none free others due h.0 h.1 bare in
+    (ap (λ (x : ℕ). eqb x 0) w, w, e, m, stable_is t rs below own none free others due h.0 h.1 bare))

@@ -1,5 +1,5 @@
--- The responses of a task between the rows above and below it. W is fixed within the period. At W the best jobs take at
--- most what the worst take, so E exists and is at most W, by its formula as much as the best time. Demand 2 follows.
+-- The responses of a task between the rows above and below it. W is at or past w(0), where the best jobs take at most
+-- what the worst take, so E exists and is at most W, by its formula as much as the best time. Demand 2 follows.
 use mathlib.Core.Path.{◌≡◌, ap, ap₂, sym, ◌∙◌}
 use mathlib.Core.Bool.{Bool, true, false, ◌&&◌}
 use mathlib.Core.List.{List, map}
@@ -10,27 +10,32 @@ use mathlib.Core.Logic.{inl, inr}
 use lib.Dec.{leb}
 use lib.IntN.{ℤ}
 use lib.ListN.{length}
-use Rattle.rows.specs.Rows.{cost, times_in_range, in_range, all_rows}
+use Rattle.rows.specs.Rows.{max_ticks, cost, times_in_range, in_range, all_rows}
 use Rattle.rows.specs.Rows.{Row}
 use Rattle.basics.specs.Basics.{pick}
 use Rattle.basics.proofs.Tests.{test_of, and_left, and_right, le-or-lt}
 use Rattle.rows.proofs.Limits.{times, in_range_times, all_times}
-use Rattle.responses.specs.Interference.{least_fixed, largest_fixed}
+use Rattle.responses.specs.Interference.{ceiling, least_fixed, largest_fixed}
 use Rattle.std.specs.Prelude.{Ok, Err}
-use Rattle.responses.specs.Figures.{worst_load, best_load, worst_in, best_in, blocking, latest, is_late, earliest}
+use Rattle.responses.specs.Figures.{best_load, best_in, blocking, finish_of, latest, is_late, earliest}
 use Rattle.responses.specs.Figures.{Answered, is_stable, margin_at, margin, late_figures, figures_at, figures_under}
 use Rattle.responses.specs.Figures.{least_hold, may_hold, max_others, in_limits}
 use Rattle.responses.specs.Claims.{Figured, plain_load, WithoutEither, Demand-2}
 use Rattle.responses.proofs.Sums.{rounds_up}
 use Rattle.responses.proofs.Conditions.{by_condition, own_curve}
 use Rattle.responses.proofs.Blocking.{blocks, no_blocking}
-use Rattle.responses.proofs.Switches.{best_in_worst, by_numbers, without_switch, switch_grows}
-use Rattle.responses.proofs.FixedPoints.{least_fixed_lem, least_least, largest_fixed_lem, largest_above}
+use Rattle.responses.proofs.Switches.{by_numbers, without_switch, switch_grows}
+use Rattle.responses.proofs.FixedPoints.{largest_fixed_lem, largest_above}
+use Rattle.responses.proofs.Windows.{best_fits}
+use Rattle.responses.proofs.Finishes.{finish_fixed, finish_least, first-is, first_latest, latest_is, latest_max}
+use Rattle.responses.proofs.Finishes.{latest_if, late_is, late_past, late_not_found, not_late, is_timely}
+use Rattle.responses.proofs.Finishes.{ends, within_period}
+use Rattle.responses.proofs.Deadlines.{own_deadline}
 
 -- what is known of the responses of a task that is not late
 pub record Responses (t : Row) (above below : List Row) : Type 0 where
-  pub latest_is : latest t above below ≡ cost t + blocking below + worst_in (latest t above below) above
-  pub latest_period : latest t above below ≤ t.period
+  pub latest_deadline : latest t above below ≤ t.deadline
+  pub latest_max : latest t above below ≤ max_ticks
   pub best_fits : t.best + best_in (latest t above below) above ≤ latest t above below
   pub earliest_is : t.hold ≤ 1 → earliest t above below ≡ t.best + best_in (earliest t above below) above
   pub earliest_some : 1 ≤ earliest t above below
@@ -54,10 +59,10 @@ pub responses : (t : Row) (above below : List Row) → times_in_range t ≡ true
     → 1 ≤ latest t above below → Responses t above below
 responses t above below ht h k =
     let l = times t ht in
-    let w = least_fixed_lem (cost t + blocking below) t.period (map worst_load above) k in
-    let b = best_in_worst (latest t above below) above h in
-    let f : t.best + best_in (latest t above below) above ≤ latest t above below = omega
-    (arith, w.0, b, l.best_cost) in
+    let f : t.best + best_in (latest t above below) above ≤ latest t above below =
+    best_fits t.best (cost t + blocking below) (finish_of t above below 0) above h l.best_some
+    (omega (arith, l.best_cost)) (first-is t above below ht k) (latest t above below)
+    (first_latest t above below ht k) in
     let e = largest_fixed_lem t.best (latest t above below) (map best_load above) l.best_some f in
     let by_rank : t.hold ≤ 1 → earliest t above below ≡ formula t above below = earliest_formula t above below in
     let own = earliest_best t above below in
@@ -67,8 +72,8 @@ responses t above below ht h k =
       | inr s ↦ (omega (arith, own s, l.best_some), omega (arith, own s))
     ] in
     record {
-      latest_is = w.0;
-      latest_period = w.1;
+      latest_deadline = (latest_is t above below ht (is_timely t above below ht k)).2;
+      latest_max = latest_max t above below ht;
       best_fits = f;
       earliest_is = λ s. rw (by_rank s) e.0;
       earliest_some = within.0;
@@ -84,17 +89,17 @@ limits_times t above below h =
     let rest = and_right (in_range t) (r && few) h in
     (in_range_times t (and_left (in_range t) (r && few) h), all_times above (and_left r few rest))
 
-not_late : (t : Row) (above below : List Row) → is_late t above below ≡ false → 1 ≤ latest t above below
-not_late t above below h = let k = eqb-false (latest t above below) 0 h in omega arith
-
 pub figured : (t : Row) (above below : List Row) → times_in_range t ≡ true → all_rows times_in_range above ≡ true
     → Figured t above below
 figured t above below ht ha = record {
   blocked = blocks below;
-  latest_fixed = λ h. let k = in_time h in let r = known k in (r.latest_is, k, r.latest_period);
-  latest_least = λ w h e l.
-      let p = least_least (cost t + blocking below) t.period (map worst_load above) w h e l in
-      (ne_eqb (latest t above below) 0 (λ z. omega (arith, z, p.0)), p.1);
+  finish_fixed = finish_fixed t above below;
+  finish_least = finish_least t above below;
+  latest_is = latest_is t above below ht;
+  latest_if = latest_if t above below ht;
+  late_is = late_is t above below ht;
+  late_past = late_past t above below ht;
+  late_not_found = late_not_found t above below ht;
   earliest_fixed = λ s h. let r = known (in_time h) in (r.earliest_is s, r.earliest_some, r.earliest_latest);
   earliest_largest = λ e s h k l f.
       rw (earliest_formula t above below s) (largest_above t.best (latest t above below) (map best_load above) e f l);
@@ -103,17 +108,17 @@ figured t above below ht ha = record {
 }
   where
     in_time : is_late t above below ≡ false → 1 ≤ latest t above below
-    in_time = not_late t above below
+    in_time = not_late t above below ht
 
     known : 1 ≤ latest t above below → Responses t above below
     known = responses t above below ht ha
 
 -- ---- where neither a hold nor a switch counts
 pub without_either : WithoutEither
-without_either t above below unswitched others own none = record {
+without_either t above below ht same unswitched others own none = record {
   latest_then =
       let base : t.worst + blocking below ≡ t.worst = omega (arith, no_blocking below none) in
-      (without_switch t above below unswitched others).latest_then
+      (without_switch t above below ht same unswitched others).latest_then
       ∙ ap (λ (b : ℕ). least_fixed b t.period (map plain_load above)) base;
   earliest_then = earliest_formula t above below own;
 }
@@ -122,7 +127,10 @@ pub demand_2 : Demand-2
 demand_2 = record {
   rounds_up = rounds_up;
   figured = figured;
+  ends = λ t above below ht. ends t above below ht;
   by_numbers = by_numbers;
+  own_deadline = own_deadline;
+  within_period = within_period;
   without_switch = without_switch;
   without_either = without_either;
   switch_grows = switch_grows;

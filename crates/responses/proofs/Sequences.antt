@@ -1,5 +1,5 @@
 -- The figures depend on the rows above only through their interference, and on those below only through the blocking
--- time: so on which rows they are, and not on their sequence. W does not fall as interference grows.
+-- time: so on which rows they are, and not on their sequence.
 use mathlib.Core.Path.{◌≡◌, refl, ap, ap₂, sym, ◌∙◌, fun_ext}
 use mathlib.Core.Bool.{Bool, true, false, ◌&&◌, not, Bool-set}
 use lib.IntN.{pos}
@@ -14,16 +14,16 @@ use lib.Dec.{eqb, leb}
 use lib.ListN.{length}
 use Rattle.basics.specs.Basics.{pick, larger}
 use Rattle.basics.proofs.Numbers.{larger_swap}
-use Rattle.rows.specs.Rows.{cost, in_range, all_rows, row_at}
+use Rattle.rows.specs.Rows.{max_ticks, cost, in_range, all_rows, row_at}
 use Rattle.rows.specs.Rows.{Row}
 use Rattle.responses.specs.Extremes.{smallest, largest}
 use Rattle.responses.specs.declared.Load.{Load}
 use Rattle.responses.specs.Interference.{ceiling, interference}
-use Rattle.responses.specs.Figures.{worst_load, best_load, worst_in, best_in, blocking, latest, earliest}
+use Rattle.responses.specs.BusyIntervals.{latest_by}
+use Rattle.responses.specs.Figures.{worst_load, best_load, worst_in, best_in, blocking, finish_of, latest, earliest}
 use Rattle.responses.specs.Figures.{largest_hold, may_hold, rows_above, rows_below, margin_at, late_figures, no_figures}
 use Rattle.responses.specs.Figures.{Answered, figures_at, figures_under, max_others, in_limits, figures_of}
 use Rattle.responses.specs.Claims.{SameFigures, BySet, ByBlocking}
-use Rattle.responses.proofs.FixedPoints.{fixed_below, demand_mono, least_fixed_lem, least_least}
 
 -- the rows above a row, the row and the rows below it are the order
 pub order_joins : (order : List Row) (i : ℕ) → i < length order
@@ -39,10 +39,13 @@ pub record Same (xs ys bs cs : List Row) : Type 0 where
   pub blocking_same : blocking bs ≡ blocking cs
 
 module _ (t : Row) {xs ys bs cs : List Row} (s : Same xs ys bs cs) where
+  finish_same : finish_of t xs bs ≡ finish_of t ys cs
+  finish_same =
+      fun_ext (λ q. ap (λ (f : ℕ → Bool). smallest f max_ticks)
+      (fun_ext (λ x. ap₂ (λ (h k : ℕ). eqb x (suc q * cost t + h + k)) s.blocking_same (s.worst_same x))))
+
   pub latest-same : latest t xs bs ≡ latest t ys cs
-  latest-same =
-      ap (λ (f : ℕ → Bool). smallest f t.period)
-      (fun_ext (λ x. ap₂ (λ (h k : ℕ). eqb x (cost t + h + k)) s.blocking_same (s.worst_same x)))
+  latest-same = ap (λ (w : ℕ → ℕ). latest_by w t.period t.deadline) finish_same
 
   pub earliest_same : earliest t xs bs ≡ earliest t ys cs
   earliest_same =
@@ -135,17 +138,3 @@ pub figures_below : (t : Row) (above bs cs : List Row) → blocking bs ≡ block
     → in_limits t above bs ≡ in_limits t above cs → figures_of t above bs ≡ figures_of t above cs
 figures_below t above bs cs e limits =
     ap₂ (λ (b : Bool) (x : Answered). pick b x no_figures) limits (figures_same t (same_below above bs cs e))
-
--- ---- more interference: a task that is not late under ys is not late under xs, and W is no larger
-pub latest_mono : (t : Row) (xs ys below : List Row) → 1 ≤ cost t → ((x : ℕ) → worst_in x xs ≤ worst_in x ys)
-    → 1 ≤ latest t ys below → (1 ≤ latest t xs below) × (latest t xs below ≤ latest t ys below)
-latest_mono t xs ys below h le k =
-    let base = cost t + blocking below in
-    let w = least_fixed_lem base t.period (map worst_load ys) k in
-    let up = demand_mono 0 base (map worst_load xs) in
-    let fits : base + worst_in (latest t ys below) xs ≤ latest t ys below = omega
-    (arith, w.0, le (latest t ys below)) in
-    let f = fixed_below (λ x. base + worst_in x xs) up (λ x. omega arith) (latest t ys below) fits in
-    let least = least_least base t.period (map worst_load xs) in
-    let v = least f.point f.some f.is_fixed_lem (omega (arith, f.below, w.1)) in
-    (v.0, omega (arith, v.1, f.below))

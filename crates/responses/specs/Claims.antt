@@ -1,19 +1,23 @@
--- What is claimed of the figures: they are those of the published formulas (demand 2), the rows above and below count
--- as sets, those below by their blocking time alone; a task is stable by its own curve, or by its line where it has
--- none; the switch counts beside each `worst` and nowhere else, and W never falls when it grows; where it is 0 they are
--- those before it, and where no job may hold the processor past a tick either, document 01's.
-use Rattle.std.specs.Prelude.{◌≡◌, true, false, ℕ, ◌+◌, ◌*◌, ◌≤◌, ◌<◌, length, pos, ◌-ℤ◌}
+-- What is claimed of the figures: they are those of the published formulas (demand 2), W by equation 4 of document 002;
+-- the rows above and below count as sets, those below by their blocking time alone; a busy interval always ends; a task
+-- is stable by its own curve, or by its line where it has none; a deadline counts for its own task alone, and at or
+-- below the period W is that of one job; the switch counts beside each `worst` and nowhere else, and W never falls when
+-- it grows; where it is 0 they are those before it, and where no job may hold the processor past a tick either,
+-- document 01's.
+use Rattle.std.specs.Prelude.{◌≡◌, true, false, ◌⊎◌, ℕ, suc, ◌+◌, ◌-◌, ◌*◌, ◌≤◌, ◌<◌, eqb, length, pos, ◌-ℤ◌}
 use mathlib.Core.List.{List, [], map, Perm}
 use Rattle.basics.specs.Basics.{pick}
 use Rattle.curves.specs.Curves.{whole, permitted, last_delay, curve_margin}
 use Rattle.curves.specs.Claims.{AtMost, Permits, Margined}
-use Rattle.rows.specs.Rows.{cost, row_at, with_switch, with_curve, OneSwitch, in_range, times_in_range, all_rows}
+use Rattle.rows.specs.Rows.{max_ticks, cost, row_at, with_deadline, with_switch, with_curve, OneSwitch}
+use Rattle.rows.specs.Rows.{in_range, times_in_range, all_rows}
 use Rattle.rows.specs.Rows.{Row}
 use Rattle.rows.specs.Numbers.{field_count, rows_of, row_in}
 use Rattle.responses.specs.declared.Load.{Load}
 use Rattle.responses.specs.Interference.{load, ceiling, least_fixed, largest_fixed}
-use Rattle.responses.specs.Figures.{rows_above, rows_below}
-use Rattle.responses.specs.Figures.{worst_in, best_in, blocking, latest, is_late}
+use Rattle.responses.specs.BusyIntervals.{jobs_in, latest_by}
+use Rattle.responses.specs.Figures.{rows_above, rows_below, worst_load, best_load}
+use Rattle.responses.specs.Figures.{worst_in, best_in, blocking, finish_of, latest, is_late}
 use Rattle.responses.specs.Figures.{may_hold, earliest, jitter}
 use Rattle.responses.specs.Figures.{margin, is_stable, in_limits, Answered, no_figures, figures_of}
 
@@ -28,18 +32,49 @@ pub record Blocks (rows : List Row) (b : ℕ) : Type 0 where
   pub covers : (i : ℕ) → i < length rows → (row_at rows i).hold ≤ b + 1
   pub reached : 1 ≤ b → (i : ℕ) × (i < length rows) × ((row_at rows i).hold ≡ b + 1)
 
+-- ---- W by equation 4, where the first q + 1 jobs are done in w q ticks
+-- the busy interval has the jobs from 0 to the last, which is the first that is done when the next is released; each has
+-- its w, and W is the longest of their responses
+pub record Equation4 (w : ℕ → ℕ) (period W last : ℕ) : Type 0 where
+  pub found : (q : ℕ) → q ≤ last → 1 ≤ w q
+  pub goes_on : (q : ℕ) → q < last → suc q * period < w q
+  pub ends : w last ≤ suc last * period
+  pub reached : (q : ℕ) × (q ≤ last) × (w q ≡ W + q * period)
+  pub none_longer : (q : ℕ) → q ≤ last → w q ≤ W + q * period
+
+-- a job of it has no w: the interval goes on to job q, and that is not found
+pub record NotFound (w : ℕ → ℕ) (period q : ℕ) : Type 0 where
+  pub goes_on : (j : ℕ) → j < q → suc j * period < w j
+  pub none : w q ≡ 0
+
 -- the figures of a task are those of the formulas
 pub record Figured (t : Row) (above below : List Row) : Type 0 where
   -- the rows below block it for the largest hold among them less 1, or not at all
   pub blocked : Blocks below (blocking below)
-  -- W solves its equation within the period, and is the least that does; a task with no such W is late
-  pub latest_fixed :
+  -- each w(q) solves its equation up to 1,000,000, and is the least that does; 0 where there is none
+  pub finish_fixed :
+      (q : ℕ) → let w = finish_of t above below q in
+      1 ≤ w → (w ≡ suc q * cost t + blocking below + worst_in w above) × (w ≤ max_ticks)
+  pub finish_least :
+      (q w : ℕ) → 1 ≤ w → w ≡ suc q * cost t + blocking below + worst_in w above → w ≤ max_ticks
+      → (1 ≤ finish_of t above below q) × (finish_of t above below q ≤ w)
+  -- a task that is not late has its W by equation 4, within its deadline; and one that has such a W is not late
+  pub latest_is :
       is_late t above below ≡ false
-      → let w = latest t above below in
-      (w ≡ cost t + blocking below + worst_in w above) × (1 ≤ w) × (w ≤ t.period)
-  pub latest_least :
-      (w : ℕ) → 1 ≤ w → w ≡ cost t + blocking below + worst_in w above → w ≤ t.period
-      → (is_late t above below ≡ false) × (latest t above below ≤ w)
+      → (last : ℕ) × Equation4 (finish_of t above below) t.period (latest t above below) last
+      × (latest t above below ≤ t.deadline)
+  pub latest_if :
+      (W last : ℕ) → Equation4 (finish_of t above below) t.period W last → W ≤ t.deadline
+      → (is_late t above below ≡ false) × (latest t above below ≡ W)
+  -- it is late exactly where its W is above its deadline, or a job of its busy interval is not found
+  pub late_is :
+      is_late t above below ≡ true
+      → ((W : ℕ) × (last : ℕ) × Equation4 (finish_of t above below) t.period W last × (t.deadline < W))
+      ⊎ ((q : ℕ) × NotFound (finish_of t above below) t.period q)
+  pub late_past :
+      (W last : ℕ) → Equation4 (finish_of t above below) t.period W last → t.deadline < W
+      → is_late t above below ≡ true
+  pub late_not_found : (q : ℕ) → NotFound (finish_of t above below) t.period q → is_late t above below ≡ true
   -- E of a task that holds the processor for no more than a tick solves its equation from 1 to W, and is the largest
   -- that does
   pub earliest_fixed :
@@ -54,6 +89,26 @@ pub record Figured (t : Row) (above below : List Row) : Type 0 where
   pub earliest_held : 2 ≤ t.hold → earliest t above below ≡ t.best
   pub jitter_is :
       is_late t above below ≡ false → earliest t above below + jitter t above below ≡ latest t above below
+
+-- ---- a busy interval always ends. It has as many jobs as periods begin in the time of its last job but one, so many
+-- only where the period is short; and no more than those of the first window that has room for all that it brings, so
+-- where the load leaves such a window early, few
+abbrev pub Divides : ℕ → ℕ → Type 0
+Divides p x = (k : ℕ) × (x ≡ k * p)
+
+pub record Ends (t : Row) (above below : List Row) : Type 0 where
+  pub jobs_some : 1 ≤ jobs_in (finish_of t above below) t.period
+  pub jobs_few : (jobs_in (finish_of t above below) t.period - 1) * t.period < max_ticks
+  -- the window x is filled by what it brings of the task and those above, blocked once
+  pub by_window :
+      (x : ℕ) → 1 ≤ x → x ≤ max_ticks
+      → ceiling x t.period * cost t + blocking below + worst_in x above ≤ x
+      → jobs_in (finish_of t above below) t.period ≤ ceiling x t.period
+  -- and where the load is above 1, a multiple of all periods bringing more than it has room for, the task is late
+  pub overloaded :
+      (x : ℕ) → 1 ≤ x → Divides t.period x → ((i : ℕ) → i < length above → Divides (row_at above i).period x)
+      → x < ceiling x t.period * cost t + worst_in x above
+      → is_late t above below ≡ true
 
 -- two lists of rows above, and two of rows below, give a task the same figures
 pub record SameFigures (t : Row) (above above' below below' : List Row) : Type 0 where
@@ -129,14 +184,47 @@ abbrev pub shortest_load : Row → Load
 shortest_load r = load r.period r.best
 
 pub record ByNumbers (t : Row) (above below : List Row) : Type 0 where
-  pub latest_by :
-      latest t above below ≡ least_fixed (t.worst + t.switch + blocking below) t.period (map switched_load above)
+  pub latest_by_lem :
+      let w : ℕ → ℕ = λ q. least_fixed (suc q * (t.worst + t.switch) + blocking below) max_ticks
+      (map switched_load above) in
+      latest t above below ≡ latest_by w t.period t.deadline
   pub earliest_by :
       earliest t above below
       ≡ pick (may_hold t) t.best
       (largest_fixed t.best (latest t above below) (map shortest_load above))
 
--- ---- where a switch costs nothing: the figures as request 2 has them
+-- ---- a deadline counts for its own task alone, and of that for nothing but late: a longer one leaves what is not late
+-- as it is
+abbrev pub due_in : ℕ → List Row → List Row
+due_in d rows = map (with_deadline d) rows
+
+pub record DeadlineCounts (t : Row) (above below : List Row) (d : ℕ) : Type 0 where
+  pub others : SameFigures t above (due_in d above) below (due_in d below)
+  pub same_after :
+      is_late t above below ≡ false → t.deadline ≤ d
+      → (is_late (with_deadline d t) above below ≡ false)
+      × (latest (with_deadline d t) above below ≡ latest t above below)
+      × (earliest (with_deadline d t) above below ≡ earliest t above below)
+      × (margin (with_deadline d t) above below ≡ margin t above below)
+
+abbrev pub OwnDeadline : Type 0
+OwnDeadline = (t : Row) (above below : List Row) (d : ℕ) → times_in_range t ≡ true → DeadlineCounts t above below d
+
+-- ---- where the deadline is the period, one job decides: the figures as request 4 has them
+pub record AsRequest4 (t : Row) (above below : List Row) : Type 0 where
+  pub latest_then :
+      latest t above below ≡ least_fixed (cost t + blocking below) t.period (map worst_load above)
+  pub late_then :
+      is_late t above below ≡ eqb (least_fixed (cost t + blocking below) t.period (map worst_load above)) 0
+  pub earliest_then :
+      earliest t above below
+      ≡ pick (may_hold t) t.best (largest_fixed t.best (latest t above below) (map best_load above))
+
+abbrev pub WithinPeriod : Type 0
+WithinPeriod =
+    (t : Row) (above below : List Row) → times_in_range t ≡ true → t.deadline ≡ t.period → AsRequest4 t above below
+
+-- ---- where a switch costs nothing either: the figures as request 2 has them
 abbrev pub plain_load : Row → Load
 plain_load r = load r.period r.worst
 
@@ -150,7 +238,9 @@ abbrev pub NoSwitch : List Row → Type 0
 NoSwitch rows = OneSwitch 0 rows
 
 abbrev pub WithoutSwitch : Type 0
-WithoutSwitch = (t : Row) (above below : List Row) → t.switch ≡ 0 → NoSwitch above → AsRequest2 t above below
+WithoutSwitch =
+    (t : Row) (above below : List Row) → times_in_range t ≡ true → t.deadline ≡ t.period
+    → t.switch ≡ 0 → NoSwitch above → AsRequest2 t above below
 
 -- ---- document 01's figures: no task is delayed by those below it, and E is that of its equation for every task
 pub record AsDocument01 (t : Row) (above below : List Row) : Type 0 where
@@ -162,11 +252,11 @@ pub record AsDocument01 (t : Row) (above below : List Row) : Type 0 where
 abbrev pub NoneHolds : List Row → Type 0
 NoneHolds rows = (i : ℕ) → i < length rows → (row_at rows i).hold ≤ 1
 
--- where neither a hold nor a switch counts, they are these
+-- where neither a hold nor a switch counts, and the deadline is the period, they are these
 abbrev pub WithoutEither : Type 0
 WithoutEither =
-    (t : Row) (above below : List Row) → t.switch ≡ 0 → NoSwitch above
-    → t.hold ≤ 1 → NoneHolds below → AsDocument01 t above below
+    (t : Row) (above below : List Row) → times_in_range t ≡ true → t.deadline ≡ t.period
+    → t.switch ≡ 0 → NoSwitch above → t.hold ≤ 1 → NoneHolds below → AsDocument01 t above below
 
 -- ---- under a switch that is no less a late task stays late; of one that is not late there W does not fall and E is
 -- the same, and where it is stable there, it is stable here
@@ -199,7 +289,12 @@ pub record Demand-2 : Type 0 where
   pub figured :
       (t : Row) (above below : List Row)
       → times_in_range t ≡ true → all_rows times_in_range above ≡ true → Figured t above below
+  pub ends :
+      (t : Row) (above below : List Row)
+      → times_in_range t ≡ true → all_rows times_in_range above ≡ true → Ends t above below
   pub by_numbers : (t : Row) (above below : List Row) → ByNumbers t above below
+  pub own_deadline : OwnDeadline
+  pub within_period : WithinPeriod
   pub without_switch : WithoutSwitch
   pub without_either : WithoutEither
   pub switch_grows : SwitchGrows

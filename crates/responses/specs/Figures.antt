@@ -4,13 +4,14 @@ use Rattle.std.proofs.Math.IntN.{sub_ℕ}
 use Rattle.std.specs.Int.Signed.{le_z}
 use Rattle.basics.specs.Basics.{pick, larger}
 use Rattle.curves.specs.Curves.{Point, curve_margin}
-use Rattle.rows.specs.Rows.{max_tasks, cost, in_range, all_rows}
+use Rattle.rows.specs.Rows.{max_tasks, max_ticks, cost, in_range, all_rows}
 use Rattle.rows.specs.Rows.{Row}
 use Rattle.responses.specs.declared.Figures.{Figures}
 use Rattle.responses.specs.declared.NoFigures.{NoFigures}
 use Rattle.responses.specs.declared.NoFigures.TheVariants as N
 use Rattle.responses.specs.declared.Load.{Load}
 use Rattle.responses.specs.Interference.{load, interference, least_fixed, largest_fixed}
+use Rattle.responses.specs.BusyIntervals.{latest_by}
 
 -- the rows above row i of an order and those below it, all highest first
 abbrev pub rows_above : List Row → ℕ → List Row
@@ -43,11 +44,16 @@ largest_hold (r ∷ rs) = larger r.hold (largest_hold rs)
 unfoldable pub blocking : List Row → ℕ
 blocking below = largest_hold below - 1
 
+-- w(q): the time in which the first q + 1 jobs of a busy interval are done, blocked once and with all jobs above that
+-- are released in it; 0 where there is none up to 1,000,000
+abbrev pub finish_of : Row → List Row → List Row → ℕ → ℕ
+finish_of t above below q = least_fixed (suc q * cost t + blocking below) max_ticks (map worst_load above)
+
 -- W, the worst-case response time; 0 where the task is late
 abbrev pub latest : Row → List Row → List Row → ℕ
-latest t above below = least_fixed (cost t + blocking below) t.period (map worst_load above)
+latest t above below = latest_by (finish_of t above below) t.period t.deadline
 
--- late: misses its deadline, which is its period
+-- late: misses its deadline, or a job of its busy interval is not found
 abbrev pub is_late : Row → List Row → List Row → Bool
 is_late t above below = eqb (latest t above below) 0
 

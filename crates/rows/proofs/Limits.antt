@@ -19,6 +19,7 @@ use Rattle.curves.specs.Curves.{well_formed}
 pub record Limits (r : Row) : Type 0 where
   pub task : Within min_task max_task r.task
   pub period : Within min_ticks max_ticks r.period
+  pub deadline : Within min_ticks max_ticks r.deadline
   pub worst : Within min_ticks max_ticks r.worst
   pub best : Within min_ticks max_ticks r.best
   pub alpha : Within min_alpha max_alpha r.alpha
@@ -32,18 +33,20 @@ pub record Limits (r : Row) : Type 0 where
 
 pub limits : (r : Row) → in_range r ≡ true → Limits r
 limits r h =
-    let h₁₁ = and_left (numbers_in_range r) (well_formed r.curve) h in
+    let h₁₂ = and_left (numbers_in_range r) (well_formed r.curve) h in
     let t₁ = within min_task max_task r.task in
     let t₂ = within min_ticks max_ticks r.period in
-    let t₃ = within min_ticks max_ticks r.worst in
-    let t₄ = within min_ticks max_ticks r.best in
-    let t₅ = within min_alpha max_alpha r.alpha in
-    let t₆ = within min_beta max_beta r.beta in
-    let t₇ = within min_hold max_hold r.hold in
-    let t₈ = within min_switch max_switch r.switch in
-    let t₉ = leb (cost r) r.period in
-    let t₁₀ = leb r.best r.worst in
-    let t₁₁ = leb r.hold r.worst in
+    let t₃ = within min_ticks max_ticks r.deadline in
+    let t₄ = within min_ticks max_ticks r.worst in
+    let t₅ = within min_ticks max_ticks r.best in
+    let t₆ = within min_alpha max_alpha r.alpha in
+    let t₇ = within min_beta max_beta r.beta in
+    let t₈ = within min_hold max_hold r.hold in
+    let t₉ = within min_switch max_switch r.switch in
+    let t₁₀ = leb (cost r) r.period in
+    let t₁₁ = leb r.best r.worst in
+    let t₁₂ = leb r.hold r.worst in
+    let h₁₁ = and_left (t₁ && t₂ && t₃ && t₄ && t₅ && t₆ && t₇ && t₈ && t₉ && t₁₀ && t₁₁) t₁₂ h₁₂ in
     let h₁₀ = and_left (t₁ && t₂ && t₃ && t₄ && t₅ && t₆ && t₇ && t₈ && t₉ && t₁₀) t₁₁ h₁₁ in
     let h₉ = and_left (t₁ && t₂ && t₃ && t₄ && t₅ && t₆ && t₇ && t₈ && t₉) t₁₀ h₁₀ in
     let h₈ = and_left (t₁ && t₂ && t₃ && t₄ && t₅ && t₆ && t₇ && t₈) t₉ h₉ in
@@ -56,17 +59,21 @@ limits r h =
     record {
       task = within_true min_task max_task r.task (and_left t₁ t₂ h₂);
       period = within_true min_ticks max_ticks r.period (and_right t₁ t₂ h₂);
-      worst = within_true min_ticks max_ticks r.worst (and_right (t₁ && t₂) t₃ h₃);
-      best = within_true min_ticks max_ticks r.best (and_right (t₁ && t₂ && t₃) t₄ h₄);
-      alpha = within_true min_alpha max_alpha r.alpha (and_right (t₁ && t₂ && t₃ && t₄) t₅ h₅);
-      beta = within_true min_beta max_beta r.beta (and_right (t₁ && t₂ && t₃ && t₄ && t₅) t₆ h₆);
-      hold = within_true min_hold max_hold r.hold (and_right (t₁ && t₂ && t₃ && t₄ && t₅ && t₆) t₇ h₇);
-      switch = within_true min_switch max_switch r.switch (and_right (t₁ && t₂ && t₃ && t₄ && t₅ && t₆ && t₇) t₈ h₈);
-      cost_period = leb-true (cost r) r.period (and_right (t₁ && t₂ && t₃ && t₄ && t₅ && t₆ && t₇ && t₈) t₉ h₉);
+      deadline = within_true min_ticks max_ticks r.deadline (and_right (t₁ && t₂) t₃ h₃);
+      worst = within_true min_ticks max_ticks r.worst (and_right (t₁ && t₂ && t₃) t₄ h₄);
+      best = within_true min_ticks max_ticks r.best (and_right (t₁ && t₂ && t₃ && t₄) t₅ h₅);
+      alpha = within_true min_alpha max_alpha r.alpha (and_right (t₁ && t₂ && t₃ && t₄ && t₅) t₆ h₆);
+      beta = within_true min_beta max_beta r.beta (and_right (t₁ && t₂ && t₃ && t₄ && t₅ && t₆) t₇ h₇);
+      hold = within_true min_hold max_hold r.hold (and_right (t₁ && t₂ && t₃ && t₄ && t₅ && t₆ && t₇) t₈ h₈);
+      switch =
+          within_true min_switch max_switch r.switch (and_right (t₁ && t₂ && t₃ && t₄ && t₅ && t₆ && t₇ && t₈) t₉ h₉);
+      cost_period =
+          leb-true (cost r) r.period (and_right (t₁ && t₂ && t₃ && t₄ && t₅ && t₆ && t₇ && t₈ && t₉) t₁₀ h₁₀);
       best_worst =
-          leb-true r.best r.worst (and_right (t₁ && t₂ && t₃ && t₄ && t₅ && t₆ && t₇ && t₈ && t₉) t₁₀ h₁₀);
+          leb-true r.best r.worst (and_right (t₁ && t₂ && t₃ && t₄ && t₅ && t₆ && t₇ && t₈ && t₉ && t₁₀) t₁₁ h₁₁);
       hold_worst =
-          leb-true r.hold r.worst (and_right (t₁ && t₂ && t₃ && t₄ && t₅ && t₆ && t₇ && t₈ && t₉ && t₁₀) t₁₁ h₁₁);
+          leb-true r.hold r.worst
+          (and_right (t₁ && t₂ && t₃ && t₄ && t₅ && t₆ && t₇ && t₈ && t₉ && t₁₀ && t₁₁) t₁₂ h₁₂);
       curve = and_right (numbers_in_range r) (well_formed r.curve) h;
     }
 
@@ -77,6 +84,8 @@ is_in_range r h =
       le-leb _ _ h.task.le_high,
       le-leb _ _ h.period.low_le,
       le-leb _ _ h.period.le_high,
+      le-leb _ _ h.deadline.low_le,
+      le-leb _ _ h.deadline.le_high,
       le-leb _ _ h.worst.low_le,
       le-leb _ _ h.worst.le_high,
       le-leb _ _ h.best.low_le,

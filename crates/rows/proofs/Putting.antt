@@ -34,7 +34,7 @@ module _ (ls cs : List ℕ) (s : ℕ) (h : first_point_at ≡ length ls) where
 -- ---- the numbers of a record make its row
 module _ (r : Record) (long : length (record_numbers r) ≡ field_count) where
   abbrev lines : List ℕ
-  lines = r.task ∷ r.period ∷ r.worst ∷ r.best ∷ r.alpha ∷ r.beta ∷ r.hold ∷ r.points ∷ []
+  lines = r.task ∷ r.period ∷ r.deadline ∷ r.worst ∷ r.best ∷ r.alpha ∷ r.beta ∷ r.hold ∷ r.points ∷ []
 
   many : 2 * max_points ≡ length r.curve
   many = omega (arith, long, length-append r.curve (r.switch ∷ []))

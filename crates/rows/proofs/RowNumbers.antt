@@ -14,7 +14,8 @@ use lib.Seq.{take_all, drop-drop, drop-append-le, length-take-le, get_or-take, g
 use Rattle.rows.specs.Rows.{Row}
 use Rattle.curves.specs.Curves.{Point, max_points, orderly, well_formed, points_from}
 use Rattle.curves.proofs.PointNumbers.{points_same}
-use Rattle.rows.specs.Rows.{task_at, period_at, worst_at, best_at, alpha_at, beta_at, hold_at, points_at, first_point_at}
+use Rattle.rows.specs.Rows.{task_at, period_at, deadline_at, worst_at, best_at, alpha_at, beta_at, hold_at, points_at}
+use Rattle.rows.specs.Rows.{first_point_at}
 use Rattle.rows.specs.Rows.{lines_for, row_with, row_of, no_row, row_at, all_rows}
 use Rattle.rows.specs.inside.Numbers.{line_count, switch_at, field_count, lines_from, row_from, rows_of, row_in}
 use Rattle.rows.specs.inside.Numbers.{line_in, switch_in, rows_in}
@@ -35,14 +36,15 @@ lines_same s xs ys h =
     rw (
       h task_at (omega arith),
       h period_at (omega arith),
+      h deadline_at (omega arith),
       h worst_at (omega arith),
       h best_at (omega arith),
       h alpha_at (omega arith),
       h beta_at (omega arith),
       h hold_at (omega arith),
     )
-    (ap (λ c. row_with c (get_or ys task_at 0) (get_or ys period_at 0) (get_or ys worst_at 0) (get_or ys best_at 0)
-    (get_or ys alpha_at 0) (get_or ys beta_at 0) (get_or ys hold_at 0) s) curves)
+    (ap (λ c. row_with c (get_or ys task_at 0) (get_or ys period_at 0) (get_or ys deadline_at 0) (get_or ys worst_at 0)
+    (get_or ys best_at 0) (get_or ys alpha_at 0) (get_or ys beta_at 0) (get_or ys hold_at 0) s) curves)
 
 -- the number of a line, by its index among all numbers; past the last line stands 0
 pub line_from : (ws : List ℕ) (k : ℕ) → k < line_count → get_or (lines_from ws) k 0 ≡ get_or ws k 0

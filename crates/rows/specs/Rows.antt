@@ -10,7 +10,7 @@ min_task = 1
 abbrev pub max_task : ℕ
 max_task = 65535
 
--- period, worst and best, in ticks
+-- period, deadline, worst and best, in ticks
 abbrev pub min_ticks : ℕ
 min_ticks = 1
 
@@ -62,6 +62,7 @@ max_buffer = 65536
 pub record Row : Type 0 where
   pub task : ℕ
   pub period : ℕ
+  pub deadline : ℕ
   pub worst : ℕ
   pub best : ℕ
   pub alpha : ℕ
@@ -70,12 +71,13 @@ pub record Row : Type 0 where
   pub switch : ℕ
   pub curve : List Point
 
--- a row of eight numbers, those of its lines and the switch of its table, with a curve and without one; what stands
+-- a row of nine numbers, those of its lines and the switch of its table, with a curve and without one; what stands
 -- past the rows that count
-abbrev pub row_with : List Point → ℕ → ℕ → ℕ → ℕ → ℕ → ℕ → ℕ → ℕ → Row
-row_with c t p w b a e h s = record {
+abbrev pub row_with : List Point → ℕ → ℕ → ℕ → ℕ → ℕ → ℕ → ℕ → ℕ → ℕ → Row
+row_with c t p d w b a e h s = record {
   task = t;
   period = p;
+  deadline = d;
   worst = w;
   best = b;
   alpha = a;
@@ -85,11 +87,11 @@ row_with c t p w b a e h s = record {
   curve = c;
 }
 
-abbrev pub row : ℕ → ℕ → ℕ → ℕ → ℕ → ℕ → ℕ → ℕ → Row
+abbrev pub row : ℕ → ℕ → ℕ → ℕ → ℕ → ℕ → ℕ → ℕ → ℕ → Row
 row = row_with []
 
 abbrev pub no_row : Row
-no_row = row 0 0 0 0 0 0 0 0
+no_row = row 0 0 0 0 0 0 0 0 0
 
 -- ---- a row as the numbers of its lines: where each stands among them
 abbrev pub task_at : ℕ
@@ -98,24 +100,27 @@ task_at = 0
 abbrev pub period_at : ℕ
 period_at = 1
 
+abbrev pub deadline_at : ℕ
+deadline_at = 2
+
 abbrev pub worst_at : ℕ
-worst_at = 2
+worst_at = 3
 
 abbrev pub best_at : ℕ
-best_at = 3
+best_at = 4
 
 abbrev pub alpha_at : ℕ
-alpha_at = 4
+alpha_at = 5
 
 abbrev pub beta_at : ℕ
-beta_at = 5
+beta_at = 6
 
 abbrev pub hold_at : ℕ
-hold_at = 6
+hold_at = 7
 
 -- how many points its curve has; behind it each point's delay and its allow
 abbrev pub points_at : ℕ
-points_at = 7
+points_at = 8
 
 abbrev pub first_point_at : ℕ
 first_point_at = suc points_at
@@ -128,17 +133,21 @@ lines_for points = first_point_at + 2 * points
 abbrev pub row_of : ℕ → List ℕ → Row
 row_of s vs =
     row_with (points_from (get_or vs points_at 0) (drop first_point_at vs))
-    (get_or vs task_at 0) (get_or vs period_at 0) (get_or vs worst_at 0) (get_or vs best_at 0) (get_or vs alpha_at 0)
-    (get_or vs beta_at 0) (get_or vs hold_at 0) s
+    (get_or vs task_at 0) (get_or vs period_at 0) (get_or vs deadline_at 0) (get_or vs worst_at 0) (get_or vs best_at 0)
+    (get_or vs alpha_at 0) (get_or vs beta_at 0) (get_or vs hold_at 0) s
 
--- a row under another switch, and with another curve
+-- a row with another deadline, under another switch, and with another curve
+abbrev pub with_deadline : ℕ → Row → Row
+with_deadline d r =
+    row_with r.curve r.task r.period d r.worst r.best r.alpha r.beta r.hold r.switch
+
 abbrev pub with_switch : ℕ → Row → Row
 with_switch s r =
-    row_with r.curve r.task r.period r.worst r.best r.alpha r.beta r.hold s
+    row_with r.curve r.task r.period r.deadline r.worst r.best r.alpha r.beta r.hold s
 
 abbrev pub with_curve : List Point → Row → Row
 with_curve c r =
-    row_with c r.task r.period r.worst r.best r.alpha r.beta r.hold r.switch
+    row_with c r.task r.period r.deadline r.worst r.best r.alpha r.beta r.hold r.switch
 
 -- ---- some rows
 -- row i of a table
@@ -161,6 +170,7 @@ abbrev pub numbers_in_range : Row → Bool
 numbers_in_range r =
     within min_task max_task r.task
     && within min_ticks max_ticks r.period
+    && within min_ticks max_ticks r.deadline
     && within min_ticks max_ticks r.worst
     && within min_ticks max_ticks r.best
     && within min_alpha max_alpha r.alpha

@@ -13,8 +13,8 @@ pub use lent::{RowNumbers, cost, has_task, in_range, positions_for, rows_from};
 pub use lent_order::LentOrder;
 use numbers::row_numbers;
 pub use numbers::{
-    ALPHA, BEST, BETA, CURVE, FIELDS, FIRST_POINT, HOLD, NUMBERS, PERIOD, POINTS, SWITCH, TASK,
-    WORST, is_among, order_from, put_rows,
+    ALPHA, BEST, BETA, CURVE, DEADLINE, FIELDS, FIRST_POINT, HOLD, NUMBERS, PERIOD, POINTS, SWITCH,
+    TASK, WORST, is_among, order_from, put_rows,
 };
 
 // numbers.rt: rows and orders as numbers. lent.rt: rows as they are lent. lent_order.rt: an order of them.
@@ -33,6 +33,7 @@ pub const MAX_TASKS: usize = 16;
 pub struct Row {
     pub task: u32,
     pub period: u32,
+    pub deadline: u32,
     pub worst: u32,
     pub best: u32,
     pub alpha: u32,
@@ -105,6 +106,7 @@ impl Row {
     {
         within(Row::TASK_MIN, Row::TASK_MAX, row[TASK])
             & within(Row::TICKS_MIN, Row::TICKS_MAX, row[PERIOD])
+            & within(Row::TICKS_MIN, Row::TICKS_MAX, row[DEADLINE])
             & within(Row::TICKS_MIN, Row::TICKS_MAX, row[WORST])
             & within(Row::TICKS_MIN, Row::TICKS_MAX, row[BEST])
             & within(Row::ALPHA_MIN, Row::ALPHA_MAX, row[ALPHA])
@@ -121,6 +123,7 @@ impl Row {
     pub fn new(
         task: u64,
         period: u64,
+        deadline: u64,
         worst: u64,
         best: u64,
         alpha: u64,
@@ -130,15 +133,18 @@ impl Row {
         points: u64,
         curve: [u64; CURVE],
     ) -> Option<Row>
-        ensures { result ≡ checked (recorded task period worst best alpha beta hold switch points curve) }
+        ensures { result ≡ checked (recorded task period deadline worst best alpha beta hold switch points curve) }
     {
-        let lines = [task, period, worst, best, alpha, beta, hold, points];
+        let lines = [
+            task, period, deadline, worst, best, alpha, beta, hold, points,
+        ];
         if !in_range(&row_numbers(lines, &curve, switch)) {
             return None;
         }
         Some(Row {
             task: task as u32,
             period: period as u32,
+            deadline: deadline as u32,
             worst: worst as u32,
             best: best as u32,
             alpha: alpha as u32,

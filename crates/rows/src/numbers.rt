@@ -16,19 +16,21 @@ pub const TASK: usize = 0;
 
 pub const PERIOD: usize = 1;
 
-pub const WORST: usize = 2;
+pub const DEADLINE: usize = 2;
 
-pub const BEST: usize = 3;
+pub const WORST: usize = 3;
 
-pub const ALPHA: usize = 4;
+pub const BEST: usize = 4;
 
-pub const BETA: usize = 5;
+pub const ALPHA: usize = 5;
 
-pub const HOLD: usize = 6;
+pub const BETA: usize = 6;
 
-pub const POINTS: usize = 7;
+pub const HOLD: usize = 7;
 
-pub const FIRST_POINT: usize = 8;
+pub const POINTS: usize = 8;
+
+pub const FIRST_POINT: usize = 9;
 
 // The numbers of the most points.
 pub const CURVE: usize = 2 * MAX_POINTS;
@@ -63,6 +65,7 @@ fn record_numbers(row: &Row) -> RowNumbers
     let lines = [
         row.task as u64,
         row.period as u64,
+        row.deadline as u64,
         row.worst as u64,
         row.best as u64,
         row.alpha as u64,

@@ -33,7 +33,10 @@ key_plain i =
                       refl,
                       (
                         refl,
-                        each_point F (λ at. refl) (λ at. refl) first_point_at 7,
+                        (
+                          refl,
+                          each_point F (λ at. refl) (λ at. refl) first_point_at 7,
+                        ),
                       ),
                     ),
                   ),

@@ -60,7 +60,8 @@ module _ (ranked : Bool) where
       module _ (r : Row) (l : Limits r) (same : r.switch ≡ s) {rest : List ℕ} {t : Stage}
           (w : Writes (table ranked) (rows_stage ranked n b s (ds ++ (r ∷ []))) rest t) where
         abbrev fixed : List ℕ
-        fixed = r.task ∷ r.period ∷ r.worst ∷ r.best ∷ r.alpha ∷ r.beta ∷ r.hold ∷ length r.curve ∷ []
+        fixed =
+            r.task ∷ r.period ∷ r.deadline ∷ r.worst ∷ r.best ∷ r.alpha ∷ r.beta ∷ r.hold ∷ length r.curve ∷ []
 
         long : (c : List Point) → length (fixed ++ numbers_of c) ≡ lines_for (length c)
         long c = length-append fixed (numbers_of c) ∙ omega (arith, numbers_length c)
@@ -90,10 +91,10 @@ module _ (ranked : Bool) where
               put (ap (λ (x : RowLine). a_line x.key (natural x.low x.high)) is) short range
               (ap (λ (x : RowLine). x.fault s ds us v) is ∙ none)
 
-          -- what stands behind the eight numbers that are no point's
+          -- what stands behind the nine numbers that are no point's
           behind : (m : ℕ) → get_or vs (first_point_at + m) 0 ≡ get_or (numbers_of front) m 0
           behind m =
-              let there : first_point_at + m ≡ suc (suc (suc (suc (suc (suc (suc (suc m))))))) = omega arith in
+              let there : first_point_at + m ≡ suc (suc (suc (suc (suc (suc (suc (suc (suc m)))))))) = omega arith in
               ap (λ k. get_or vs k 0) there
 
           module _ (j : ℕ) (many : length front ≡ suc j) where
@@ -204,13 +205,14 @@ module _ (ranked : Bool) where
           let most : length r.curve ≤ max_points = few_of r.curve l.curve in
           put refl refl l.task (ap (λ x. pick x repeated 0) new)
           (put refl refl l.period refl
+          (put refl refl l.deadline refl
           (put refl refl l.worst (allowed r.period (full_cost r.worst s) (omega (arith, l.cost_period, same)))
           (put refl refl l.best (allowed r.worst r.best l.best_worst)
           (put refl refl l.alpha refl
           (put refl refl l.beta refl
           (put refl refl l.hold (allowed r.worst r.hold l.hold_worst)
           (put refl refl (record { low_le = omega arith; le_high = most }) refl
-          (points_written r l same w [] r.curve refl))))))))
+          (points_written r l same w [] r.curve refl)))))))))
 
     rows_written : (ds rs : List Row) {rest : List ℕ} {t : Stage} → all_rows in_range rs ≡ true → OneSwitch s rs
         → distinct (tasks_of ds ++ tasks_of rs) ≡ true

@@ -42,25 +42,28 @@ field_listed =
       (
         none,
         (
-          λ s rs vs v. picked table_refusals (ltb (get_or vs period_at 0) (full_cost v s)) exceeding 0 refl refl,
+          none,
           (
-            past_worst,
+            λ s rs vs v. picked table_refusals (ltb (get_or vs period_at 0) (full_cost v s)) exceeding 0 refl refl,
             (
-              none,
+              past_worst,
               (
                 none,
                 (
-                  past_worst,
+                  none,
                   (
-                    none,
+                    past_worst,
                     (
                       none,
                       (
                         none,
-                        each_point F
-                            (λ at s rs vs v. picked table_refusals (ltb (get_or vs at 0) v) 0 disorderly refl refl)
-                            (λ at s rs vs v. picked table_refusals (leb v (get_or vs (suc at) 0)) 0 disorderly refl refl)
-                            first_point_at 7,
+                        (
+                          none,
+                          each_point F
+                              (λ at s rs vs v. picked table_refusals (ltb (get_or vs at 0) v) 0 disorderly refl refl)
+                              (λ at s rs vs v. picked table_refusals (leb v (get_or vs (suc at) 0)) 0 disorderly refl refl)
+                              first_point_at 7,
+                        ),
                       ),
                     ),
                   ),

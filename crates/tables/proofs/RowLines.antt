@@ -72,14 +72,14 @@ pub delay_at : (i j : ℕ) → i ≡ first_point_at + 2 + 2 * j → j < 7 → ro
 delay_at i j is h =
     ap row_line_at (is ∙ shape) ∙ delay_among (row_line [] 0 0 (λ s rs vs. any_number)) first_point_at 7 j h
   where
-    shape : first_point_at + 2 + 2 * j ≡ suc (suc (suc (suc (suc (suc (suc (suc (suc (suc (2 * j))))))))))
+    shape : first_point_at + 2 + 2 * j ≡ suc (suc (suc (suc (suc (suc (suc (suc (suc (suc (suc (2 * j)))))))))))
     shape = omega arith
 
 pub allow_at : (i j : ℕ) → i ≡ first_point_at + 3 + 2 * j → j < 7 → row_line_at i ≡ next_allow (first_point_at + 2 * j)
 allow_at i j is h =
     ap row_line_at (is ∙ shape) ∙ allow_among (row_line [] 0 0 (λ s rs vs. any_number)) first_point_at 7 j h
   where
-    shape : first_point_at + 3 + 2 * j ≡ suc (suc (suc (suc (suc (suc (suc (suc (suc (suc (suc (2 * j)))))))))))
+    shape : first_point_at + 3 + 2 * j ≡ suc (suc (suc (suc (suc (suc (suc (suc (suc (suc (suc (suc (2 * j))))))))))))
     shape = omega arith
 
 -- ---- one number more of a row's lines: how many points they say

@@ -29,8 +29,8 @@ use Rattle.curves.specs.Curves.{max_points, min_delay, max_delay, min_allow, max
 use Rattle.curves.specs.Curves.{points_from}
 use Rattle.curves.proofs.PointNumbers.{point_in}
 use Rattle.curves.proofs.Growing.{takes, points_take, points_more}
-use Rattle.rows.specs.Rows.{task_at, period_at, worst_at, best_at, alpha_at, beta_at, hold_at, points_at, first_point_at}
-use Rattle.rows.specs.Rows.{lines_for, row_of, min_switch, max_switch, full_cost, cost}
+use Rattle.rows.specs.Rows.{task_at, period_at, deadline_at, worst_at, best_at, alpha_at, beta_at, hold_at, points_at}
+use Rattle.rows.specs.Rows.{first_point_at, lines_for, row_of, min_switch, max_switch, full_cost, cost}
 use Rattle.tables.specs.TableLines.{RowLine, min_board, max_board, exceeding, repeated, impossible, disorderly}
 use Rattle.tables.specs.TableLines.{row_line_at, at_most, new_rank, is_whole}
 use Rattle.tables.specs.TableLines.{Stage, at_board, at_tasks, at_switch, at_field, at_rank, at-end}
@@ -190,6 +190,7 @@ module _ (s : ℕ) (rs : List Row) where
         is_in_range (row_of s vs) (record {
           task = in_limits_lem task_at (omega arith);
           period = in_limits_lem period_at (omega arith);
+          deadline = in_limits_lem deadline_at (omega arith);
           worst = in_limits_lem worst_at (omega arith);
           best = in_limits_lem best_at (omega arith);
           alpha = in_limits_lem alpha_at (omega arith);

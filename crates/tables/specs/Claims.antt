@@ -47,9 +47,9 @@ points_text (p ∷ ps) rest = line_of "delay=" p.delay (line_of "allow=" p.allow
 
 abbrev pub row_text : Row → List ℕ → List ℕ
 row_text r rest =
-    line_of "task=" r.task (line_of "period=" r.period (line_of "worst=" r.worst
-    (line_of "best=" r.best (line_of "alpha=" r.alpha (line_of "beta=" r.beta (line_of "hold=" r.hold
-    (line_of "points=" (length r.curve) (points_text r.curve rest))))))))
+    line_of "task=" r.task (line_of "period=" r.period (line_of "deadline=" r.deadline
+    (line_of "worst=" r.worst (line_of "best=" r.best (line_of "alpha=" r.alpha (line_of "beta=" r.beta
+    (line_of "hold=" r.hold (line_of "points=" (length r.curve) (points_text r.curve rest)))))))))
 
 abbrev pub rows_text : List Row → List ℕ → List ℕ
 rows_text [] rest = rest

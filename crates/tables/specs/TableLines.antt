@@ -82,6 +82,7 @@ abbrev pub row_lines : List RowLine
 row_lines =
     row_line (bytes "task=") min_task max_task (λ s rs vs. new_task rs)
     ∷ row_line (bytes "period=") min_ticks max_ticks (λ s rs vs. any_number)
+    ∷ row_line (bytes "deadline=") min_ticks max_ticks (λ s rs vs. any_number)
     ∷ row_line (bytes "worst=") min_ticks max_ticks (λ s rs vs v. at_most (get_or vs period_at 0) (full_cost v s))
     ∷ row_line (bytes "best=") min_ticks max_ticks (λ s rs vs. at_most (get_or vs worst_at 0))
     ∷ row_line (bytes "alpha=") min_alpha max_alpha (λ s rs vs. any_number)

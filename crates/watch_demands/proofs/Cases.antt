@@ -39,7 +39,7 @@ unfolding digits decimal signed key_line number_of line_at form_at read_for
 watch_met = record {
   told = (decides watch_text watch_plain watch_start sample).as_written _ refl;
   none_late = in_time;
-  fails = (decides watch_text watch_plain watch_start (run_on "ticks=0" [])).reason 3 24 refl;
+  fails = (decides watch_text watch_plain watch_start (run_on "ticks=0" [])).reason 3 26 refl;
   late = record { there = omega arith; late = refl; above_in_time = above };
   printed = refl;
   held_early = held;

@@ -32,8 +32,8 @@ AllSo (c ∷ cs) = IsSo c × AllSo cs
 abbrev pub table_of : String → String → String → List ℕ
 table_of worst1 hold1 hold2 = lined (
     "board=7" ∷ "tasks=2" ∷ "switch=1"
-    ∷ "task=1" ∷ "period=10" ∷ worst1 ∷ "best=1" ∷ "alpha=1000" ∷ "beta=0" ∷ hold1 ∷ "points=0"
-    ∷ "task=2" ∷ "period=6" ∷ "worst=2" ∷ "best=2" ∷ "alpha=1000" ∷ "beta=0" ∷ hold2 ∷ "points=0"
+    ∷ "task=1" ∷ "period=10" ∷ "deadline=10" ∷ worst1 ∷ "best=1" ∷ "alpha=1000" ∷ "beta=0" ∷ hold1 ∷ "points=0"
+    ∷ "task=2" ∷ "period=6" ∷ "deadline=6" ∷ "worst=2" ∷ "best=2" ∷ "alpha=1000" ∷ "beta=0" ∷ hold2 ∷ "points=0"
     ∷ [])
 
 abbrev pub run_on : String → List String → List ℕ
@@ -73,9 +73,9 @@ abbrev pub curved : List String → List ℕ
 curved points =
     lined (
     "board=7" ∷ "tasks=2" ∷ "switch=1"
-    ∷ "task=1" ∷ "period=10" ∷ "worst=2" ∷ "best=1" ∷ "alpha=1000" ∷ "beta=0" ∷ "hold=0" ∷ points)
+    ∷ "task=1" ∷ "period=10" ∷ "deadline=10" ∷ "worst=2" ∷ "best=1" ∷ "alpha=1000" ∷ "beta=0" ∷ "hold=0" ∷ points)
     ++ lined (
-    "task=2" ∷ "period=6" ∷ "worst=2" ∷ "best=2" ∷ "alpha=1000" ∷ "beta=0" ∷ "hold=0" ∷ "points=0"
+    "task=2" ∷ "period=6" ∷ "deadline=6" ∷ "worst=2" ∷ "best=2" ∷ "alpha=1000" ∷ "beta=0" ∷ "hold=0" ∷ "points=0"
     ∷ "rank=2" ∷ "rank=1" ∷ "release=1" ∷ "release=1" ∷ "ticks=17" ∷ sample_lengths)
 
 abbrev pub runs : List Case
@@ -101,42 +101,42 @@ runs =
 abbrev pub refusals : List Case
 refusals =
     -- a curve is refused as in every table
-    call (curved ("points=2" ∷ "delay=1" ∷ "allow=0" ∷ "delay=1" ∷ [])) 0 (refuses 11 14)
+    call (curved ("points=2" ∷ "delay=1" ∷ "allow=0" ∷ "delay=1" ∷ [])) 0 (refuses 11 15)
     -- the first length is not task 1's, which may take 1; the second is not task 2's; a length past worst and switch
-    ∷ call (run_on "ticks=17" ("lengths=2" ∷ "length=1" ∷ "length=3" ∷ [])) 0 (refuses 3 26)
-    ∷ call (run_on "ticks=17" ("lengths=2" ∷ "length=2" ∷ "length=0" ∷ [])) 0 (refuses 3 27)
-    ∷ call (run_on "ticks=17" ("lengths=2" ∷ "length=2" ∷ "length=4" ∷ [])) 0 (refuses 3 27)
+    ∷ call (run_on "ticks=17" ("lengths=2" ∷ "length=1" ∷ "length=3" ∷ [])) 0 (refuses 3 28)
+    ∷ call (run_on "ticks=17" ("lengths=2" ∷ "length=2" ∷ "length=0" ∷ [])) 0 (refuses 3 29)
+    ∷ call (run_on "ticks=17" ("lengths=2" ∷ "length=2" ∷ "length=4" ∷ [])) 0 (refuses 3 29)
     -- past the last tick too: the seventh job is task 1's, of tick 21
     ∷ call (run_on "ticks=1" (
     "lengths=7" ∷ "length=3" ∷ "length=1" ∷ "length=2" ∷ "length=1" ∷ "length=3" ∷ "length=3" ∷ "length=4" ∷ [])) 0
-    (refuses 3 32)
+    (refuses 3 34)
     -- a hold, also one that would be past its worst, and of the second row
-    ∷ call (other (table_of "worst=2" "hold=1" "hold=0") ("rank=2" ∷ "rank=1" ∷ [])) 0 (refuses 3 10)
-    ∷ call (other (table_of "worst=2" "hold=3" "hold=0") ("rank=2" ∷ "rank=1" ∷ [])) 0 (refuses 3 10)
-    ∷ call (other (table_of "worst=2" "hold=0" "hold=1") ("rank=2" ∷ "rank=1" ∷ [])) 0 (refuses 3 18)
+    ∷ call (other (table_of "worst=2" "hold=1" "hold=0") ("rank=2" ∷ "rank=1" ∷ [])) 0 (refuses 3 11)
+    ∷ call (other (table_of "worst=2" "hold=3" "hold=0") ("rank=2" ∷ "rank=1" ∷ [])) 0 (refuses 3 11)
+    ∷ call (other (table_of "worst=2" "hold=0" "hold=1") ("rank=2" ∷ "rank=1" ∷ [])) 0 (refuses 3 20)
     -- as document 01 has it: a worst time with the switch past its period, a rank that is named twice
-    ∷ call (other (table_of "worst=10" "hold=0" "hold=0") ("rank=2" ∷ "rank=1" ∷ [])) 0 (refuses 4 6)
-    ∷ call (other (table_of "worst=2" "hold=0" "hold=0") ("rank=2" ∷ "rank=2" ∷ [])) 0 (refuses 6 21)
+    ∷ call (other (table_of "worst=10" "hold=0" "hold=0") ("rank=2" ∷ "rank=1" ∷ [])) 0 (refuses 4 7)
+    ∷ call (other (table_of "worst=2" "hold=0" "hold=0") ("rank=2" ∷ "rank=2" ∷ [])) 0 (refuses 6 23)
     -- the run's own lines: out of range, in another place, one too few, one too many
     ∷ call (table_of "worst=2" "hold=0" "hold=0" ++ lined ("rank=2" ∷ "rank=1" ∷ "release=1000001" ∷ [])) 0
-    (refuses 3 22)
+    (refuses 3 24)
     ∷ call (table_of "worst=2" "hold=0" "hold=0" ++ lined ("rank=2" ∷ "rank=1" ∷ "release=1000000" ∷ [])) 0
-    (refuses 1 23)
-    ∷ call (run_on "ticks=0" []) 0 (refuses 3 24)
-    ∷ call (run_on "ticks=1000001" []) 0 (refuses 3 24)
-    ∷ call (run_on "ticks=1000000" ("lengths=2049" ∷ [])) 0 (refuses 3 25)
-    ∷ call (run_on "ticks=1000000" ("lengths=2048" ∷ "lengths=2" ∷ [])) 0 (refuses 1 26)
-    ∷ call (run_on "ticks=17" ("lengths=1" ∷ [])) 0 (refuses 1 26)
-    ∷ call (run_on "ticks=17" ("lengths=0" ∷ "length=3" ∷ [])) 0 (refuses 1 26)
-    ∷ call (run_on "lengths=0" []) 0 (refuses 1 24)
-    ∷ call (run_on "ticks=017" []) 0 (refuses 2 24)
+    (refuses 1 25)
+    ∷ call (run_on "ticks=0" []) 0 (refuses 3 26)
+    ∷ call (run_on "ticks=1000001" []) 0 (refuses 3 26)
+    ∷ call (run_on "ticks=1000000" ("lengths=2049" ∷ [])) 0 (refuses 3 27)
+    ∷ call (run_on "ticks=1000000" ("lengths=2048" ∷ "lengths=2" ∷ [])) 0 (refuses 1 28)
+    ∷ call (run_on "ticks=17" ("lengths=1" ∷ [])) 0 (refuses 1 28)
+    ∷ call (run_on "ticks=17" ("lengths=0" ∷ "length=3" ∷ [])) 0 (refuses 1 28)
+    ∷ call (run_on "lengths=0" []) 0 (refuses 1 26)
+    ∷ call (run_on "ticks=017" []) 0 (refuses 2 26)
     -- what a line refuses comes before a late task
-    ∷ call (late_below ++ lined ("length=3" ∷ [])) 0 (refuses 1 26)
+    ∷ call (late_below ++ lined ("length=3" ∷ [])) 0 (refuses 1 28)
     ∷ []
 
 -- ---- nothing is claimed in vain
 abbrev pub sample_rows : List Row
-sample_rows = row 1 10 2 1 1000 0 0 1 ∷ row 2 6 2 2 1000 0 0 1 ∷ []
+sample_rows = row 1 10 10 2 1 1000 0 0 1 ∷ row 2 6 6 2 2 1000 0 0 1 ∷ []
 
 abbrev pub sample_order : List Row
 sample_order = rows_for (2 ∷ 1 ∷ []) sample_rows
@@ -146,13 +146,13 @@ sample_offset = offset_of sample_rows (2 ∷ 1 ∷ []) (1 ∷ 1 ∷ [])
 
 -- task 1 takes nine ticks of ten above it
 abbrev pub late_order : List Row
-late_order = rows_for (1 ∷ 2 ∷ []) (row 1 10 8 1 1000 0 0 1 ∷ row 2 6 2 2 1000 0 0 1 ∷ [])
+late_order = rows_for (1 ∷ 2 ∷ []) (row 1 10 10 8 1 1000 0 0 1 ∷ row 2 6 6 2 2 1000 0 0 1 ∷ [])
 
 pub record WatchMet : Type 0 where
   -- a text that tells a run, of an order in which no task is late; one that fails; and a late order's
   pub told : TellsRun sample 7 sample_rows (2 ∷ 1 ∷ []) (1 ∷ 1 ∷ []) 17 (3 ∷ 1 ∷ 2 ∷ [])
   pub none_late : NoneLate sample_order
-  pub fails : FailsRun (run_on "ticks=0" []) 3 24
+  pub fails : FailsRun (run_on "ticks=0" []) 3 26
   pub late : FirstLate late_order 1
   -- a job that is printed, and is held to its best line
   pub printed : is_done 1 11 17 (finished_by sample_order sample_offset (3 ∷ 1 ∷ 2 ∷ []) 17) ≡ true

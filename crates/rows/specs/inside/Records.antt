@@ -9,20 +9,21 @@ use Rattle.rows.specs.Numbers.{field_count, rows_of, row_in}
 -- the row that a record is
 abbrev pub as_row : Declared.Row → Row
 as_row r =
-    row_with (points_from r.points r.curve) r.task r.period r.worst r.best r.alpha r.beta
-    r.hold r.switch
+    row_with (points_from r.points r.curve) r.task r.period r.deadline r.worst r.best r.alpha
+    r.beta r.hold r.switch
 
 -- the numbers of a record, as they are lent: those of its lines before its points, those of its points, and its switch
 abbrev pub record_numbers : Declared.Row → List ℕ
 record_numbers r =
-    (r.task ∷ r.period ∷ r.worst ∷ r.best ∷ r.alpha ∷ r.beta ∷ r.hold ∷ r.points ∷ [])
+    (r.task ∷ r.period ∷ r.deadline ∷ r.worst ∷ r.best ∷ r.alpha ∷ r.beta ∷ r.hold ∷ r.points ∷ [])
     ++ (r.curve ++ (r.switch ∷ []))
 
 -- a record of some numbers and a curve
-abbrev pub recorded : ℕ → ℕ → ℕ → ℕ → ℕ → ℕ → ℕ → ℕ → ℕ → List ℕ → Declared.Row
-recorded t p w b a e h s n c = record {
+abbrev pub recorded : ℕ → ℕ → ℕ → ℕ → ℕ → ℕ → ℕ → ℕ → ℕ → ℕ → List ℕ → Declared.Row
+recorded t p d w b a e h s n c = record {
   task = t;
   period = p;
+  deadline = d;
   worst = w;
   best = b;
   alpha = a;

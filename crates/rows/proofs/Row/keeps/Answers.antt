@@ -1,7 +1,7 @@
 -- `rows::Row::keeps` meets its contract: its tests are those of `numbers_in_range`, in their order.
 use Rattle.std.proofs.Common.{arith}
 use Rattle.rows.specs.Rows as R
-use Rattle.rows.specs.Rows.{task_at, period_at, worst_at, best_at, alpha_at, beta_at, hold_at}
+use Rattle.rows.specs.Rows.{task_at, period_at, deadline_at, worst_at, best_at, alpha_at, beta_at, hold_at}
 use Rattle.rows.proofs.RowNumbers.{line_from}
 use Rattle.rows.proofs.Row.keeps.Goals as goal
 
@@ -18,9 +18,11 @@ returns c =
       c.within-6.ensures,
       c.within-7.ensures,
       c.within-8.ensures,
+      c.within-9.ensures,
       c.fits.ensures,
       line_from ws task_at (omega arith),
       line_from ws period_at (omega arith),
+      line_from ws deadline_at (omega arith),
       line_from ws worst_at (omega arith),
       line_from ws best_at (omega arith),
       line_from ws alpha_at (omega arith),

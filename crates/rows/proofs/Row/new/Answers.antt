@@ -23,11 +23,11 @@ tested r ws b is long e = ap (λ t. pick t (Some r) None) (e ∙ ap in_range (ap
 pub returns-then-not-in_range : goal.returns-then-not-in_range
 returns-then-not-in_range c =
     let a = c.args in
-    let r = recorded a.task a.period a.worst a.best a.alpha a.beta a.hold a.switch a.points a.curve in
+    let r = recorded a.task a.period a.deadline a.worst a.best a.alpha a.beta a.hold a.switch a.points a.curve in
     tested r _ _ c.row_numbers.ensures (search (rules, places)) c.if-not-in_range.ensures
 
 pub returns : goal.returns
 returns c =
     let a = c.args in
-    let r = recorded a.task a.period a.worst a.best a.alpha a.beta a.hold a.switch a.points a.curve in
+    let r = recorded a.task a.period a.deadline a.worst a.best a.alpha a.beta a.hold a.switch a.points a.curve in
     tested r _ _ c.row_numbers.ensures (search (rules, places)) c.if-not-in_range.ensures

@@ -1,0 +1,2 @@
+-- Laws of the jobs of a busy interval, one after another.
+pub mod Jobs

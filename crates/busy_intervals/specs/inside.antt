@@ -1,0 +1,2 @@
+-- What functions promise each other: nothing here is needed to believe what the public calls promise.
+pub mod Finishes
