@@ -9,7 +9,8 @@ use Rattle.basics.specs.Basics.{pick, larger}
 use Rattle.rows.specs.Rows as R
 use Rattle.rows.specs.Rows.{Row, with_deadline, times_in_range}
 use Rattle.rows.proofs.Limits.{times}
-use Rattle.responses.specs.Interference.{Load, interference, largest_fixed}
+use Rattle.responses.specs.declared.Load.{Load}
+use Rattle.responses.specs.Interference.{interference, largest_fixed}
 use Rattle.responses.specs.Figures.{worst_load, best_load, largest_hold, may_hold, finish_of, latest, is_late, margin_at}
 use Rattle.responses.specs.Claims.{due_in, OwnDeadline}
 use Rattle.responses.proofs.Blocking.{blocking_is}

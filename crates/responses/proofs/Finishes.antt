@@ -13,7 +13,8 @@ use borrow.Author.Tests.{eqb-true, eqb-false, eq-eqb, ne_eqb}
 use Rattle.basics.proofs.Tests.{test_of, le-or-lt}
 use Rattle.rows.specs.Rows.{Row, max_ticks, cost, times_in_range, all_rows, row_at}
 use Rattle.rows.proofs.Limits.{Times, times, head_passes, tail_passes}
-use Rattle.responses.specs.Interference.{ceiling, Load, least_fixed}
+use Rattle.responses.specs.declared.Load.{Load}
+use Rattle.responses.specs.Interference.{ceiling, least_fixed}
 use Rattle.responses.specs.BusyIntervals.{jobs_in, longest, longest_response}
 use Rattle.responses.specs.Figures.{worst_load, worst_in, blocking, finish_of, latest, is_late}
 use Rattle.responses.specs.Claims.{Equation4, NotFound, Divides, Ends, WithinPeriod}

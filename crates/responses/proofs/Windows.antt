@@ -11,7 +11,8 @@ use native.Mathlib.Omega.{arith}
 use Rattle.basics.proofs.Tests.{le-or-lt}
 use Rattle.rows.specs.Rows.{Row, times_in_range, all_rows}
 use Rattle.rows.proofs.Limits.{times, head_passes, tail_passes}
-use Rattle.responses.specs.Interference.{ceiling, Load, interference, largest_fixed}
+use Rattle.responses.specs.declared.Load.{Load}
+use Rattle.responses.specs.Interference.{ceiling, interference, largest_fixed}
 use Rattle.responses.specs.Figures.{worst_load, best_load, worst_in, best_in}
 use Rattle.responses.proofs.Sums.{Periods, interference_sum, in_proportion}
 use Rattle.responses.proofs.FixedPoints.{largest_fixed_lem, largest_above}
