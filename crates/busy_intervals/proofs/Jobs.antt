@@ -11,15 +11,16 @@ use native.Mathlib.Omega.{arith}
 use borrow.Author.Tests.{le-leb, lt-leb}
 use Rattle.basics.specs.Basics.{pick, larger}
 use Rattle.basics.proofs.Tests.{le-or-lt}
-use Rattle.basics.proofs.Numbers.{larger_right}
+use Rattle.basics.proofs.Numbers.{larger_left}
 use Rattle.rows.specs.Rows.{max_ticks}
-use Rattle.responses.specs.Interference.{Load, interference, least_fixed}
+use Rattle.responses.specs.declared.Load.{Load}
+use Rattle.responses.specs.Interference.{interference, least_fixed}
 use Rattle.responses.specs.BusyIntervals.{longest, latest_by}
 use Rattle.responses.proofs.Sums.{interference_mono}
 use Rattle.responses.proofs.FixedPoints.{fixed_below, demand_mono, least_fixed_lem, least_least}
 use Rattle.responses.proofs.BusyIntervals.{Counts, latest_here, late_here}
 use Rattle.fixed_points.specs.inside.Values.{Searching}
-use Rattle.busy_intervals.specs.inside.Finishes.{finishes, limit_for, TimesOf}
+use Rattle.busy_intervals.specs.inside.Finishes.{finishes, limit_for, InLimits}
 
 -- ---- limits
 pub limit_within : (due : ℕ) → due ≤ max_ticks → limit_for due ≡ due
@@ -68,12 +69,13 @@ pub record Behind (cost blocked period deadline : ℕ) (ls : List Load) (q base 
   pub base_is : base ≡ suc q * cost + blocked
   pub finish_is : finish ≡ finishes cost blocked ls q
   pub next_is : next ≡ suc q * period
+  pub most_some : 1 ≤ most
   pub longest_is : most ≡ longest (finishes cost blocked ls) period (suc q)
   pub goes_on : (j : ℕ) → j < q → suc j * period < finishes cost blocked ls j
   pub in_time :
       (j : ℕ) → j ≤ q → (1 ≤ finishes cost blocked ls j) × (finishes cost blocked ls j ≤ j * period + deadline)
 
-module _ (cost blocked period deadline : ℕ) (ls : List Load) (t : TimesOf cost blocked period deadline) where
+module _ (cost blocked period deadline : ℕ) (ls : List Load) (t : InLimits cost blocked period deadline) where
   abbrev w : ℕ → ℕ
   w q = finishes cost blocked ls q
 
@@ -117,6 +119,7 @@ module _ (cost blocked period deadline : ℕ) (ls : List Load) (t : TimesOf cost
         base_is = base;
         finish_is = same;
         next_is = omega arith;
+        most_some = some;
         longest_is = only_one finish same;
         goes_on = λ j l. absurd (omega arith);
         in_time = λ j l.
@@ -209,6 +212,7 @@ module _ (cost blocked period deadline : ℕ) (ls : List Load) (t : TimesOf cost
           base_is = more;
           finish_is = found_is;
           next_is = omega (arith, b.next_is);
+          most_some = omega (arith, b.most_some, larger_left most (found - next));
           longest_is = rw (b.longest_is, found_is, b.next_is);
           goes_on = also;
           in_time = λ j l. elim (le-or-lt (suc q) j) [

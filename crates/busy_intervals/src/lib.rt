@@ -1,16 +1,28 @@
-// W of a task that may overrun its period: the longest response in its busy interval, job after job (document 002,
-// equation 4), by tasks above it whose periods and costs stand in columns.
+// W of a task that may overrun its period: the longest response in its busy interval, which is searched job after job.
+#![tactic(auto)]
+
 ghost use Rattle.std.specs.Prelude.{◌≡◌, ◌+◌, ◌≤◌};
 ghost use Rattle.rows.specs.Rows.{max_ticks};
 ghost use Rattle.responses.specs.BusyIntervals.{latest_by};
-ghost use Rattle.fixed_points.specs.inside.Loads.{loads, Columns};
-ghost use Rattle.busy_intervals.specs.inside.Finishes.{finishes, limit_for, TimesOf};
+ghost use Rattle.fixed_points.specs.inside.Values.{found};
+ghost use Rattle.busy_intervals.specs.inside.Finishes.{finishes, limit_for, InLimits};
 
 use basics::larger;
-use fixed_points::{least_fixed, least_from};
+use fixed_points::{Tasks, least_fixed, least_from};
 use rows::Row;
 
-// Up to where a job is searched that is late past a tick.
+// What the search takes of a task: what a job of it takes at most, the ticks for which rows below block it, its period and
+// its deadline.
+#[derive(Clone, Copy)]
+pub struct Times {
+    pub cost: u64,
+    pub blocked: u64,
+    pub period: u64,
+    pub deadline: u64,
+    pub ghost in_limits: { InLimits cost blocked period deadline },
+}
+
+// Up to where a job is searched that is late past a tick: nothing is found past the most ticks.
 fn limit_for(due: u64) -> u64
     ensures { result ≡ limit_for due }
 {
@@ -21,44 +33,23 @@ fn limit_for(due: u64) -> u64
     }
 }
 
-// W; 0 where the task is late. The first jobs of the interval are done at `finish`, and the next is released at `next`. A
+// W, if the task is not late. The first jobs of the interval are done at `finish`, and the next is released at `next`. A
 // job more takes a cost more, so no solution lies below the last and that cost. A search that finds none up to the
 // deadline of its job shows the task late.
-pub fn latest_response(
-    cost: u64,
-    blocked: u64,
-    period: u64,
-    deadline: u64,
-    periods: &[u64],
-    costs: &[u64],
-    n: usize,
-) -> u64
-    requires { TimesOf cost blocked period deadline × Columns n periods.now costs.now }
-    ensures { result ≡ latest_by (finishes cost blocked (loads n periods.now costs.now))
-        period deadline }
+pub fn latest_response(task: Times, above: Tasks) -> Option<u64>
+    ensures { result ≡ found (latest_by (finishes task.cost task.blocked above.entry.loads.now)
+        task.period task.deadline) }
 {
-    let mut base = cost + blocked;
-    let mut finish = least_fixed(base, deadline, periods, costs, n);
-    if finish == 0 {
-        return 0;
-    }
+    let mut base = task.cost + task.blocked;
+    let mut finish = least_fixed(base, task.deadline, above)?;
     let mut longest = finish;
-    let mut next = period;
+    let mut next = task.period;
     while next < finish {
-        base += cost;
-        finish = least_from(
-            finish + cost,
-            base,
-            limit_for(next + deadline),
-            periods,
-            costs,
-            n,
-        );
-        if finish == 0 {
-            return 0;
-        }
+        base += task.cost;
+        let limit = limit_for(next + task.deadline);
+        finish = least_from(finish + task.cost, base, limit, above)?;
         longest = larger(longest, finish - next);
-        next += period;
+        next += task.period;
     }
-    longest
+    Some(longest)
 }

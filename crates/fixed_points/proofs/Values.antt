@@ -15,7 +15,8 @@ use Rattle.basics.proofs.Tests.{le-or-lt}
 use Rattle.responses.proofs.Sums.{Periods, ceiling_one, interference_mono}
 use Rattle.responses.proofs.FixedPoints.{demand_mono, least_is, least_none}
 use Rattle.std.specs.Prelude.{Option, Some, None}
-use Rattle.fixed_points.specs.inside.Values.{one_job_each, first_value, next_value, value_at, found}
+use Rattle.fixed_points.specs.inside.Values.{one_job_each, first_value, next_value, value_from, value_at}
+use Rattle.fixed_points.specs.inside.Values.{Searching, found}
 
 -- ---- the first value
 -- a window of a tick meets one job of each task
@@ -54,14 +55,9 @@ pub task_13 : let value = value_at 19 200 (load 24 6 ∷ load 18 2 ∷ []) in
     (value 0 ≡ 27) × (value 1 ≡ 35) × (value 2 ≡ 35)
 task_13 = (refl, refl, refl)
 
--- ---- where the search stands: at a value that takes no less than itself, with no solution below it
-pub record Searching (base limit : ℕ) (ls : List Load) (w : ℕ) : Type 0 where
-  pub some : 1 ≤ w
-  pub rises : w ≤ base + interference 0 w ls
-  pub none_below : (v : ℕ) → 1 ≤ v → v ≡ base + interference 0 v ls → v ≤ limit → w ≤ v
-
+-- ---- where the search stands
 module _ (base limit : ℕ) (ls : List Load) where
-  begins : 1 ≤ base → Periods ls → Searching base limit ls (first_value base ls)
+  pub begins : 1 ≤ base → Periods ls → Searching base limit ls (first_value base ls)
   begins h ps = record {
     some = omega arith;
     rises = omega (arith, one_job_met (first_value base ls) ls ps (omega arith));
@@ -80,9 +76,10 @@ module _ (base limit : ℕ) (ls : List Load) where
     | inr l ↦ rw (next_past base limit w ls l) s
   ]
 
-  pub searching : 1 ≤ base → Periods ls → (k : ℕ) → Searching base limit ls (value_at base limit ls k)
-  searching h ps zero = begins h ps
-  searching h ps (suc k) = steps_on (value_at base limit ls k) (searching h ps k)
+  pub searching : (first : ℕ) → Searching base limit ls first → (k : ℕ)
+      → Searching base limit ls (value_from first base limit ls k)
+  searching first s zero = s
+  searching first s (suc k) = steps_on (value_from first base limit ls k) (searching first s k)
 
   module _ (w : ℕ) (s : Searching base limit ls w) where
     -- a value that is not followed by itself is within the limit, and followed by a greater one
@@ -101,22 +98,23 @@ module _ (base limit : ℕ) (ls : List Load) where
     ends_late l = least_none base limit ls (λ v h e k. omega (arith, s.none_below v h e k))
 
 -- ---- a search that has come to a value by some steps, each to a greater one
-pub record Reached (base limit : ℕ) (ls : List Load) (w k : ℕ) : Type 0 where
-  pub value-is : w ≡ value_at base limit ls k
+pub record Reached (first base limit : ℕ) (ls : List Load) (w k : ℕ) : Type 0 where
+  pub value-is : w ≡ value_from first base limit ls k
   pub few : k < w
-  pub moved : (j : ℕ) → j < k → value_at base limit ls j < value_at base limit ls (suc j)
+  pub moved : (j : ℕ) → j < k → value_from first base limit ls j < value_from first base limit ls (suc j)
 
-module _ (base limit : ℕ) (ls : List Load) (some : 1 ≤ base) (ps : Periods ls) where
-  pub reached_first : (w : ℕ) → w ≡ first_value base ls → Reached base limit ls w 0
-  reached_first w e = record { value-is = e; few = omega (arith, e); moved = λ j l. absurd (omega arith) }
+module _ (first base limit : ℕ) (ls : List Load) (s : Searching base limit ls first) where
+  pub reached_first : Reached first base limit ls first 0
+  reached_first = record { value-is = refl; few = omega (arith, s.some); moved = λ j l. absurd (omega arith) }
 
-  module _ (w k : ℕ) (r : Reached base limit ls w k) where
+  module _ (w k : ℕ) (r : Reached first base limit ls w k) where
     pub stands : Searching base limit ls w
-    stands = rw r.value-is (searching base limit ls some ps k)
+    stands = rw r.value-is (searching base limit ls first s k)
 
-    pub reached_next : (next : ℕ) → next ≡ next_value base limit ls w → w < next → Reached base limit ls next (k + 1)
+    pub reached_next : (next : ℕ) → next ≡ next_value base limit ls w → w < next
+        → Reached first base limit ls next (k + 1)
     reached_next next e h =
-        let e' : next ≡ value_at base limit ls (suc k) = e ∙ ap (next_value base limit ls) r.value-is in
+        let e' : next ≡ value_from first base limit ls (suc k) = e ∙ ap (next_value base limit ls) r.value-is in
         rw (add-one k) (record {
           value-is = e';
           few = omega (arith, r.few, h);
@@ -127,12 +125,20 @@ module _ (base limit : ℕ) (ls : List Load) (some : 1 ≤ base) (ps : Periods l
         })
 
 -- ---- a solution that is found, or none
+some_not_none : (w : ℕ) → Some w ≡ None → ⊥
+some_not_none w e = let z : ◌≡◌ {A = ℕ} 0 1 = cc in omega arith
+
 pub found_some : (x w : ℕ) → Some w ≡ found x → (w ≡ x) × (1 ≤ w)
 found_some zero w e = absurd (some_not_none w e)
-  where
-    some_not_none : (w : ℕ) → Some w ≡ None → ⊥
-    some_not_none w e = let z : ◌≡◌ {A = ℕ} 0 1 = cc in omega arith
 found_some (suc x) w e = let is : w ≡ suc x = cc in (is, omega arith)
+
+pub some_found : (w : ℕ) → 1 ≤ w → Some w ≡ found w
+some_found zero h = absurd (omega arith)
+some_found (suc w) h = refl
+
+pub none_found : (x : ℕ) → None ≡ found x → x ≡ 0
+none_found zero e = refl
+none_found (suc x) e = absurd (some_not_none (suc x) (sym e))
 
 pub found_none : (x : ℕ) (o : Option ℕ) → o ≡ found x → ((w : ℕ) → o ≡ Some w → ⊥) → x ≡ 0
 found_none zero o e h = refl

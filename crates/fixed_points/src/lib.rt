@@ -6,7 +6,7 @@ ghost use Rattle.std.specs.Prelude.{◌≡◌, ◌+◌, ◌≤◌};
 ghost use Rattle.rows.specs.Rows.{max_ticks};
 ghost use Rattle.responses.specs.Interference.{ceiling, interference, least_fixed, largest_fixed};
 ghost use Rattle.fixed_points.specs.inside.Loads.{base_max, Loads};
-ghost use Rattle.fixed_points.specs.inside.Values.{first_value, next_value, found, Tries};
+ghost use Rattle.fixed_points.specs.inside.Values.{first_value, next_value, found, Searching, TriesFrom, Tries};
 
 use responses::Load;
 
@@ -71,12 +71,14 @@ pub fn next_value(base: u64, limit: u64, tasks: Tasks, w: u64) -> u64
     base + interference(w, 0, tasks)
 }
 
-// The search of W: from the first value on, until a value is followed by itself.
-pub fn try_values(base: u64, limit: u64, tasks: Tasks) -> Tried
-    requires { (1 ≤ base) × (base ≤ base_max) × (limit ≤ max_ticks) }
-    ensures { Tries base limit tasks.entry.loads.now result }
+// The search of W from a value that no solution lies below, until a value is followed by itself.
+fn try_from(first: u64, base: u64, limit: u64, tasks: Tasks) -> Tried
+    requires base_bound { base ≤ base_max }
+    requires limit_bound { limit ≤ max_ticks }
+    requires searching { Searching base limit tasks.loads.now first }
+    ensures { TriesFrom first base limit tasks.entry.loads.now result }
 {
-    let mut last = first_value(base, tasks);
+    let mut last = first;
     let mut steps: u64 = 0;
     loop {
         let next = next_value(base, limit, tasks, last);
@@ -88,17 +90,38 @@ pub fn try_values(base: u64, limit: u64, tasks: Tasks) -> Tried
     }
 }
 
-// The smallest w from 1 to the limit with w = base + interference in w, if there is one.
-pub fn least_fixed(base: u64, limit: u64, tasks: Tasks) -> Option<u64>
+// And from the first value on.
+pub fn try_values(base: u64, limit: u64, tasks: Tasks) -> Tried
     requires { (1 ≤ base) × (base ≤ base_max) × (limit ≤ max_ticks) }
+    ensures { Tries base limit tasks.entry.loads.now result }
+{
+    let first = first_value(base, tasks);
+    try_from(first, base, limit, tasks)
+}
+
+// The smallest w from 1 to the limit with w = base + interference in w, if there is one, where no such w lies below the
+// first value that is tried.
+pub fn least_from(first: u64, base: u64, limit: u64, tasks: Tasks) -> Option<u64>
+    requires base_bound { base ≤ base_max }
+    requires limit_bound { limit ≤ max_ticks }
+    requires searching { Searching base limit tasks.loads.now first }
     ensures { result ≡ found (least_fixed base limit tasks.entry.loads.now) }
 {
-    let tried = try_values(base, limit, tasks);
+    let tried = try_from(first, base, limit, tasks);
     if tried.last <= limit {
         Some(tried.last)
     } else {
         None
     }
+}
+
+// And whatever is known of such w.
+pub fn least_fixed(base: u64, limit: u64, tasks: Tasks) -> Option<u64>
+    requires { (1 ≤ base) × (base ≤ base_max) × (limit ≤ max_ticks) }
+    ensures { result ≡ found (least_fixed base limit tasks.entry.loads.now) }
+{
+    let first = first_value(base, tasks);
+    least_from(first, base, limit, tasks)
 }
 
 // The largest e from 1 to the limit with e = base + interference in e, one job less of each task.

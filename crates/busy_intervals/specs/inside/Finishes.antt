@@ -1,8 +1,9 @@
--- A promise between functions: w(q) of a task by its numbers, and what these keep.
+-- A promise between functions: w(q) of a task by its numbers, and the limits that these keep.
 use Rattle.std.specs.Prelude.{List, ℕ, suc, ◌+◌, ◌*◌, ◌≤◌, leb}
 use Rattle.basics.specs.Basics.{pick}
 use Rattle.rows.specs.Rows.{max_ticks}
-use Rattle.responses.specs.Interference.{Load, least_fixed}
+use Rattle.responses.specs.declared.Load.{Load}
+use Rattle.responses.specs.Interference.{least_fixed}
 
 -- w(q)
 abbrev pub finishes : ℕ → ℕ → List Load → ℕ → ℕ
@@ -12,7 +13,7 @@ finishes cost blocked ls q = least_fixed (suc q * cost + blocked) max_ticks ls
 abbrev pub limit_for : ℕ → ℕ
 limit_for due = pick (leb due max_ticks) due max_ticks
 
-pub record TimesOf (cost blocked period deadline : ℕ) : Type 0 where
+pub record InLimits (cost blocked period deadline : ℕ) : Type 0 where
   pub cost_some : 1 ≤ cost
   pub cost_period : cost ≤ period
   pub period_max : period ≤ max_ticks
