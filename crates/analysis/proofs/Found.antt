@@ -9,10 +9,12 @@ use Rattle.basics.specs.Basics.{pick}
 use Rattle.rows.specs.Rows.{Row, max_ticks, cost, times_in_range, all_rows}
 use Rattle.rows.proofs.Limits.{Times, times, in_range_times, head_passes, tail_passes}
 use Rattle.responses.specs.declared.Load.{Load}
-use Rattle.responses.specs.Interference.{interference, least_fixed, largest_fixed}
+use Rattle.responses.specs.Interference.{interference, largest_fixed}
+use Rattle.responses.specs.BusyIntervals.{latest_by}
 use Rattle.responses.specs.Figures.{worst_load, best_load, blocking, may_hold, latest, earliest}
 use Rattle.responses.proofs.Responses.{responses}
 use Rattle.fixed_points.specs.inside.Loads.{loads_max, no_load, Loads}
+use Rattle.busy_intervals.specs.inside.Finishes.{finishes}
 use Rattle.analysis.specs.inside.Above.{Filled, Under}
 
 pub map_long : {A B : Type 0} (f : A → B) (xs : List A) → length (map f xs) ≡ length xs
@@ -67,8 +69,9 @@ module _ {t : Row} {b : ℕ} {worst best : List Load} (p : Under t b worst best)
 -- ---- the responses found by loads are those of the rows
 module _ (t : Row) {b : ℕ} {worst best : List Load} {rows : List Row} (below : List Row) (f : Filled rows worst best)
     (blocked : b ≡ blocking below) where
-  pub latest_found : least_fixed (cost t + b) t.period worst ≡ latest t rows below
-  latest_found = ap₂ (λ (c : ℕ) (ls : List Load). least_fixed (cost t + c) t.period ls) blocked f.worst_is
+  pub latest_found : latest_by (finishes (cost t) b worst) t.period t.deadline ≡ latest t rows below
+  latest_found =
+      ap₂ (λ (c : ℕ) (ls : List Load). latest_by (finishes (cost t) c ls) t.period t.deadline) blocked f.worst_is
 
   pub earliest_found : (w e : ℕ) → w ≡ latest t rows below
       → e ≡ pick (may_hold t) t.best (largest_fixed t.best w best) → e ≡ earliest t rows below
@@ -82,13 +85,13 @@ pub record Found (t : Row) (best : List Load) (w : ℕ) : Type 0 where
   pub earliest_latest : (e : ℕ) → e ≡ pick (may_hold t) t.best (largest_fixed t.best w best) → e ≤ w
 
 pub found : {t : Row} {b : ℕ} {worst best : List Load} (w : ℕ) → Under t b worst best
-    → w ≡ least_fixed (cost t + b) t.period worst → 1 ≤ w → Found t best w
+    → w ≡ latest_by (finishes (cost t) b worst) t.period t.deadline → 1 ≤ w → Found t best w
 found {t} {b} {worst} {best} w p e h =
     let i = e ∙ latest_found t p.below p.filled p.blocked_is in
     let ht = in_range_times t p.is_in_range in
     let r = responses t p.rows p.below ht p.times_are_in_range (omega arith) in
     record {
-      latest_max = omega (arith, i, r.latest_period, (times t ht).period_max);
+      latest_max = omega (arith, i, r.latest_max);
       best_fits = rw (i, p.filled.best_is) r.best_fits;
       earliest_latest = λ x g.
           omega (arith, earliest_found t p.below p.filled p.blocked_is w x i g, i, r.earliest_latest);

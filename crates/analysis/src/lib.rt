@@ -13,11 +13,13 @@ ghost use Rattle.rows.specs.inside.LentOrders.{rows_in_order};
 ghost use Rattle.analysis.specs.inside.Above.{Fillable, Filled, Under, FiguresIn};
 
 use basics::larger;
+use busy_intervals::{Times, latest_response};
 use curves::{Responses, curve_margin, points_from};
-use fixed_points::{Tasks, largest_fixed, least_fixed};
+use fixed_points::{Tasks, largest_fixed};
 use responses::{Figures, Load, NoFigures};
 use rows::{
-    ALPHA, BEST, BETA, FIRST_POINT, HOLD, LentOrder, PERIOD, POINTS, RowNumbers, SWITCH, cost,
+    ALPHA, BEST, BETA, DEADLINE, FIRST_POINT, HOLD, LentOrder, PERIOD, POINTS, RowNumbers, SWITCH,
+    cost,
 };
 
 // The least hold that keeps the processor past a tick.
@@ -138,10 +140,15 @@ pub fn figures_under(row: &RowNumbers, blocked: u64, above: Above) -> Result<Fig
     requires { Under (row_from row.now) blocked above.worst.now above.best.now }
     ensures { FiguresIn (row_from row.now) blocked above.entry.worst.now above.entry.best.now result }
 {
-    let base = cost(row) + blocked;
+    let task = Times {
+        cost: cost(row),
+        blocked,
+        period: row[PERIOD],
+        deadline: row[DEADLINE],
+    };
     let worst = Tasks { loads: above.worst };
     let best = Tasks { loads: above.best };
-    let Some(latest) = least_fixed(base, row[PERIOD], worst) else {
+    let Some(latest) = latest_response(task, worst) else {
         return Err(NoFigures::Late);
     };
     let earliest = earliest(row, latest, best);

@@ -1,5 +1,5 @@
 -- The points of a row's curve are the numbers that are lent of it.
-use Rattle.std.proofs.Common.{◌≡◌, true, ◌≤◌, ℕ, List, length, sym, ap, ap₂, ◌∙◌, arith}
+use Rattle.std.proofs.Common.{◌≡◌, true, ◌*◌, ◌≤◌, ℕ, List, length, sym, ap, ap₂, ◌∙◌, arith}
 use Rattle.std.proofs.lemmas.List.{drop-take}
 use lib.ListN.{get_or}
 use borrow.Rule.Slice.PartMut.{mid_of}
@@ -7,7 +7,7 @@ use Rattle.curves.specs.Curves.{Point, max_points, well_formed, points_from, cur
 use Rattle.curves.proofs.Floors.{answered}
 use Rattle.curves.proofs.Lines.{few_of}
 use Rattle.curves.proofs.PointNumbers.{points_length}
-use Rattle.rows.specs.Rows.{alpha_at, beta_at, points_at, in_range}
+use Rattle.rows.specs.Rows.{alpha_at, beta_at, points_at, first_point_at, in_range}
 use Rattle.rows.specs.inside.Numbers.{row_from, lines_from}
 use Rattle.rows.proofs.Limits.{limits}
 use Rattle.rows.proofs.RowNumbers.{line_from}
@@ -18,11 +18,11 @@ module _ (ws : List ℕ) (h : in_range (row_from ws) ≡ true) where
   abbrev many : ℕ
   many = get_or ws points_at 0
 
-  is_curve : points_from many (mid_of 8 16 ws) ≡ (row_from ws).curve
-  is_curve = ap₂ points_from (sym (line_from ws points_at (omega arith))) (sym (drop-take 8 16 ws))
+  is_curve : points_from many (mid_of first_point_at (2 * max_points) ws) ≡ (row_from ws).curve
+  is_curve = ap₂ points_from (sym (line_from ws points_at (omega arith))) (sym (drop-take first_point_at (2 * max_points) ws))
 
   as_many : length (row_from ws).curve ≡ many
-  as_many = ap length (sym is_curve) ∙ points_length many (mid_of 8 16 ws)
+  as_many = ap length (sym is_curve) ∙ points_length many (mid_of first_point_at (2 * max_points) ws)
 
   few : many ≤ max_points
   few = omega (arith, as_many, few_of (row_from ws).curve (limits (row_from ws) h).curve)
