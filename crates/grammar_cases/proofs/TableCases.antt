@@ -1,4 +1,4 @@
--- Document 01's table, each row with its hold, under a switch, read by computing.
+-- Document 01's table, each row with its deadline and its hold, under a switch, read by computing.
 use mathlib.Core.Path.{◌≡◌, refl}
 use mathlib.Core.Bool.{true, false}
 use mathlib.Core.List.{List, [], ◌∷◌, ◌++◌}
@@ -106,9 +106,18 @@ deadline_past : read_table false (with_deadline "deadline=1000001") ≡ turned_d
 unfolding read_table read_for form_at line_at number_of
 deadline_past = refl
 
+deadline_leading_zero : read_table false (with_deadline "deadline=07") ≡ turned_down 2 6
+unfolding read_table read_for form_at line_at number_of
+deadline_leading_zero = refl
+
 missing_deadline : read_table false (with_deadline "worst=2") ≡ turned_down 1 6
 unfolding read_table read_for form_at line_at number_of
 missing_deadline = refl
+
+deadline_first : read_table false (lined ("board=7" ∷ "tasks=1" ∷ "switch=0" ∷ "task=1" ∷ "deadline=10" ∷ "period=10" ∷ []))
+    ≡ turned_down 1 5
+unfolding read_table read_for form_at line_at number_of
+deadline_first = refl
 
 -- ---- the line of the switch: its number is in each row, and a worst time has to leave room for it
 abbrev switched_table : String → String → List ℕ

@@ -50,7 +50,7 @@ fn point_line(at: Cursor, stand: Stand, numbers: &[u64]) -> Result<Number, LineR
 {
     let position = stand.position;
     let before = HEAD + FIELDS * stand.count + position - 2;
-    if position % 2 == 0 {
+    if (position - FIRST_POINT) % 2 == 0 {
         return match line_at(at, b"delay=", Row::DELAY_MIN, Row::DELAY_MAX) {
             Ok(delay) => {
                 if position == FIRST_POINT {

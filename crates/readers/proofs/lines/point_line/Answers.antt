@@ -51,14 +51,14 @@ module _ (n i : ℕ) (ns text : List ℕ) (at k : ℕ) where
 
   -- a line that is refused
   module _ (e : LineRefusal) (low : first_point_at ≤ i) (high : i < line_count) where
-    delay_refused : i % 2 ≡ 0 → told (Err e) ≡ line_at (bytes "delay=") min_delay max_delay text at k
+    delay_refused : (i - first_point_at) % 2 ≡ 0 → told (Err e) ≡ line_at (bytes "delay=") min_delay max_delay text at k
         → told (Err e) ≡ row_line_tested n i ns text at k
     delay_refused even is = elim (ℕ_discrete i first_point_at) [
       | yes first ↦ by_shape (row_line_at first_point_at) (ap row_line_at first) (told (Err e)) is
       | no later ↦ by_shape _ (delay_is ((i - (first_point_at + 2)) / 2) (omega arith) (omega arith)) (told (Err e)) is
     ]
 
-    allow_refused : i % 2 ≡ 1 → told (Err e) ≡ line_at (bytes "allow=") min_allow max_allow text at k
+    allow_refused : (i - first_point_at) % 2 ≡ 1 → told (Err e) ≡ line_at (bytes "allow=") min_allow max_allow text at k
         → told (Err e) ≡ row_line_tested n i ns text at k
     allow_refused odd is = elim (ℕ_discrete i (first_point_at + 1)) [
       | yes first ↦ by_shape (row_line_at (first_point_at + 1)) (ap row_line_at first) (told (Err e)) is
