@@ -24,7 +24,8 @@ pub struct Times {
 
 // Up to where a job is searched that is late past a tick: nothing is found past the most ticks.
 fn limit_for(due: u64) -> u64
-    ensures { result ≡ limit_for due }
+    ensures limit { result ≡ limit_for due }
+    ensures within { result ≤ max_ticks }
 {
     if due <= Row::TICKS_MAX {
         due

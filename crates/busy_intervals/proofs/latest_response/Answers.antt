@@ -8,7 +8,7 @@ use Rattle.responses.specs.Interference.{least_fixed}
 use Rattle.fixed_points.specs.inside.Values.{found}
 use Rattle.fixed_points.proofs.Values.{some_found, found_some, none_found}
 use Rattle.busy_intervals.specs.inside.Finishes.{limit_for, InLimits}
-use Rattle.busy_intervals.proofs.Jobs.{Behind, limit_max, first_late_lem, first_job, small, from_last, next_late}
+use Rattle.busy_intervals.proofs.Jobs.{Behind, first_late_lem, first_job, small, from_last, next_late}
 use Rattle.busy_intervals.proofs.Jobs.{next_job, later, last_job}
 use Rattle.busy_intervals.proofs.latest_response.Goals as goal
 
@@ -80,17 +80,12 @@ least_from-requires-clause-base_bound c =
     x.invariant in
     omega (arith, s, t.in_limits.cost_period, t.in_limits.period_max)
 
-pub least_from-requires-clause-limit_bound : goal.least_from-requires-clause-limit_bound
-least_from-requires-clause-limit_bound c =
-    omega (arith, c.limit_for-limit.ensures, limit_max (c.loop-next.next + c.args.task.deadline))
-
 pub least_from-requires-clause-searching : goal.least_from-requires-clause-searching
 least_from-requires-clause-searching c =
     let t = c.args.task in
     let x = c.loop-next in
     from_last t.cost t.blocked t.period t.deadline c.args.above.loads.now t.in_limits x.invariant.0 x.base x.finish x.longest
-    x.next x.invariant.1 c.limit_for-limit.result
-    (omega (arith, c.limit_for-limit.ensures, limit_max (x.next + t.deadline)))
+    x.next x.invariant.1 c.limit_for-limit.result c.limit_for-limit.ensures.within
 
 pub returns-in_err-finish-2 : goal.returns-in_err-finish-2
 returns-in_err-finish-2 c =
@@ -100,15 +95,15 @@ returns-in_err-finish-2 c =
     let none = none_found _ c.in_err-finish-2.ensures in
     c.from_residual-in_err-finish-2.ensures
     ∙ ap found (next_late t.cost t.blocked t.period t.deadline ls t.in_limits x.invariant.0 x.base x.finish x.longest x.next
-    x.invariant.1 c.loop-next-test.true _
-    (ap (λ (l : ℕ). least_fixed (x.base + t.cost) l ls) c.limit_for-limit.ensures) none)
+    x.invariant.1 (omega (arith, c.loop-next-test.true)) _
+    (ap (λ (l : ℕ). least_fixed (x.base + t.cost) l ls) c.limit_for-limit.ensures.limit) none)
 
 pub overflow_sub-finish : goal.overflow_sub-finish
 overflow_sub-finish c =
     let t = c.args.task in
     let x = c.loop-next in
     (further t.cost t.blocked t.period t.deadline c.args.above.loads.now t.in_limits x.base x.finish x.longest x.next
-    x.invariant c.loop-next-test.true c.limit_for-limit.result c.limit_for-limit.ensures c.in_ok-finish-2.finish
+    x.invariant (omega (arith, c.loop-next-test.true)) c.limit_for-limit.result c.limit_for-limit.ensures.limit c.in_ok-finish-2.finish
     c.in_ok-finish-2.ensures).1
 
 pub overflow_add-next-in-loop-next : goal.overflow_add-next-in-loop-next
@@ -125,10 +120,10 @@ loop-next-smaller c =
     let x = c.loop-next in
     let ls = c.args.above.loads.now in
     let f = further t.cost t.blocked t.period t.deadline ls t.in_limits x.base x.finish x.longest x.next
-    x.invariant c.loop-next-test.true c.limit_for-limit.result c.limit_for-limit.ensures c.in_ok-finish-2.finish
+    x.invariant (omega (arith, c.loop-next-test.true)) c.limit_for-limit.result c.limit_for-limit.ensures.limit c.in_ok-finish-2.finish
     c.in_ok-finish-2.ensures in
     let b = behind t.cost t.blocked t.period t.deadline ls t.in_limits x.base x.finish x.longest x.next
-    x.invariant c.loop-next-test.true c.limit_for-limit.result c.limit_for-limit.ensures c.in_ok-finish-2.finish
+    x.invariant (omega (arith, c.loop-next-test.true)) c.limit_for-limit.result c.limit_for-limit.ensures.limit c.in_ok-finish-2.finish
     c.in_ok-finish-2.ensures in
     let s = small t.cost t.blocked t.period t.deadline ls t.in_limits (suc x.invariant.0) _ _ _ _ b in
     omega (arith, f.0, s.0)
@@ -140,7 +135,7 @@ loop-next-preserved c =
     (suc x.invariant.0,
     rw c.larger-longest.ensures
     (behind t.cost t.blocked t.period t.deadline c.args.above.loads.now t.in_limits x.base x.finish x.longest x.next
-    x.invariant c.loop-next-test.true c.limit_for-limit.result c.limit_for-limit.ensures c.in_ok-finish-2.finish
+    x.invariant (omega (arith, c.loop-next-test.true)) c.limit_for-limit.result c.limit_for-limit.ensures.limit c.in_ok-finish-2.finish
     c.in_ok-finish-2.ensures))
 
 pub returns : goal.returns
