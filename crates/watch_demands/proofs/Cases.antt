@@ -20,13 +20,13 @@ use Rattle.watch_demands.specs.Jobs.{index_of, rank_with}
 use Rattle.watch_demands.specs.Runs.{job_text}
 use Rattle.watch_demands.specs.Calls.{run_in_time, watched}
 use Rattle.watch_demands.specs.WatchLines.{watch_text, watch_start}
-use Rattle.watch_demands.specs.Cases.{AllSo, runs, overruns, refusals, run_on, overrun, sample, sample_order, sample_offset}
-use Rattle.watch_demands.specs.Cases.{overrun_order, overrun_offset, WatchMet}
+use Rattle.watch_demands.specs.Cases.{AllSo, runs, overruns, refusals, run_on, sample, sample_order, sample_offset}
+use Rattle.watch_demands.specs.Cases.{overrun, overrun_order, overrun_offset, WatchMet}
 use Rattle.watch_demands.proofs.Texts.{watch_plain}
 
 pub runs_so : AllSo runs
-unfolding digits decimal signed key_line number_of line_at form_at read_for
-    cost blocking smallest largest jobs_in longest_response latest_by refusal_text fitted index_of rank_with job_text run_in_time watched
+unfolding digits decimal signed key_line number_of line_at form_at read_for cost blocking smallest largest jobs_in
+    longest_response latest_by refusal_text fitted index_of rank_with job_text run_in_time watched
 runs_so = (refl, (refl, (refl, (refl, (refl, (refl, (refl, (refl, (refl, tt)))))))))
 
 pub overruns_so : AllSo overruns
@@ -36,8 +36,8 @@ unfolding digits decimal signed key_line number_of line_at form_at read_for
 overruns_so = (refl, (refl, (refl, (refl, (refl, (refl, (refl, (refl, (refl, (refl, (refl, tt)))))))))))
 
 pub refusals_so : AllSo refusals
-unfolding digits decimal signed key_line number_of line_at form_at read_for
-    cost blocking smallest largest jobs_in longest_response latest_by refusal_text fitted index_of rank_with job_text run_in_time watched
+unfolding digits decimal signed key_line number_of line_at form_at read_for cost blocking smallest largest jobs_in
+    longest_response latest_by refusal_text fitted index_of rank_with job_text run_in_time watched
 refusals_so = (refl, (refl, (refl, (refl, (refl, (refl, (refl, (refl, (refl, (refl, (refl, (refl, (refl, (refl, (refl, (refl, (refl, (refl, (refl, (refl, (refl, tt)))))))))))))))))))))
 
 pub watch_met : WatchMet

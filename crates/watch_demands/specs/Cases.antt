@@ -120,7 +120,7 @@ runs =
 -- ---- jobs that are done after the next release of their task
 abbrev pub overruns : List Case
 overruns =
-    -- the second job of task 2 waits for the first, is interrupted on tick 10, and is done after the release of the third
+    -- task 2's second job waits for its first, is interrupted on tick 10, and is done after the release of the third
     call (overrun "deadline=10" "ticks=16" ("lengths=0" ∷ [])) 107
     (writes (lined first_jobs
     ++ lined ("task=1" ∷ "release=10" ∷ "finish=15" ∷ "task=2" ∷ "release=6" ∷ "finish=16" ∷ [])))
@@ -130,7 +130,7 @@ overruns =
     (writes (lined first_jobs ++ lined ("task=2" ∷ "release=6" ∷ "finish=10" ∷ [])))
     -- a longer deadline changes nothing of the run
     ∷ call (overrun "deadline=1000000" "ticks=8" ("lengths=0" ∷ [])) 52 (writes (lined first_jobs))
-    -- a tick less is late by the second job, though the first is in time; and by its worst and the switch it is late alone
+    -- a tick less is late by the second job, though the first is in time; and one below worst and switch is late alone
     ∷ call (overrun "deadline=9" "ticks=8" ("lengths=0" ∷ [])) 0 (refuses 7 2)
     ∷ call (other (table_due "deadline=2" "worst=2" "hold=0" "hold=0") ("rank=2" ∷ "rank=1" ∷ [])) 0 (refuses 7 1)
     ∷ call (other (table_due "deadline=3" "worst=2" "hold=0" "hold=0") ("rank=2" ∷ "rank=1" ∷ [])) 26
@@ -210,8 +210,8 @@ pub record WatchMet : Type 0 where
   -- a job that is printed, and is held to its best line
   pub printed : is_done 1 11 17 (finished_by sample_order sample_offset (3 ∷ 1 ∷ 2 ∷ []) 17) ≡ true
   pub held_early : AfterFirstReleases sample_order sample_offset 1 11
-  -- and one that is done after its task's next release, of tick 12; that of tick 12, a deadline after the first releases,
-  -- is held to its best line, and that of tick 6, a period after them, is not
+  -- and one that is done after its task's next release, of tick 12; that of tick 12, a deadline after the first
+  -- releases, is held to its best line, and that of tick 6, a period after them, is not
   pub told_overrun :
       TellsRun (overrun "deadline=10" "ticks=30" ("lengths=0" ∷ [])) 7 (overrun_rows 10) (1 ∷ 2 ∷ []) (0 ∷ 0 ∷ []) 30 []
   pub overrun_in_time : NoneLate (overrun_order 10)
