@@ -3,7 +3,7 @@ use Rattle.std.specs.Prelude.{◌≡◌, List, [], ◌∷◌, ◌++◌, ℕ, zer
 use Prim.Native.String.{String}
 use Rattle.text.specs.Text.{bytes, lined}
 use Rattle.plans.specs.Outcomes.{Outcome, writes, refuses}
-use Rattle.demands.specs.Cases.{alone, one_under}
+use Rattle.demands.specs.Cases.{alone, one_under, refused_at, overrun, overrun_plan}
 use Rattle.crane_demands.specs.Pieces.{pieces}
 use Rattle.crane_demands.specs.Calls.{craned, crane_prints}
 
@@ -89,5 +89,7 @@ cranes =
     -- each piece has its own switch
     ∷ prints (one_under "switch=3" "worst=7" "best=7" "hold=0" ++ (one ++ one_under "switch=2" "worst=7" "best=7" "hold=0"))
     (switched_plan "worst=10" "jitter=3" "margin=0" ++ (one_plan ++ switched_plan "worst=9" "jitter=2" "margin=1000"))
+    -- and its own deadlines
+    ∷ prints (overrun "deadline=118" ++ overrun "deadline=117") (overrun_plan ++ refused_at "refusal=8" "line=0")
     ∷ prints (one ++ lined ("x" ∷ []) ++ one) (lined ("plan=0" ∷ "refusal=1" ∷ "line=13" ∷ []) ++ one_plan)
     ∷ []

@@ -47,8 +47,8 @@ late_over t above h below none =
     (by_blocking t above below [] (none_blocks below none)).late_same ∙ h
 
 pub starred_so : AllSo starred
-unfolding digits decimal signed key_line number_of line_at form_at read_for read_table
-    cost blocking smallest largest jobs_in longest_response latest_by over_set rank_text head_text plan_text fitted on_table if_ordered
+unfolding digits decimal signed key_line number_of line_at form_at read_for read_table cost blocking smallest largest
+    jobs_in longest_response latest_by over_set rank_text head_text plan_text fitted on_table if_ordered
 starred_so = (
   over (row13 57000) [] (refl, refl, refl, refl, refl),
   (
@@ -70,8 +70,9 @@ starred_so = (
 )
 
 pub unstarred_so : AllSo unstarred
-unfolding digits decimal signed key_line number_of line_at form_at read_for read_table
-    cost blocking smallest largest jobs_in longest_response latest_by over_set rank_text head_text plan_text refusal_text fitted if_in_time on_table if_ordered
+unfolding digits decimal signed key_line number_of line_at form_at read_for read_table cost blocking smallest largest
+    jobs_in longest_response latest_by over_set rank_text head_text plan_text refusal_text fitted if_in_time on_table
+    if_ordered
 unstarred_so = (refl, (refl, (refl, (refl, (refl, (refl, (refl, tt)))))))
 
 pub tasks_so : AllSo of_tasks
@@ -79,8 +80,8 @@ unfolding digits decimal key_line number_of line_at form_at read_for read_table 
 tasks_so = (refl, tt)
 
 pub holds_so : AllSo of_holds
-unfolding digits decimal signed key_line number_of line_at form_at read_for read_table
-    cost blocking smallest largest jobs_in longest_response latest_by over_set rank_text head_text plan_text fitted on_table if_ordered
+unfolding digits decimal signed key_line number_of line_at form_at read_for read_table cost blocking smallest largest
+    jobs_in longest_response latest_by over_set rank_text head_text plan_text fitted on_table if_ordered
 holds_so = (
   (refl, refl, refl, refl, refl),
   (
@@ -96,8 +97,9 @@ holds_so = (
 )
 
 pub switch_so : AllSo of_switch
-unfolding digits decimal signed key_line number_of line_at form_at read_for read_table
-    cost blocking smallest largest jobs_in longest_response latest_by over_set rank_text head_text plan_text refusal_text fitted if_in_time on_table if_ordered
+unfolding digits decimal signed key_line number_of line_at form_at read_for read_table cost blocking smallest largest
+    jobs_in longest_response latest_by over_set rank_text head_text plan_text refusal_text fitted if_in_time on_table
+    if_ordered
 switch_so = (
   over (with_switch 5 (row13 57000)) [] (refl, refl, refl, refl, refl),
   (
@@ -163,9 +165,9 @@ curves_so =
     also tt
 
 pub curve_texts_so : AllSo of_curve_texts
-unfolding digits decimal signed key_line number_of line_at form_at read_for read_table
-    cost blocking smallest largest jobs_in longest_response latest_by permitted curve_margin over_set rank_text head_text plan_text refusal_text fitted if_in_time
-    on_table if_ordered
+unfolding digits decimal signed key_line number_of line_at form_at read_for read_table cost blocking smallest largest
+    jobs_in longest_response latest_by permitted curve_margin over_set rank_text head_text plan_text refusal_text
+    fitted if_in_time on_table if_ordered
 curve_texts_so =
     refl also refl also refl also refl also refl also refl also refl also refl
     also refl also refl also refl also refl also refl also refl also refl also refl
@@ -173,20 +175,28 @@ curve_texts_so =
     also refl also tt
 
 pub deadlines_so : AllSo of_deadlines
-unfolding digits decimal signed key_line number_of line_at form_at read_for read_table
-    cost blocking smallest largest jobs_in longest_response latest_by over_set rank_text head_text plan_text refusal_text fitted
-    if_in_time on_table if_ordered
+unfolding digits decimal signed key_line number_of line_at form_at read_for read_table cost blocking smallest largest
+    jobs_in longest_response latest_by over_set rank_text head_text plan_text refusal_text fitted if_in_time on_table
+    if_ordered
 deadlines_so =
-    over (row22 118) (row21 ∷ []) (refl, refl, refl, refl, refl)
+    refl
+    also over (row22 118) (row21 ∷ []) (refl, refl, refl, refl, refl)
     also over (row22 1000000) (row21 ∷ []) (refl, refl, refl, refl, refl)
     also late_over (row22 117) (row21 ∷ []) refl
     also late_over (row22 100) (row21 ∷ []) refl
+    also refl
+    also refl
+    also refl
     also (refl, refl, refl, refl, refl)
-    also over (with_switch 1 (row 22 100 1000000 60 40 1000 1000000 0 0)) (with_switch 1 (row 21 70 70 25 25 1000 26000 0 0) ∷ [])
+    also refl
+    also over (row 22 100 1000000 60 40 1000 1000000 0 1) (row 21 70 70 25 25 1000 26000 0 1 ∷ [])
     (refl, refl, refl, refl, refl)
+    also over (row 22 100 118 62 60 1000 1000000 0 0) (row21 ∷ []) (refl, refl, refl, refl, refl)
+    also over (row 22 100 118 62 60 1000 1000000 2 0) (row21 ∷ []) (refl, refl, refl, refl, refl)
     also over (row22 62) [] (refl, refl, refl, refl, refl)
     also late_over (row22 61) [] refl
     also late_over (row22 1) [] refl
     also over (row22 118) (with_deadline 1 row21 ∷ []) (refl, refl, refl, refl, refl)
     also refl also refl also refl also refl also refl also refl also refl also refl
-    also refl also refl also refl also refl also refl also refl also refl also tt
+    also refl also refl also refl also refl also refl also refl also refl also refl
+    also refl also refl also refl also tt

@@ -5,4 +5,5 @@ pub mod Promises
 pub mod Planner
 pub mod Reviewer
 pub mod Cases
+pub mod Loads
 pub mod Witnesses

@@ -37,7 +37,7 @@ use Rattle.demands.proofs.Outcomes.{same_refusal, not_both, zero_or_more, on_acc
 use Rattle.demands.proofs.Outcomes.{nine_is, written_is}
 use Rattle.demands.proofs.Texts.{Accepts, failing, refused_listed, refused_else, telling, tells_only}
 use Rattle.demands.proofs.Texts.{refused_exactly}
-use Rattle.demands.proofs.Promises.{promised}
+use Rattle.demands.proofs.Promises.{by_formulas, promised}
 
 module _ (text : List ℕ) where
   abbrev answer : TableRead
@@ -175,6 +175,7 @@ module _ (text : List ℕ) where
 
       table_plan : TablePlan room answer.board answer.rows (planned text room)
       table_plan = record {
+        by_formulas = λ os p. by_formulas os (possible_passes in_range p (sound ok).rows_in_range);
         eight = (eight_only cases, λ h. on_rows_lem ∙ unordered_is ((choice ok).none_only h));
         ordered = λ order r.
             let o = by_rule order r in

@@ -31,7 +31,7 @@ use Rattle.demands.proofs.Outcomes.{same_refusal, not_both, zero_or_more, on_acc
 use Rattle.demands.proofs.Outcomes.{nine_is, written_is}
 use Rattle.demands.proofs.Texts.{Accepts, failing, refused_listed, refused_else, telling, tells_only}
 use Rattle.demands.proofs.Texts.{refused_exactly}
-use Rattle.demands.proofs.Promises.{promised}
+use Rattle.demands.proofs.Promises.{by_formulas, promised}
 
 pub none_late_first : (order : List Row) → NoneLate order → first_late order ≡ 0
 none_late_first order h = elim (zero_or_more (first_late order)) [
@@ -170,6 +170,7 @@ module _ (text : List ℕ) where
 
       order_review : OrderReview room answer.board order (reviewed text room)
       order_review = record {
+        by_formulas = by_formulas order (order_in_range ok);
         seven = λ k. (
           λ e.
               let s = seven_only cases (suc k) e in

@@ -3,7 +3,8 @@
 use mathlib.Core.Path.{◌≡◌, refl, sym, ap, ap₂, ◌∙◌}
 use mathlib.Core.Bool.{true, false}
 use mathlib.Core.List.{List, [], ◌∷◌, map}
-use Prim.Native.Nat.{ℕ, ◌+◌, ◌-◌, ◌*◌, ◌/◌, ◌≤◌}
+use Prim.Native.Nat.{ℕ, zero, suc, ◌+◌, ◌-◌, ◌*◌, ◌/◌, ◌≤◌, ◌<◌}
+use native.Mathlib.Nat.{sub-zero}
 use native.Mathlib.Omega.{arith}
 use borrow.Author.Tests.{ne_eqb}
 use lib.ListN.{length}
@@ -17,24 +18,27 @@ use Rattle.rows.specs.Rows.{Row}
 use Rattle.tables.specs.TableLines.{TableRead, read_table}
 use Rattle.responses.specs.Extremes.{smallest, largest}
 use Rattle.responses.specs.BusyIntervals.{jobs_in, longest_response, latest_by}
-use Rattle.responses.specs.Figures.{worst_load, best_load, worst_in, best_in, blocking, is_late, latest, earliest, margin_at}
-use Rattle.responses.specs.Interference.{least_fixed}
-use Rattle.responses.specs.Claims.{Figured, AsRequest4, switched}
+use Rattle.responses.specs.Figures.{worst_load, best_load, worst_in, best_in, blocking, finish_of, is_late}
+use Rattle.responses.specs.Figures.{latest, earliest, margin_at}
+use Rattle.responses.specs.Interference.{ceiling, least_fixed}
+use Rattle.responses.specs.Claims.{Figured, Equation4, NotFound, AsRequest4, switched}
 use Rattle.responses.proofs.Responses.{figured}
-use Rattle.responses.proofs.Finishes.{within_period}
-use Rattle.responses.proofs.FixedPoints.{least_fixed_lem, least_least}
-use Rattle.responses.proofs.Sums.{interference_mono}
+use Rattle.responses.proofs.BusyIntervals.{equation}
+use Rattle.responses.proofs.Finishes.{counts, within_period}
+use Rattle.responses.proofs.FixedPoints.{least_fixed_lem, least_least, least_none}
+use Rattle.responses.proofs.Sums.{ceiling_covers, interference_mono}
 use Rattle.orders.specs.Orders.{over_set}
 use Rattle.plans.specs.declared.Entry.{Entry}
 use Rattle.plans.specs.Entries.{entry, entries}
 use Rattle.plans.specs.Plans.{rank_text, head_text, plan_text, rank_room}
 use Rattle.plans.specs.Outcomes.{refuses, if_in_time}
 use Rattle.demands.specs.Calls.{on_table, planned, reviewed}
-use Rattle.demands.specs.Cases.{table, pointed, row21, row22, overrun}
+use Rattle.demands.specs.Cases.{holding13, table, pointed, row21, row22, overrun}
 use Rattle.boards.specs.Witnesses.{example_order}
 use Rattle.boards.proofs.Witnesses.{runs_met}
 use Rattle.demands.specs.Witnesses.{example, example_rows, timely_text, late_order, late_text, malformed}
 use Rattle.demands.specs.Witnesses.{tenth, tenths, most_text, switched_text, loose_order, curved_text, curved_rows}
+use Rattle.demands.specs.Witnesses.{half, three_quarters}
 use Rattle.demands.specs.Witnesses.{Met, Excluded}
 use Rattle.demands.proofs.Outcomes.{same_refusal, not_both}
 use Rattle.demands.proofs.Texts.{failing, telling, fails_only}
@@ -89,6 +93,19 @@ module _ where
             (omega (arith, e.2, latest_whole)),
       )
 
+  -- over a hold of 2 it would be done a tick later
+  limit_past : NotFound (finish_of lowest above (holding13 2 ∷ [])) max_ticks 0
+  unfolding cost blocking
+  limit_past = record {
+    goes_on = λ j h. absurd (omega (arith, h));
+    none = sym (least_none (cost lowest + 1) max_ticks (map worst_load above) never);
+  }
+    where
+      never : (v : ℕ) → 1 ≤ v → v ≡ cost lowest + 1 + worst_in v above → v ≤ max_ticks → ⊥
+      never v some is most =
+          let once : worst_in 1 above ≡ 9 * (max_ticks / 10) = refl in
+          omega (arith, once, interference_mono 0 1 v (map worst_load above) some)
+
   -- the entry of any two responses
   abbrev entry_of : ℕ → ℕ → Entry
   entry_of w e = record { task = max_task; best = e; worst = w; jitter = w - e; margin = margin_at lowest w e }
@@ -100,9 +117,42 @@ module _ where
   filled : length (rank_text 10 (entry lowest above [])) ≡ rank_room
   filled = ap₂ (λ (w e : ℕ). length (rank_text 10 (entry_of w e))) latest_whole earliest_tenth ∙ filled_then
 
+-- ---- a busy interval of seven jobs, by whatever deadline
+interval : (deadline : ℕ) → Equation4 (finish_of (row22 deadline) (row21 ∷ []) []) 100 118 6
+unfolding cost blocking smallest jobs_in longest_response
+interval deadline =
+    equation (finish_of (row22 deadline) (row21 ∷ []) []) 100 (omega arith)
+    (counts (row22 deadline) (row21 ∷ []) [] refl) (omega arith)
+
+-- ---- one whose second job is not found: it would take 1,200,000 ticks, or more
+module _ where
+  abbrev brought : ℕ → ℕ
+  brought w = ceiling w 400000 * 200000
+
+  -- as many jobs above as there are periods in its time, each of 200,000 ticks
+  brings : (w : ℕ) → worst_in w (half ∷ []) ≡ brought w
+  unfolding cost
+  brings w = rw (sub-zero (ceiling w 400000)) (omega arith)
+
+  second_not_found : NotFound (finish_of three_quarters (half ∷ []) []) 400000 1
+  unfolding cost blocking
+  second_not_found = record { goes_on = goes_on; none = sym (least_none 600000 max_ticks (map worst_load (half ∷ [])) never) }
+    where
+      never : (v : ℕ) → 1 ≤ v → v ≡ 600000 + worst_in v (half ∷ []) → v ≤ max_ticks → ⊥
+      never v some is most = omega (arith, brings v, ceiling_covers v 400000 (omega arith))
+
+      goes_on : (j : ℕ) → j < 1 → suc j * 400000 < finish_of three_quarters (half ∷ []) [] j
+      goes_on zero h =
+          let first = least_least 300000 max_ticks (map worst_load (half ∷ [])) 700000 (omega arith) refl (omega arith) in
+          let w = least_fixed 300000 max_ticks (map worst_load (half ∷ [])) in
+          let is = (least_fixed_lem 300000 max_ticks (map worst_load (half ∷ [])) first.0).0 in
+          omega (arith, first.0, is, brings w, ceiling_covers w 400000 (omega arith))
+      goes_on (suc j) h = absurd (omega arith)
+
 pub met : Met
-unfolding digits decimal signed key_line number_of line_at form_at read_for read_table
-    cost blocking smallest largest jobs_in longest_response latest_by well_formed permitted curve_margin over_set rank_text head_text plan_text if_in_time on_table
+unfolding digits decimal signed key_line number_of line_at form_at read_for read_table cost blocking smallest largest
+    jobs_in longest_response latest_by well_formed permitted curve_margin over_set rank_text head_text plan_text
+    if_in_time on_table
 met =
     let late_told = telling true late_text refl in
     let late = Reviewer.review_demands late_text 0 in
@@ -110,6 +160,8 @@ met =
     let timely_told = telling true timely_text refl in
     let timely = Reviewer.review_demands timely_text 0 in
     let plan_long : length (plan_text 7 (entries example_order)) ≡ 176 = refl in
+    let brought : ceiling 700 100 * cost (row22 118) + blocking [] + worst_in 700 (row21 ∷ []) ≡ 694 = refl in
+    let heavy : ceiling 400000 400000 * cost three_quarters + worst_in 400000 (half ∷ []) ≡ 500000 = refl in
     record {
       missing = failing false _ 0 refl;
       trailing = failing false _ 0 refl;
@@ -157,6 +209,13 @@ met =
       by_rule_overrun = Planner.rule_of (overrun "deadline=118") 0 refl (row21 ∷ row22 118 ∷ []) refl;
       period_fails = (Planner.choice (overrun "deadline=100") refl).none_passes refl;
       due_at_period = refl;
+      interval = interval 118;
+      interval_late = interval 117;
+      window_fits = omega (arith, brought);
+      second_not_found = second_not_found;
+      window_heavy = omega (arith, heavy);
+      limit_reached = latest_whole;
+      limit_past = limit_past;
       lent_whole = refl;
       lent_as_rows = refl;
       lent_second = refl;
@@ -180,7 +239,8 @@ unfolding number_of line_at form_at read_for read_table
 example_accepted = refl
 
 late_only : (room : ℕ) → reviewed late_text room ≡ refuses 7 3
-unfolding number_of line_at form_at read_for read_table cost blocking smallest jobs_in longest_response latest_by if_in_time on_table
+unfolding number_of line_at form_at read_for read_table cost blocking smallest jobs_in longest_response latest_by
+    if_in_time on_table
 late_only room = refl
 
 pub excluded : Excluded

@@ -1,14 +1,15 @@
 -- Document 01's starred cases, each row with its period as deadline, a hold of 0 and no points under a switch of 0, in
 -- one list under one proposition about the definitions; its other cases, as the programs print them; and cases of holds,
 -- of the switch, of curves and of deadlines.
-use Rattle.std.specs.Prelude.{◌≡◌, true, false, List, [], ◌∷◌, ◌++◌, ℕ, ℤ, pos, negsuc}
+use Rattle.std.specs.Prelude.{◌≡◌, true, false, List, [], ◌∷◌, ◌++◌, ℕ, zero, suc, ℤ, pos, negsuc}
 use Rattle.std.proofs.Math.Option.{Option, none, some}
 use Prim.Native.String.{String}
 use Rattle.text.specs.Text.{lined}
 use Rattle.curves.specs.Curves.{Point, point}
 use Rattle.rows.specs.Rows.{row, with_deadline, with_switch, with_curve, tasks_of}
 use Rattle.rows.specs.Rows.{Row}
-use Rattle.responses.specs.Figures.{latest, is_late, earliest, jitter, margin}
+use Rattle.responses.specs.BusyIntervals.{jobs_in}
+use Rattle.responses.specs.Figures.{finish_of, latest, is_late, earliest, jitter, margin}
 use Rattle.responses.specs.Claims.{NoneHolds}
 use Rattle.orders.specs.Stability.{chosen_order}
 use Rattle.plans.specs.Plans.{plan_room}
@@ -16,12 +17,14 @@ use Rattle.plans.specs.Outcomes.{writes, refuses}
 use Rattle.demands.specs.Calls.{planned, planner_prints, reviewer_prints}
 
 -- a row under rows above it, over any rows that hold nothing, and its E, W, jitter and margin; a late row; a row
--- between rows above it and below it; a table's rows and the tasks of its order; a text and its whole plan; a text and
--- its refusal; a text and what the planner's or the reviewer's program prints
+-- between rows above it and below it; such a row and the w(q) of its busy interval in sequence; a table's rows and the
+-- tasks of its order; a text and its whole plan; a text and its refusal; a text and what the planner's or the reviewer's
+-- program prints
 pub data Case : Type 0 where
   figures : Row → List Row → ℕ → ℕ → ℕ → ℤ → Case
   late : Row → List Row → Case
   between : Row → List Row → List Row → ℕ → ℕ → ℕ → ℤ → Case
+  busy : Row → List Row → List Row → List ℕ → Case
   order : List Row → List ℕ → Case
   plan : List ℕ → List ℕ → Case
   refusal : List ℕ → ℕ → ℕ → Case
@@ -41,9 +44,17 @@ HasFigures t above below e w j m =
     × (jitter t above below ≡ j)
     × (margin t above below ≡ m)
 
+-- the first n of some numbers
+abbrev pub first_of : ℕ → (ℕ → ℕ) → List ℕ
+first_of zero w = []
+first_of (suc n) w = w 0 ∷ first_of n (λ q. w (suc q))
+
 abbrev pub IsSo : Case → Type 0
 IsSo (figures t above e w j m) = (below : List Row) → NoneHolds below → HasFigures t above below e w j m
 IsSo (between t above below e w j m) = HasFigures t above below e w j m
+IsSo (busy t above below ws) =
+    let w = finish_of t above below in
+    first_of (jobs_in w t.period) w ≡ ws
 IsSo (late t above) = (below : List Row) → NoneHolds below → is_late t above below ≡ true
 IsSo (order rows tasks) = tasks_in (chosen_order rows) ≡ some tasks
 IsSo (plan text output) = planned text plan_room ≡ writes output
@@ -384,15 +395,24 @@ abbrev pub of_deadlines : List Case
 of_deadlines =
     -- the responses of the seven jobs are 114, 102, 116, 104, 118, 106 and 94: W is that of the fifth, within a deadline
     -- of 118 or more, past one of 117
-    figures (row22 118) (row21 ∷ []) 40 118 78 (pos 882000)
+    busy (row22 118) (row21 ∷ []) [] (114 ∷ 202 ∷ 316 ∷ 404 ∷ 518 ∷ 606 ∷ 694 ∷ [])
+    ∷ figures (row22 118) (row21 ∷ []) 40 118 78 (pos 882000)
     ∷ figures (row22 1000000) (row21 ∷ []) 40 118 78 (pos 882000)
     ∷ late (row22 117) (row21 ∷ [])
     ∷ late (row22 100) (row21 ∷ [])
+    -- one job where the first is done within the period, and where it is done just at its end
+    ∷ busy (row13 57000) (row11 8000 ∷ row12 8000 ∷ []) [] (35 ∷ [])
+    ∷ busy (row22 1) (row 21 70 70 19 19 1000 26000 0 0 ∷ []) [] (100 ∷ [])
     -- blocked once and not once for each job: over a hold of 5 each job is 4 ticks later
+    ∷ busy (row22 118) (row21 ∷ []) (holding13 5 ∷ []) (118 ∷ 206 ∷ 320 ∷ 408 ∷ 522 ∷ 610 ∷ 698 ∷ [])
     ∷ between (row22 1000000) (row21 ∷ []) (holding13 5 ∷ []) 40 122 82 (pos 878000)
     -- each job of its own takes the switch, and each above
-    ∷ figures (with_switch 1 (row 22 100 1000000 60 40 1000 1000000 0 0)) (with_switch 1 (row 21 70 70 25 25 1000 26000 0 0) ∷ [])
-    40 113 73 (pos 887000)
+    ∷ busy (row 22 100 118 61 40 1000 1000000 0 1) (row 21 70 70 25 25 1000 26000 0 1 ∷ []) []
+    (114 ∷ 202 ∷ 316 ∷ 404 ∷ 518 ∷ 606 ∷ 694 ∷ [])
+    ∷ figures (row 22 100 1000000 60 40 1000 1000000 0 1) (row 21 70 70 25 25 1000 26000 0 1 ∷ []) 40 113 73 (pos 887000)
+    -- E is the largest solution, or its best where it may hold the processor for 2 ticks
+    ∷ figures (row 22 100 118 62 60 1000 1000000 0 0) (row21 ∷ []) 86 118 32 (pos 882000)
+    ∷ figures (row 22 100 118 62 60 1000 1000000 2 0) (row21 ∷ []) 60 118 58 (pos 882000)
     -- a deadline below the period, and below worst; the others' do not count
     ∷ figures (row22 62) [] 40 62 22 (pos 938000)
     ∷ late (row22 61) []
@@ -404,6 +424,10 @@ of_deadlines =
     ∷ refusal (overrun "deadline=100") 8 0
     ∷ reviewer (overrun "deadline=118" ++ lined ("rank=21" ∷ "rank=22" ∷ [])) overrun_plan
     ∷ reviewer (overrun "deadline=117" ++ lined ("rank=21" ∷ "rank=22" ∷ [])) (refused_at "refusal=7" "line=2")
+    -- one below worst is late under every order
+    ∷ refusal (overrun "deadline=61") 8 0
+    ∷ reviewer (overrun "deadline=61" ++ lined ("rank=21" ∷ "rank=22" ∷ [])) (refused_at "refusal=7" "line=2")
+    ∷ reviewer (overrun "deadline=61" ++ lined ("rank=22" ∷ "rank=21" ∷ [])) (refused_at "refusal=7" "line=1")
     -- the line: both sides of its limits, no number, missing, doubled, before its place and behind it
     ∷ plan (due_alone ("period=10" ∷ "deadline=10" ∷ [])) alone_plan
     ∷ plan (due_alone ("period=10" ∷ "deadline=1000000" ∷ [])) alone_plan
@@ -412,7 +436,29 @@ of_deadlines =
     ∷ refusal (due_alone ("period=10" ∷ "deadline=0" ∷ [])) 3 6
     ∷ refusal (due_alone ("period=10" ∷ "deadline=1000001" ∷ [])) 3 6
     ∷ refusal (due_alone ("period=10" ∷ "deadline=" ∷ [])) 2 6
+    ∷ refusal (due_alone ("period=10" ∷ "deadline=010" ∷ [])) 2 6
     ∷ refusal (due_alone ("period=10" ∷ [])) 1 6
     ∷ refusal (due_alone ("period=10" ∷ "deadline=10" ∷ "deadline=10" ∷ [])) 1 7
     ∷ refusal (due_alone ("deadline=10" ∷ "period=10" ∷ [])) 1 5
+    ∷ []
+
+-- ---- more than a board has room for: by the longest deadlines too the lower of these tasks is late in each order, since
+-- its later jobs are done ever later, and one of them not by tick 1,000,000
+abbrev pub heavy : ℕ → Row
+heavy task = row task 10 1000000 6 6 1000 1000000 0 0
+
+abbrev pub heavy_text : List ℕ
+heavy_text = lined (
+    "board=7" ∷ "tasks=2" ∷ "switch=0"
+    ∷ "task=31" ∷ "period=10" ∷ "deadline=1000000" ∷ "worst=6" ∷ "best=6" ∷ "alpha=1000" ∷ "beta=1000000" ∷ "hold=0"
+    ∷ "points=0"
+    ∷ "task=32" ∷ "period=10" ∷ "deadline=1000000" ∷ "worst=6" ∷ "best=6" ∷ "alpha=1000" ∷ "beta=1000000" ∷ "hold=0"
+    ∷ "points=0"
+    ∷ [])
+
+abbrev pub of_loads : List Case
+of_loads =
+    late (heavy 32) (heavy 31 ∷ [])
+    ∷ refusal heavy_text 8 0
+    ∷ reviewer (heavy_text ++ lined ("rank=32" ∷ "rank=31" ∷ [])) (refused_at "refusal=7" "line=2")
     ∷ []

@@ -21,6 +21,23 @@ use Rattle.plans.specs.Plans.{plan_text, plan_room}
 use Rattle.plans.specs.Outcomes.{Outcome, writes, refuses, Written}
 use Rattle.demands.specs.Calls.{planned, reviewed}
 
+-- ---- the figures of an order
+-- late or not, those of rank i are those of its row between the rows above it and those below it, by the formulas
+pub record ByFormulas (order : List Row) : Type 0 where
+  pub figured : (i : ℕ) → i < length order → Figured (row_at order i) (rows_above order i) (rows_below order i)
+  -- its busy interval always ends
+  pub ends : (i : ℕ) → i < length order → Ends (row_at order i) (rows_above order i) (rows_below order i)
+  -- the margin is that of its row's stability condition, its curve or with no points its line, and of no other row's
+  pub by_condition : (i : ℕ) → i < length order → ByCondition (row_at order i) (rows_above order i) (rows_below order i)
+  pub own_curve : (i : ℕ) → i < length order → CurveCounts (row_at order i) (rows_above order i) (rows_below order i)
+  -- a deadline counts for its own row alone, and a longer one changes no figure of a row in time
+  pub own_deadline :
+      (i d : ℕ) → i < length order → DeadlineCounts (row_at order i) (rows_above order i) (rows_below order i) d
+  -- with the period as deadline W, late and E are those of request 4
+  pub within_period :
+      (i : ℕ) → i < length order → (row_at order i).deadline ≡ (row_at order i).period
+      → AsRequest4 (row_at order i) (rows_above order i) (rows_below order i)
+
 -- ---- an order whose plan is written
 -- rank i of a plan, counted from 0
 abbrev pub entry_at : List Row → ℕ → Entry
@@ -32,26 +49,15 @@ pub record Promised (order : List Row) : Type 0 where
   pub as_many : length (entries order) ≡ length order
   pub entry_is :
       (i : ℕ) → i < length order → entry_at order i ≡ entry (row_at order i) (rows_above order i) (rows_below order i)
-  pub by_formulas : (i : ℕ) → i < length order → Figured (row_at order i) (rows_above order i) (rows_below order i)
-  -- its busy interval always ends
-  pub ends : (i : ℕ) → i < length order → Ends (row_at order i) (rows_above order i) (rows_below order i)
-  -- the margin is that of its row's stability condition, its curve or with no points its line, and of no other row's
-  pub by_condition : (i : ℕ) → i < length order → ByCondition (row_at order i) (rows_above order i) (rows_below order i)
-  pub own_curve : (i : ℕ) → i < length order → CurveCounts (row_at order i) (rows_above order i) (rows_below order i)
+  pub by_formulas : ByFormulas order
   -- by which rows are above and which below, and not by their sequence
   pub by_sets :
       (i : ℕ) (above' below' : List Row) → i < length order
       → Perm (rows_above order i) above' → Perm (rows_below order i) below'
       → entry_at order i ≡ entry (row_at order i) above' below'
-  -- a deadline counts for its own row alone, and a longer one changes no figure
-  pub own_deadline :
-      (i d : ℕ) → i < length order → DeadlineCounts (row_at order i) (rows_above order i) (rows_below order i) d
-  -- with the switch beside each `worst` and nowhere else; with the period as deadline those of request 4, with a switch
-  -- of 0 too those before it, and with every hold 0 or 1 too, those of document 01
+  -- with the switch beside each `worst` and nowhere else; with the period as deadline and a switch of 0 those before
+  -- the switch, and with every hold 0 or 1 too, those of document 01
   pub by_numbers : (i : ℕ) → i < length order → ByNumbers (row_at order i) (rows_above order i) (rows_below order i)
-  pub within_period :
-      (i : ℕ) → i < length order → (row_at order i).deadline ≡ (row_at order i).period
-      → AsRequest4 (row_at order i) (rows_above order i) (rows_below order i)
   pub without_switch :
       NoSwitch order → (i : ℕ) → i < length order → (row_at order i).deadline ≡ (row_at order i).period
       → AsRequest2 (row_at order i) (rows_above order i) (rows_below order i)
@@ -92,8 +98,10 @@ pub record ByRule (rows order : List Row) : Type 0 where
       (os : List Row) → Possible os rows → order_stable os ≡ true
       → not_after (positions_up (position_in rows) order) (positions_up (position_in rows) os) ≡ true
 
--- an accepted table: "no order" exactly where every order fails; else the plan of the order that the rule chooses
+-- an accepted table: "no order" exactly where every order fails, each by the formulas; else the plan of the order that
+-- the rule chooses
 pub record TablePlan (room board : ℕ) (rows : List Row) (w : Outcome) : Type 0 where
+  pub by_formulas : (os : List Row) → Possible os rows → ByFormulas os
   pub eight : (w ≡ refuses 8 0) ↔ EveryOrderFails rows
   pub ordered : (order : List Row) → ByRule rows order → PlanOf room board order w
   pub margins :
@@ -126,8 +134,10 @@ pub record FirstLate (order : List Row) (k : ℕ) : Type 0 where
   pub late : is_late (row_at order k) (rows_above order k) (rows_below order k) ≡ true
   pub above_in_time : (j : ℕ) → j < k → is_late (row_at order j) (rows_above order j) (rows_below order j) ≡ false
 
--- an accepted text: 7 exactly for the first late rank, counted from 1; else the plan of the order given
+-- an accepted text: 7 exactly for the first rank that is late by the formulas, counted from 1; else the plan of the order
+-- given
 pub record OrderReview (room board : ℕ) (order : List Row) (w : Outcome) : Type 0 where
+  pub by_formulas : ByFormulas order
   pub seven : (k : ℕ) → (w ≡ refuses 7 (suc k)) ↔ FirstLate order k
   pub in_time : NoneLate order → PlanOf room board order w
 

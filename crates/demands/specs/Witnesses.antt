@@ -1,22 +1,24 @@
 -- Nothing is demanded in vain: texts and orders that meet each condition that the demands name (boards/specs/Witnesses
 -- has the runs), both sides of the most tasks, and lines that fill the room of a plan. And outcomes that weaker demands
 -- would admit, each excluded.
-use Rattle.std.specs.Prelude.{◌≡◌, true, false, List, [], ◌∷◌, ◌++◌, map, ℕ, zero, suc, ◌+◌, ◌-◌, ◌*◌, ◌/◌, ◌^◌, ◌≤◌, ◌<◌, length, drop}
+use Rattle.std.specs.Prelude.{◌≡◌, true, false, List, [], ◌∷◌, ◌++◌, map, ℕ, zero, suc, ◌+◌, ◌-◌, ◌*◌, ◌/◌, ◌^◌, ◌≤◌, ◌<◌}
+use Rattle.std.specs.Prelude.{length, drop}
 use Prim.Native.String.{String}
 use Rattle.text.specs.Text.{bytes, lined, decimal, key_line}
 use Rattle.rows.specs.Rows.{max_task, max_ticks, min_alpha, max_beta, min_hold, min_switch, max_switch, max_tasks, max_buffer}
 use Rattle.curves.specs.Curves.{Point, point}
-use Rattle.rows.specs.Rows.{row, row_with, row_at, with_switch, with_curve, in_range}
+use Rattle.rows.specs.Rows.{row, row_with, row_at, cost, with_switch, with_curve, in_range}
 use Rattle.rows.specs.Rows.{Row}
 use Rattle.rows.specs.Numbers.{field_count, rows_of, row_in}
 use Rattle.boards.specs.Claims.{NoneLate}
 use Rattle.boards.specs.Witnesses.{example_order}
-use Rattle.responses.specs.Figures.{is_late, in_limits}
-use Rattle.responses.specs.Claims.{switched}
+use Rattle.responses.specs.Interference.{ceiling}
+use Rattle.responses.specs.Figures.{worst_in, blocking, finish_of, latest, is_late, in_limits}
+use Rattle.responses.specs.Claims.{Equation4, NotFound, switched}
 use Rattle.plans.specs.Entries.{entry, entries}
 use Rattle.plans.specs.Plans.{rank_text, head_text, plan_text, head_room, rank_room, plan_room}
 use Rattle.plans.specs.Outcomes.{writes, refuses}
-use Rattle.demands.specs.Cases.{row11, row12, row13, table_under, table, pointed, row21, row22, overrun}
+use Rattle.demands.specs.Cases.{row11, row12, row13, holding13, table_under, table, pointed, row21, row22, overrun}
 use Rattle.tables.specs.TableLines.{max_board}
 use Rattle.tables.specs.Claims.{Tells, Fails}
 use Rattle.demands.specs.Demands.{EveryOrderFails, ByRule, PlanDemands}
@@ -63,7 +65,8 @@ tenth_lines zero = []
 tenth_lines (suc k) =
     key_line (bytes "task=") (decimal (suc k))
     ++ lined (
-    "period=1000000" ∷ "deadline=1000000" ∷ "worst=100000" ∷ "best=100000" ∷ "alpha=1000" ∷ "beta=200000000000" ∷ "hold=0" ∷ "points=0" ∷ [])
+    "period=1000000" ∷ "deadline=1000000" ∷ "worst=100000" ∷ "best=100000" ∷ "alpha=1000" ∷ "beta=200000000000"
+    ∷ "hold=0" ∷ "points=0" ∷ [])
     ++ tenth_lines k
 
 abbrev pub most_text : List ℕ
@@ -87,6 +90,13 @@ curved_text = pointed ("points=1" ∷ "delay=7" ∷ "allow=3" ∷ [])
 
 abbrev pub curved_rows : List Row
 curved_rows = row_with (point 7 3 ∷ []) 1 10 10 10 7 1000 9999 0 0 ∷ []
+
+-- tasks that take half of each 400,000 ticks, and three quarters
+abbrev pub half : Row
+half = row 31 400000 max_ticks 200000 200000 min_alpha max_beta min_hold min_switch
+
+abbrev pub three_quarters : Row
+three_quarters = row 32 400000 max_ticks 300000 300000 min_alpha max_beta min_hold min_switch
 
 -- two rows as numbers: one with a point of the eight that there is room for, and one with none under a switch
 abbrev pub lent_numbers : List ℕ
@@ -172,6 +182,18 @@ pub record Met : Type 0 where
   pub by_rule_overrun : ByRule (row21 ∷ row22 118 ∷ []) (row21 ∷ row22 118 ∷ [])
   pub period_fails : EveryOrderFails (row21 ∷ row22 100 ∷ [])
   pub due_at_period : (row_at example_order 2).deadline ≡ (row_at example_order 2).period
+  -- a busy interval by equation 4: it has seven jobs, and the fifth has the longest response; it is past a deadline of 117;
+  -- and a window that has room for all that it brings
+  pub interval : Equation4 (finish_of (row22 118) (row21 ∷ []) []) 100 118 6
+  pub interval_late : Equation4 (finish_of (row22 117) (row21 ∷ []) []) 100 118 6
+  pub window_fits : ceiling 700 100 * cost (row22 118) + blocking [] + worst_in 700 (row21 ∷ []) ≤ 700
+  -- one whose second job is not found by tick 1,000,000; and a window that brings more than it has room for, a multiple of
+  -- both periods
+  pub second_not_found : NotFound (finish_of three_quarters (half ∷ []) []) 400000 1
+  pub window_heavy : 400000 < ceiling 400000 400000 * cost three_quarters + worst_in 400000 (half ∷ [])
+  -- W at tick 1,000,000 is found and in time by the longest deadline, and a tick past it, over a hold of 2, it is not found
+  pub limit_reached : latest (tenth max_task) (tenths 9) [] ≡ max_ticks
+  pub limit_past : NotFound (finish_of (tenth max_task) (tenths 9) (holding13 2 ∷ [])) max_ticks 0
   -- rows as they are lent, with their deadline, their curve and their switch
   pub lent_whole : length lent_numbers ≡ field_count * 2
   pub lent_as_rows : rows_of 2 lent_numbers ≡ lent_rows

@@ -30,7 +30,7 @@ use Rattle.plans.proofs.Outcomes.{fits, fits_not, Numbered}
 use Rattle.plans.proofs.Entries.{first_late_none}
 use Rattle.demands.specs.Demands.{FirstLate}
 use Rattle.demands.proofs.Outcomes.{same_refusal, not_both, zero_or_more, nine_is, written_is, numbered}
-use Rattle.demands.proofs.Promises.{promised}
+use Rattle.demands.proofs.Promises.{by_formulas, promised}
 use Rattle.demands.proofs.Reviewer.{none_late_first, first_of, first-is}
 use Rattle.watch_demands.specs.Jobs.{length_of, Indexed}
 use Rattle.watch_demands.specs.Runs.{finished_text, finished_by, jobs_text, FinishedWithin}
@@ -126,6 +126,7 @@ module _ (text : List ℕ) (b : ℕ) (rs : List Row) (os rels : List ℕ) (t : �
       lasts = run_lasts;
       lines = job_lines order;
       no_line = refl;
+      by_formulas = by_formulas order (order_in_range (table_of b rs os) table_sound);
       seven = seven_is;
       nine = λ h keeps ds w.
           subst (λ x. (outcome ≡ refuses 9 0) ↔ (room < length (finished_text order x))) (sym (is keeps ds w))

@@ -16,7 +16,7 @@ use Rattle.boards.specs.Boards.{Done, is_done}
 use Rattle.boards.specs.Claims.{LastsInRange, AfterFirstReleases, NoneLate}
 use Rattle.plans.specs.declared.Refusal.{Refusal}
 use Rattle.plans.specs.Outcomes.{Outcome, writes, refuses, Written}
-use Rattle.demands.specs.Demands.{entry_at, Promised, Given, FirstLate}
+use Rattle.demands.specs.Demands.{ByFormulas, entry_at, Promised, Given, FirstLate}
 use Rattle.watch_demands.specs.Jobs.{index_of, length_of, rank_with, Indexed}
 use Rattle.watch_demands.specs.WatchLines.{max_release, min_run, max_run, max_lengths, unheld_line, unheld}
 use Rattle.watch_demands.specs.WatchLines.{run_end, offset_of, watch_text, watch_start}
@@ -128,6 +128,8 @@ module _ (order : List Row) (offset : ℕ → ℕ) (lengths : List ℕ) where
         ≡ line_of "task=" (row_at order d.rank).task (line_of "release=" d.release
         (line_of "finish=" d.finish (finished_text order ds)))
     pub no_line : finished_text order [] ≡ []
+    -- each rank's figures are by the formulas, and so is whether it is late
+    pub by_formulas : ByFormulas order
     pub seven : (k : ℕ) → (w ≡ refuses 7 (suc k)) ↔ FirstLate order k
     pub nine :
         NoneLate order → (keeps : ℕ → Bool) (ds : List Done) → FinishedWithin order offset need keeps ticks ds
