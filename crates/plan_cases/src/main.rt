@@ -1,16 +1,18 @@
-// Document 01's cases and some of holds, of the switch and of curves, as texts: what has to be answered stands beside
-// each, and the whole buffer is compared.
+// Document 01's cases and some of holds, of the switch, of curves and of deadlines, as texts: what has to be answered
+// stands beside each, and the whole buffer is compared.
 #![tactic(auto)]
 
 use trial_calls::Program::{self, Planner, Reviewer};
 use trials::{Refusal, SPACE, Text};
 
-// The document's table up to the last beta, with a switch of 0, and a hold of 0 and no points in each row before it, and its plan.
+// The document's table up to the last beta, and its plan: with a switch of 0, each row's period as its deadline, and a
+// hold of 0 and no points in each row before it.
 const EXAMPLE: &[u8] = b"board=7
 tasks=3
 switch=0
 task=11
 period=24
+deadline=24
 worst=6
 best=6
 alpha=1000
@@ -19,6 +21,7 @@ hold=0
 points=0
 task=12
 period=18
+deadline=18
 worst=2
 best=2
 alpha=1000
@@ -27,6 +30,7 @@ hold=0
 points=0
 task=13
 period=200
+deadline=200
 worst=19
 best=17
 alpha=3000
@@ -61,6 +65,7 @@ tasks=3
 switch=1
 task=11
 period=24
+deadline=24
 worst=6
 best=6
 alpha=1000
@@ -69,6 +74,7 @@ hold=0
 points=0
 task=12
 period=18
+deadline=18
 worst=2
 best=2
 alpha=1000
@@ -77,6 +83,7 @@ hold=0
 points=0
 task=13
 period=200
+deadline=200
 worst=19
 best=17
 alpha=3000
@@ -109,6 +116,43 @@ best=25
 worst=43
 jitter=18
 margin=-22000
+";
+
+// Two rows up to the second deadline. Of task 22 below 21, w(0), w(1), .. are 114, 202, 316, 404, 518, 606 and 694, which
+// ends its busy interval: these jobs finish 114, 102, 116, 104, 118, 106 and 94 after their releases, so W is 118, by the
+// fifth. E is 40: one job of 21 would make it 66, which is not past 70. Task 21 below 22 is late, as w(0) is 88.
+const OVERRUN: &[u8] = b"board=7
+tasks=2
+switch=0
+task=21
+period=70
+deadline=70
+worst=26
+best=26
+alpha=1000
+beta=30000
+hold=0
+points=0
+task=22
+period=100
+";
+
+// The plan where 22 is not late, with a beta of 196000 = 1000 x 40 + 2000 x 78.
+const OVERRUN_PLAN: &[u8] = b"plan=1
+board=7
+tasks=2
+rank=1
+task=21
+best=26
+worst=26
+jitter=0
+margin=4000
+rank=2
+task=22
+best=40
+worst=118
+jitter=78
+margin=0
 ";
 
 // What has to be answered: a plan's text, or a refusal.
@@ -157,13 +201,13 @@ fn planner_cases() {
         "no line feed at the end",
         Planner,
         b"beta=57000\nhold=0\npoints=0",
-        refusal(1, 27),
+        refusal(1, 30),
     );
     example(
         "a line too many",
         Planner,
         b"beta=57000\nhold=0\npoints=0\nrank=12\n",
-        refusal(1, 28),
+        refusal(1, 31),
     );
 }
 
@@ -184,19 +228,19 @@ fn reviewer_cases() {
         "rank of no task",
         Reviewer,
         b"beta=57000\nhold=0\npoints=0\nrank=12\nrank=14\nrank=13\n",
-        refusal(6, 29),
+        refusal(6, 32),
     );
     example(
         "rank named twice",
         Reviewer,
         b"beta=57000\nhold=0\npoints=0\nrank=12\nrank=13\nrank=12\n",
-        refusal(6, 30),
+        refusal(6, 33),
     );
     example(
         "ranks missing",
         Reviewer,
         b"beta=57000\nhold=0\npoints=0\n",
-        refusal(1, 28),
+        refusal(1, 31),
     );
 }
 
@@ -211,13 +255,13 @@ fn row_plans() {
     case(
         "worst = period = 10",
         Planner,
-        b"board=7\ntasks=1\nswitch=0\ntask=5\nperiod=10\nworst=10\nbest=10\nalpha=1000\nbeta=10000\nhold=0\npoints=0\n",
+        b"board=7\ntasks=1\nswitch=0\ntask=5\nperiod=10\ndeadline=10\nworst=10\nbest=10\nalpha=1000\nbeta=10000\nhold=0\npoints=0\n",
         Ok(b"plan=1\nboard=7\ntasks=1\nrank=1\ntask=5\nbest=10\nworst=10\njitter=0\nmargin=0\n"),
     );
     case(
         "worst = period = 1000000",
         Planner,
-        b"board=7\ntasks=1\nswitch=0\ntask=5\nperiod=1000000\nworst=1000000\nbest=1\nalpha=1000\nbeta=1000000001\nhold=0\npoints=0\n",
+        b"board=7\ntasks=1\nswitch=0\ntask=5\nperiod=1000000\ndeadline=1000000\nworst=1000000\nbest=1\nalpha=1000\nbeta=1000000001\nhold=0\npoints=0\n",
         Ok(
             b"plan=1\nboard=7\ntasks=1\nrank=1\ntask=5\nbest=1\nworst=1000000\njitter=999999\nmargin=1\n",
         ),
@@ -228,26 +272,26 @@ fn row_refusals() {
     case(
         "worst = period + 1 = 11",
         Planner,
-        b"board=7\ntasks=1\nswitch=0\ntask=5\nperiod=10\nworst=11\n",
-        refusal(4, 6),
+        b"board=7\ntasks=1\nswitch=0\ntask=5\nperiod=10\ndeadline=10\nworst=11\n",
+        refusal(4, 7),
     );
     case(
         "worst = period + 1 = 1000000",
         Planner,
-        b"board=7\ntasks=1\nswitch=0\ntask=5\nperiod=999999\nworst=1000000\n",
-        refusal(4, 6),
+        b"board=7\ntasks=1\nswitch=0\ntask=5\nperiod=999999\ndeadline=999999\nworst=1000000\n",
+        refusal(4, 7),
     );
     case(
         "best = worst + 1",
         Planner,
-        b"board=7\ntasks=1\nswitch=0\ntask=5\nperiod=10\nworst=9\nbest=10\n",
-        refusal(4, 7),
+        b"board=7\ntasks=1\nswitch=0\ntask=5\nperiod=10\ndeadline=10\nworst=9\nbest=10\n",
+        refusal(4, 8),
     );
     case(
         "a task number used before",
         Planner,
-        b"board=7\ntasks=2\nswitch=0\ntask=5\nperiod=10\nworst=9\nbest=1\nalpha=1000\nbeta=0\nhold=0\npoints=0\ntask=5\n",
-        refusal(5, 12),
+        b"board=7\ntasks=2\nswitch=0\ntask=5\nperiod=10\ndeadline=10\nworst=9\nbest=1\nalpha=1000\nbeta=0\nhold=0\npoints=0\ntask=5\n",
+        refusal(5, 13),
     );
 }
 
@@ -256,26 +300,26 @@ fn hold_cases() {
     case(
         "hold = worst = 10",
         Planner,
-        b"board=7\ntasks=1\nswitch=0\ntask=5\nperiod=10\nworst=10\nbest=10\nalpha=1000\nbeta=10000\nhold=10\npoints=0\n",
+        b"board=7\ntasks=1\nswitch=0\ntask=5\nperiod=10\ndeadline=10\nworst=10\nbest=10\nalpha=1000\nbeta=10000\nhold=10\npoints=0\n",
         Ok(b"plan=1\nboard=7\ntasks=1\nrank=1\ntask=5\nbest=10\nworst=10\njitter=0\nmargin=0\n"),
     );
     case(
         "hold = worst + 1",
         Planner,
-        b"board=7\ntasks=1\nswitch=0\ntask=5\nperiod=10\nworst=10\nbest=10\nalpha=1000\nbeta=10000\nhold=11\npoints=0\n",
-        refusal(4, 10),
+        b"board=7\ntasks=1\nswitch=0\ntask=5\nperiod=10\ndeadline=10\nworst=10\nbest=10\nalpha=1000\nbeta=10000\nhold=11\npoints=0\n",
+        refusal(4, 11),
     );
     case(
         "hold = 1000001",
         Planner,
-        b"board=7\ntasks=1\nswitch=0\ntask=5\nperiod=10\nworst=10\nbest=10\nalpha=1000\nbeta=10000\nhold=1000001\npoints=0\n",
-        refusal(3, 10),
+        b"board=7\ntasks=1\nswitch=0\ntask=5\nperiod=10\ndeadline=10\nworst=10\nbest=10\nalpha=1000\nbeta=10000\nhold=1000001\npoints=0\n",
+        refusal(3, 11),
     );
     case(
         "no hold",
         Planner,
-        b"board=7\ntasks=1\nswitch=0\ntask=5\nperiod=10\nworst=10\nbest=10\nalpha=1000\nbeta=10000\n",
-        refusal(1, 10),
+        b"board=7\ntasks=1\nswitch=0\ntask=5\nperiod=10\ndeadline=10\nworst=10\nbest=10\nalpha=1000\nbeta=10000\n",
+        refusal(1, 11),
     );
 }
 
@@ -284,7 +328,7 @@ fn switch_cases() {
     case(
         "worst + switch = period = 10",
         Planner,
-        b"board=7\ntasks=1\nswitch=3\ntask=5\nperiod=10\nworst=7\nbest=7\nalpha=1000\nbeta=10000\nhold=0\npoints=0\n",
+        b"board=7\ntasks=1\nswitch=3\ntask=5\nperiod=10\ndeadline=10\nworst=7\nbest=7\nalpha=1000\nbeta=10000\nhold=0\npoints=0\n",
         Ok(b"plan=1\nboard=7\ntasks=1\nrank=1\ntask=5\nbest=7\nworst=10\njitter=3\nmargin=0\n"),
     );
     case(
@@ -296,8 +340,8 @@ fn switch_cases() {
     case(
         "worst + switch = period + 1",
         Planner,
-        b"board=7\ntasks=1\nswitch=3\ntask=5\nperiod=10\nworst=8\n",
-        refusal(4, 6),
+        b"board=7\ntasks=1\nswitch=3\ntask=5\nperiod=10\ndeadline=10\nworst=8\n",
+        refusal(4, 7),
     );
     case(
         "switch = 1001",
@@ -308,7 +352,7 @@ fn switch_cases() {
     case(
         "no switch",
         Planner,
-        b"board=7\ntasks=1\ntask=5\nperiod=10\nworst=10\nbest=10\nalpha=1000\nbeta=10000\nhold=0\npoints=0\n",
+        b"board=7\ntasks=1\ntask=5\nperiod=10\ndeadline=10\nworst=10\nbest=10\nalpha=1000\nbeta=10000\nhold=0\npoints=0\n",
         refusal(1, 3),
     );
 }
@@ -318,32 +362,80 @@ fn curve_cases() {
     case(
         "a curve that permits a third of a tick more",
         Planner,
-        b"board=7\ntasks=1\nswitch=0\ntask=5\nperiod=10\nworst=10\nbest=7\nalpha=1000\nbeta=0\nhold=0\npoints=2\ndelay=6\nallow=4\ndelay=9\nallow=3\n",
+        b"board=7\ntasks=1\nswitch=0\ntask=5\nperiod=10\ndeadline=10\nworst=10\nbest=7\nalpha=1000\nbeta=0\nhold=0\npoints=2\ndelay=6\nallow=4\ndelay=9\nallow=3\n",
         Ok(b"plan=1\nboard=7\ntasks=1\nrank=1\ntask=5\nbest=7\nworst=10\njitter=3\nmargin=666\n"),
     );
     case(
         "the same a tick lower, reviewed",
         Reviewer,
-        b"board=7\ntasks=1\nswitch=0\ntask=5\nperiod=10\nworst=10\nbest=7\nalpha=1000\nbeta=0\nhold=0\npoints=2\ndelay=6\nallow=3\ndelay=9\nallow=2\nrank=5\n",
+        b"board=7\ntasks=1\nswitch=0\ntask=5\nperiod=10\ndeadline=10\nworst=10\nbest=7\nalpha=1000\nbeta=0\nhold=0\npoints=2\ndelay=6\nallow=3\ndelay=9\nallow=2\nrank=5\n",
         Ok(b"plan=1\nboard=7\ntasks=1\nrank=1\ntask=5\nbest=7\nworst=10\njitter=3\nmargin=-334\n"),
     );
     case(
         "E past the last delay",
         Planner,
-        b"board=7\ntasks=1\nswitch=0\ntask=5\nperiod=10\nworst=10\nbest=7\nalpha=1000\nbeta=20000\nhold=0\npoints=1\ndelay=6\nallow=10\n",
+        b"board=7\ntasks=1\nswitch=0\ntask=5\nperiod=10\ndeadline=10\nworst=10\nbest=7\nalpha=1000\nbeta=20000\nhold=0\npoints=1\ndelay=6\nallow=10\n",
         refusal(8, 0),
     );
     case(
         "a delay not above the one before it",
         Planner,
-        b"board=7\ntasks=1\nswitch=0\ntask=5\nperiod=10\nworst=10\nbest=7\nalpha=1000\nbeta=0\nhold=0\npoints=2\ndelay=6\nallow=4\ndelay=6\n",
-        refusal(11, 14),
+        b"board=7\ntasks=1\nswitch=0\ntask=5\nperiod=10\ndeadline=10\nworst=10\nbest=7\nalpha=1000\nbeta=0\nhold=0\npoints=2\ndelay=6\nallow=4\ndelay=6\n",
+        refusal(11, 15),
     );
     case(
         "an allow above the one before it",
         Planner,
-        b"board=7\ntasks=1\nswitch=0\ntask=5\nperiod=10\nworst=10\nbest=7\nalpha=1000\nbeta=0\nhold=0\npoints=2\ndelay=6\nallow=4\ndelay=9\nallow=5\n",
-        refusal(11, 15),
+        b"board=7\ntasks=1\nswitch=0\ntask=5\nperiod=10\ndeadline=10\nworst=10\nbest=7\nalpha=1000\nbeta=0\nhold=0\npoints=2\ndelay=6\nallow=4\ndelay=9\nallow=5\n",
+        refusal(11, 16),
+    );
+}
+
+// The planner on the two rows with the rest of a text.
+fn overrun(name: &str, rest: &[u8], expected: Expected) {
+    let text = Text::joined(OVERRUN, rest);
+    case(name, Planner, text.as_bytes(), expected);
+}
+
+fn deadline_cases() {
+    overrun(
+        "W past its period, at its deadline",
+        b"deadline=118\nworst=62\nbest=40\nalpha=2000\nbeta=196000\nhold=0\npoints=0\n",
+        Ok(OVERRUN_PLAN),
+    );
+    overrun(
+        "the same with deadline = W - 1",
+        b"deadline=117\nworst=62\nbest=40\nalpha=2000\nbeta=196000\nhold=0\npoints=0\n",
+        refusal(8, 0),
+    );
+    overrun(
+        "the same with deadline = period",
+        b"deadline=100\nworst=62\nbest=40\nalpha=2000\nbeta=196000\nhold=0\npoints=0\n",
+        refusal(8, 0),
+    );
+    case(
+        "deadline = worst - 1",
+        Planner,
+        b"board=7\ntasks=1\nswitch=0\ntask=5\nperiod=10\ndeadline=9\nworst=10\nbest=10\nalpha=1000\nbeta=10000\nhold=0\npoints=0\n",
+        refusal(8, 0),
+    );
+    case(
+        "deadline = worst - 1, reviewed",
+        Reviewer,
+        b"board=7\ntasks=1\nswitch=0\ntask=5\nperiod=10\ndeadline=9\nworst=10\nbest=10\nalpha=1000\nbeta=10000\nhold=0\npoints=0\nrank=5\n",
+        refusal(7, 1),
+    );
+    case(
+        "deadline = 0",
+        Planner,
+        b"board=7\ntasks=1\nswitch=0\ntask=5\nperiod=10\ndeadline=0\n",
+        refusal(3, 6),
+    );
+    case(
+        "no deadline",
+        Planner,
+        b"board=7\ntasks=1\nswitch=0\ntask=5\nperiod=10\nworst=10\nbest=10\nalpha=1000\nbeta=10000\nhold=0\npoints=0\n",
+        refusal(1, 6),
     );
 }
 
@@ -356,4 +448,5 @@ fn main() {
     hold_cases();
     switch_cases();
     curve_cases();
+    deadline_cases();
 }

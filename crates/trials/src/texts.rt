@@ -65,13 +65,13 @@ impl fmt::Write for Text {
     }
 }
 
-// With what a row has beside document 01's lines: no hold and no points.
+// With what a row has beside document 01's lines: its period as its deadline, no hold and no points.
 impl fmt::Display for Row {
     fn fmt<W: fmt::Write>(&self, f: &mut fmt::Formatter<W>) -> fmt::Result {
         write!(
             f,
-            "task={}\nperiod={}\nworst={}\n",
-            self.task, self.period, self.worst
+            "task={}\nperiod={}\ndeadline={}\nworst={}\n",
+            self.task, self.period, self.period, self.worst
         )?;
         write!(
             f,
