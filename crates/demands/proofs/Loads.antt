@@ -1,5 +1,5 @@
--- A board with more load than it has room for: the lower of two such tasks is late in each order, since its busy interval
--- would bring more than there is room for in a multiple of all periods. So the planner says 8, and the reviewer 7.
+-- A board with more load than it has room for: the lower of two such tasks is late in each order, since a multiple of
+-- all periods brings more than it has room for. So the planner says 8, and the reviewer 7.
 use mathlib.Core.Path.{◌≡◌, refl, ap}
 use mathlib.Core.Bool.{true, false, not}
 use mathlib.Core.List.{List, [], ◌∷◌, ◌++◌}

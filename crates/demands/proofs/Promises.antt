@@ -1,5 +1,5 @@
--- An order of rows in range has its figures by the formulas. One in which no task is late has them as its plan's entries,
--- and every board keeps them.
+-- An order of rows in range has its figures by the formulas. One in which no task is late has them as its plan's
+-- entries, and every board keeps them.
 use mathlib.Core.Path.{◌≡◌, sym, ap, ◌∙◌, subst}
 use mathlib.Core.Bool.{Bool, true}
 use mathlib.Core.List.{List, [], Perm}

@@ -16,6 +16,7 @@ use Rattle.curves.specs.Curves.{well_formed, permitted, curve_margin}
 use Rattle.rows.specs.Rows.{max_task, max_ticks, cost}
 use Rattle.rows.specs.Rows.{Row}
 use Rattle.tables.specs.TableLines.{TableRead, read_table}
+use Rattle.responses.specs.declared.Load.{Load}
 use Rattle.responses.specs.Extremes.{smallest, largest}
 use Rattle.responses.specs.BusyIntervals.{jobs_in, longest_response, latest_by}
 use Rattle.responses.specs.Figures.{worst_load, best_load, worst_in, best_in, blocking, finish_of, is_late}
@@ -126,6 +127,9 @@ interval deadline =
 
 -- ---- one whose second job is not found: it would take 1,200,000 ticks, or more
 module _ where
+  abbrev loads : List Load
+  loads = map worst_load (half ∷ [])
+
   abbrev brought : ℕ → ℕ
   brought w = ceiling w 400000 * 200000
 
@@ -136,16 +140,19 @@ module _ where
 
   second_not_found : NotFound (finish_of three_quarters (half ∷ []) []) 400000 1
   unfolding cost blocking
-  second_not_found = record { goes_on = goes_on; none = sym (least_none 600000 max_ticks (map worst_load (half ∷ [])) never) }
+  second_not_found = record {
+    goes_on = goes_on;
+    none = sym (least_none 600000 max_ticks loads never);
+  }
     where
       never : (v : ℕ) → 1 ≤ v → v ≡ 600000 + worst_in v (half ∷ []) → v ≤ max_ticks → ⊥
       never v some is most = omega (arith, brings v, ceiling_covers v 400000 (omega arith))
 
       goes_on : (j : ℕ) → j < 1 → suc j * 400000 < finish_of three_quarters (half ∷ []) [] j
       goes_on zero h =
-          let first = least_least 300000 max_ticks (map worst_load (half ∷ [])) 700000 (omega arith) refl (omega arith) in
-          let w = least_fixed 300000 max_ticks (map worst_load (half ∷ [])) in
-          let is = (least_fixed_lem 300000 max_ticks (map worst_load (half ∷ [])) first.0).0 in
+          let first = least_least 300000 max_ticks loads 700000 (omega arith) refl (omega arith) in
+          let w = least_fixed 300000 max_ticks loads in
+          let is = (least_fixed_lem 300000 max_ticks loads first.0).0 in
           omega (arith, first.0, is, brings w, ceiling_covers w 400000 (omega arith))
       goes_on (suc j) h = absurd (omega arith)
 

@@ -17,9 +17,9 @@ use Rattle.plans.specs.Outcomes.{writes, refuses}
 use Rattle.demands.specs.Calls.{planned, planner_prints, reviewer_prints}
 
 -- a row under rows above it, over any rows that hold nothing, and its E, W, jitter and margin; a late row; a row
--- between rows above it and below it; such a row and the w(q) of its busy interval in sequence; a table's rows and the
--- tasks of its order; a text and its whole plan; a text and its refusal; a text and what the planner's or the reviewer's
--- program prints
+-- between rows above it and below it; such a row and the w(q) of its busy interval in sequence; a table's rows and
+-- the tasks of its order; a text and its whole plan; a text and its refusal; a text and what the planner's or the
+-- reviewer's program prints
 pub data Case : Type 0 where
   figures : Row → List Row → ℕ → ℕ → ℕ → ℤ → Case
   late : Row → List Row → Case
@@ -129,7 +129,8 @@ abbrev pub eleven_above : List ℕ
 eleven_above = lined (
     "board=7" ∷ "tasks=2" ∷ "switch=0"
     ∷ "task=11" ∷ "period=24" ∷ "deadline=24" ∷ "worst=6" ∷ "best=6" ∷ "alpha=1000" ∷ "beta=8000" ∷ "hold=0" ∷ "points=0"
-    ∷ "task=13" ∷ "period=200" ∷ "deadline=200" ∷ "worst=19" ∷ "best=17" ∷ "alpha=3000" ∷ "beta=57000" ∷ "hold=0" ∷ "points=0"
+    ∷ "task=13" ∷ "period=200" ∷ "deadline=200" ∷ "worst=19" ∷ "best=17" ∷ "alpha=3000" ∷ "beta=57000" ∷ "hold=0"
+    ∷ "points=0"
     ∷ "rank=11" ∷ "rank=13"
     ∷ [])
 
@@ -193,7 +194,8 @@ of_holds =
 abbrev pub alone_under : List String → String → String → String → List ℕ
 alone_under head worst best hold =
     lined head
-    ++ lined ("task=1" ∷ "period=10" ∷ "deadline=10" ∷ worst ∷ best ∷ "alpha=1000" ∷ "beta=10000" ∷ hold ∷ "points=0" ∷ [])
+    ++ lined (
+    "task=1" ∷ "period=10" ∷ "deadline=10" ∷ worst ∷ best ∷ "alpha=1000" ∷ "beta=10000" ∷ hold ∷ "points=0" ∷ [])
 
 -- under a switch, by its line
 abbrev pub one_under : String → String → String → String → List ℕ
@@ -369,8 +371,10 @@ row22 deadline = row 22 100 deadline 62 40 1000 1000000 0 0
 abbrev pub overrun : String → List ℕ
 overrun deadline = lined (
     "board=7" ∷ "tasks=2" ∷ "switch=0"
-    ∷ "task=21" ∷ "period=70" ∷ "deadline=70" ∷ "worst=26" ∷ "best=26" ∷ "alpha=1000" ∷ "beta=26000" ∷ "hold=0" ∷ "points=0"
-    ∷ "task=22" ∷ "period=100" ∷ deadline ∷ "worst=62" ∷ "best=40" ∷ "alpha=1000" ∷ "beta=1000000" ∷ "hold=0" ∷ "points=0"
+    ∷ "task=21" ∷ "period=70" ∷ "deadline=70" ∷ "worst=26" ∷ "best=26" ∷ "alpha=1000" ∷ "beta=26000" ∷ "hold=0"
+    ∷ "points=0"
+    ∷ "task=22" ∷ "period=100" ∷ deadline ∷ "worst=62" ∷ "best=40" ∷ "alpha=1000" ∷ "beta=1000000" ∷ "hold=0"
+    ∷ "points=0"
     ∷ [])
 
 abbrev pub overrun_plan : List ℕ
@@ -393,8 +397,8 @@ alone_plan = lined (
 
 abbrev pub of_deadlines : List Case
 of_deadlines =
-    -- the responses of the seven jobs are 114, 102, 116, 104, 118, 106 and 94: W is that of the fifth, within a deadline
-    -- of 118 or more, past one of 117
+    -- the responses of the seven jobs are 114, 102, 116, 104, 118, 106 and 94: W is that of the fifth, within a
+    -- deadline of 118 or more, past one of 117
     busy (row22 118) (row21 ∷ []) [] (114 ∷ 202 ∷ 316 ∷ 404 ∷ 518 ∷ 606 ∷ 694 ∷ [])
     ∷ figures (row22 118) (row21 ∷ []) 40 118 78 (pos 882000)
     ∷ figures (row22 1000000) (row21 ∷ []) 40 118 78 (pos 882000)
@@ -409,7 +413,8 @@ of_deadlines =
     -- each job of its own takes the switch, and each above
     ∷ busy (row 22 100 118 61 40 1000 1000000 0 1) (row 21 70 70 25 25 1000 26000 0 1 ∷ []) []
     (114 ∷ 202 ∷ 316 ∷ 404 ∷ 518 ∷ 606 ∷ 694 ∷ [])
-    ∷ figures (row 22 100 1000000 60 40 1000 1000000 0 1) (row 21 70 70 25 25 1000 26000 0 1 ∷ []) 40 113 73 (pos 887000)
+    ∷ figures (row 22 100 1000000 60 40 1000 1000000 0 1) (row 21 70 70 25 25 1000 26000 0 1 ∷ []) 40 113 73
+    (pos 887000)
     -- E is the largest solution, or its best where it may hold the processor for 2 ticks
     ∷ figures (row 22 100 118 62 60 1000 1000000 0 0) (row21 ∷ []) 86 118 32 (pos 882000)
     ∷ figures (row 22 100 118 62 60 1000 1000000 2 0) (row21 ∷ []) 60 118 58 (pos 882000)
@@ -442,8 +447,8 @@ of_deadlines =
     ∷ refusal (due_alone ("deadline=10" ∷ "period=10" ∷ [])) 1 5
     ∷ []
 
--- ---- more than a board has room for: by the longest deadlines too the lower of these tasks is late in each order, since
--- its later jobs are done ever later, and one of them not by tick 1,000,000
+-- ---- more than a board has room for: by the longest deadlines too the lower of these tasks is late in each order,
+-- since its later jobs are done ever later, and one of them not in 1,000,000 ticks
 abbrev pub heavy : ℕ → Row
 heavy task = row task 10 1000000 6 6 1000 1000000 0 0
 

@@ -134,8 +134,8 @@ pub record FirstLate (order : List Row) (k : ℕ) : Type 0 where
   pub late : is_late (row_at order k) (rows_above order k) (rows_below order k) ≡ true
   pub above_in_time : (j : ℕ) → j < k → is_late (row_at order j) (rows_above order j) (rows_below order j) ≡ false
 
--- an accepted text: 7 exactly for the first rank that is late by the formulas, counted from 1; else the plan of the order
--- given
+-- an accepted text: 7 exactly for the first rank that is late by the formulas, counted from 1; else the plan of the
+-- order given
 pub record OrderReview (room board : ℕ) (order : List Row) (w : Outcome) : Type 0 where
   pub by_formulas : ByFormulas order
   pub seven : (k : ℕ) → (w ≡ refuses 7 (suc k)) ↔ FirstLate order k

@@ -1,8 +1,8 @@
 -- Nothing is demanded in vain: texts and orders that meet each condition that the demands name (boards/specs/Witnesses
 -- has the runs), both sides of the most tasks, and lines that fill the room of a plan. And outcomes that weaker demands
 -- would admit, each excluded.
-use Rattle.std.specs.Prelude.{◌≡◌, true, false, List, [], ◌∷◌, ◌++◌, map, ℕ, zero, suc, ◌+◌, ◌-◌, ◌*◌, ◌/◌, ◌^◌, ◌≤◌, ◌<◌}
-use Rattle.std.specs.Prelude.{length, drop}
+use Rattle.std.specs.Prelude.{◌≡◌, true, false, List, [], ◌∷◌, ◌++◌, map, ℕ, zero, suc, ◌+◌, ◌-◌, ◌*◌, ◌/◌, ◌^◌}
+use Rattle.std.specs.Prelude.{◌≤◌, ◌<◌, length, drop}
 use Prim.Native.String.{String}
 use Rattle.text.specs.Text.{bytes, lined, decimal, key_line}
 use Rattle.rows.specs.Rows.{max_task, max_ticks, min_alpha, max_beta, min_hold, min_switch, max_switch, max_tasks, max_buffer}
@@ -176,22 +176,23 @@ pub record Met : Type 0 where
   pub tells_curved : Tells false curved_text 7 curved_rows []
   pub by_rule_curved : ByRule curved_rows curved_rows
   pub line_fails : EveryOrderFails (map (with_curve []) curved_rows)
-  -- a table with a task that overruns its period, with an order that it does not have with its period as deadline; and a
-  -- deadline that is the period
+  -- a table with a task that overruns its period, with an order that it does not have with its period as deadline; and
+  -- a deadline that is the period
   pub tells_overrun : Tells false (overrun "deadline=118") 7 (row21 ∷ row22 118 ∷ []) []
   pub by_rule_overrun : ByRule (row21 ∷ row22 118 ∷ []) (row21 ∷ row22 118 ∷ [])
   pub period_fails : EveryOrderFails (row21 ∷ row22 100 ∷ [])
   pub due_at_period : (row_at example_order 2).deadline ≡ (row_at example_order 2).period
-  -- a busy interval by equation 4: it has seven jobs, and the fifth has the longest response; it is past a deadline of 117;
-  -- and a window that has room for all that it brings
+  -- a busy interval by equation 4: it has seven jobs, and the fifth has the longest response; it is past a deadline of
+  -- 117; and a window that has room for all that it brings
   pub interval : Equation4 (finish_of (row22 118) (row21 ∷ []) []) 100 118 6
   pub interval_late : Equation4 (finish_of (row22 117) (row21 ∷ []) []) 100 118 6
   pub window_fits : ceiling 700 100 * cost (row22 118) + blocking [] + worst_in 700 (row21 ∷ []) ≤ 700
-  -- one whose second job is not found by tick 1,000,000; and a window that brings more than it has room for, a multiple of
-  -- both periods
+  -- one whose second job is not found in 1,000,000 ticks; and a window that brings more than it has room for, a
+  -- multiple of both periods
   pub second_not_found : NotFound (finish_of three_quarters (half ∷ []) []) 400000 1
   pub window_heavy : 400000 < ceiling 400000 400000 * cost three_quarters + worst_in 400000 (half ∷ [])
-  -- W at tick 1,000,000 is found and in time by the longest deadline, and a tick past it, over a hold of 2, it is not found
+  -- a W of 1,000,000 is found, and is in time by the longest deadline; over a hold of 2 it would be a tick more, and is
+  -- not found
   pub limit_reached : latest (tenth max_task) (tenths 9) [] ≡ max_ticks
   pub limit_past : NotFound (finish_of (tenth max_task) (tenths 9) (holding13 2 ∷ [])) max_ticks 0
   -- rows as they are lent, with their deadline, their curve and their switch

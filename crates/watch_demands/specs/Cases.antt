@@ -188,8 +188,8 @@ sample_order = rows_for (2 ∷ 1 ∷ []) sample_rows
 abbrev pub sample_offset : ℕ → ℕ
 sample_offset = offset_of sample_rows (2 ∷ 1 ∷ []) (1 ∷ 1 ∷ [])
 
--- the rows of the runs in which task 2, below task 1, overruns its period, with its deadline; both are first released on
--- tick 0
+-- the rows of the runs in which task 2, below task 1, overruns its period, with its deadline; both are first released
+-- on tick 0
 abbrev pub overrun_rows : ℕ → List Row
 overrun_rows deadline2 = row 1 10 10 4 1 1000 0 0 1 ∷ row 2 6 deadline2 2 2 1000 0 0 1 ∷ []
 
