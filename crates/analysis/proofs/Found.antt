@@ -10,7 +10,7 @@ use Rattle.rows.specs.Rows.{Row, max_ticks, cost, times_in_range, all_rows}
 use Rattle.rows.proofs.Limits.{Times, times, in_range_times, head_passes, tail_passes}
 use Rattle.responses.specs.declared.Load.{Load}
 use Rattle.responses.specs.Interference.{interference, largest_fixed}
-use Rattle.responses.specs.BusyIntervals.{latest_by}
+use Rattle.responses.specs.BusyIntervals.{latest_within}
 use Rattle.responses.specs.Figures.{worst_load, best_load, blocking, may_hold, latest, earliest}
 use Rattle.responses.proofs.Responses.{responses}
 use Rattle.fixed_points.specs.inside.Loads.{loads_max, no_load, Loads}
@@ -69,9 +69,9 @@ module _ {t : Row} {b : ℕ} {worst best : List Load} (p : Under t b worst best)
 -- ---- the responses found by loads are those of the rows
 module _ (t : Row) {b : ℕ} {worst best : List Load} {rows : List Row} (below : List Row) (f : Filled rows worst best)
     (blocked : b ≡ blocking below) where
-  pub latest_found : latest_by (finishes (cost t) b worst) t.period t.deadline ≡ latest t rows below
+  pub latest_found : latest_within (finishes (cost t) b worst) t.period t.deadline ≡ latest t rows below
   latest_found =
-      ap₂ (λ (c : ℕ) (ls : List Load). latest_by (finishes (cost t) c ls) t.period t.deadline) blocked f.worst_is
+      ap₂ (λ (c : ℕ) (ls : List Load). latest_within (finishes (cost t) c ls) t.period t.deadline) blocked f.worst_is
 
   pub earliest_found : (w e : ℕ) → w ≡ latest t rows below
       → e ≡ pick (may_hold t) t.best (largest_fixed t.best w best) → e ≡ earliest t rows below
@@ -85,7 +85,7 @@ pub record Found (t : Row) (best : List Load) (w : ℕ) : Type 0 where
   pub earliest_latest : (e : ℕ) → e ≡ pick (may_hold t) t.best (largest_fixed t.best w best) → e ≤ w
 
 pub found : {t : Row} {b : ℕ} {worst best : List Load} (w : ℕ) → Under t b worst best
-    → w ≡ latest_by (finishes (cost t) b worst) t.period t.deadline → 1 ≤ w → Found t best w
+    → w ≡ latest_within (finishes (cost t) b worst) t.period t.deadline → 1 ≤ w → Found t best w
 found {t} {b} {worst} {best} w p e h =
     let i = e ∙ latest_found t p.below p.filled p.blocked_is in
     let ht = in_range_times t p.is_in_range in

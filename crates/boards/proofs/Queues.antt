@@ -68,16 +68,16 @@ module _ (offset : ℕ → ℕ) (need : ℕ → ℕ → ℕ) where
   length_released i t (r ∷ rs) [] e = e
   length_released i t (r ∷ rs) (q ∷ qs) e = ap suc (length_released (suc i) t rs qs (suc_inj e))
 
-  pub released_at_lem : (i t : ℕ) (order : List Row) (qs : List (List Job)) (j : ℕ) → length qs ≡ length order
+  pub released_at : (i t : ℕ) (order : List Row) (qs : List (List Job)) (j : ℕ) → length qs ≡ length order
       → j < length order
       → queue_at (with_releases i t order offset need qs) j
       ≡ with_release (need (i + j)) (row_at order j) (offset (i + j)) t (queue_at qs j)
-  released_at_lem i t [] qs j e l = absurd (not-suc-le-zero l)
-  released_at_lem i t (r ∷ rs) [] j e l = absurd (omega arith)
-  released_at_lem i t (r ∷ rs) (q ∷ qs) zero e l = rw add-zero
-  released_at_lem i t (r ∷ rs) (q ∷ qs) (suc j) e l =
+  released_at i t [] qs j e l = absurd (not-suc-le-zero l)
+  released_at i t (r ∷ rs) [] j e l = absurd (omega arith)
+  released_at i t (r ∷ rs) (q ∷ qs) zero e l = rw add-zero
+  released_at i t (r ∷ rs) (q ∷ qs) (suc j) e l =
       let s : i + suc j ≡ suc i + j = omega arith in
-      rw s (released_at_lem (suc i) t rs qs j (suc_inj e) (le_of_suc-le-suc l))
+      rw s (released_at (suc i) t rs qs j (suc_inj e) (le_of_suc-le-suc l))
 
 -- ---- the highest rank with a job
 pub highest_after : (qs : List (List Job)) (j : ℕ) → j < highest qs → queue_at qs j ≡ []

@@ -27,7 +27,7 @@ use Rattle.boards.proofs.Service.{service, service_above, work_above, sum_servic
 use Rattle.boards.proofs.Service.{Last, crossing, Run, service_within, quiet_each, last_quiet, busy, room}
 use Rattle.boards.proofs.Stretches.{runs_in, began_in, hold_of}
 use Rattle.boards.proofs.Traces.{release_of, released_of, work_of, trace, unserved, served_after}
-use Rattle.boards.proofs.Traces.{finish_of_lem, of_finish, finish_once}
+use Rattle.boards.proofs.Traces.{finish_told, of_finish, finish_once}
 use Rattle.boards.proofs.Ranks.{best_part, best_above, hold_below}
 use Rattle.boards.proofs.Windows.{periods, needs, needs_best, window_most, window_least, window_above}
 
@@ -167,7 +167,7 @@ module _ (order : List Row) (offset : ℕ → ℕ) (need : ℕ → ℕ → ℕ) 
           suc x.0,
           done_released i k (suc x.0) l x.3,
           omega (arith, x.1),
-          finish_of_lem order offset need keeps period_some need_some i x.0 k l x.2 x.3,
+          finish_told order offset need keeps period_some need_some i x.0 k l x.2 x.3,
         )
 
   -- ---- not early

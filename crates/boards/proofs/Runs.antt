@@ -22,7 +22,7 @@ use Rattle.boards.proofs.Releases.{needed, needed_grows}
 use Rattle.boards.proofs.Service.{service, service_step, service_grows, service_most, Run, own_tick}
 use Rattle.boards.proofs.Stretches.{hold_of, board_before, on_in, runs_in, began_in, runs_on, off}
 use Rattle.boards.proofs.Stretches.{began_new, left_some, left_on, left_new, not_ended, rank_on}
-use Rattle.boards.proofs.Traces.{release_of, work_of, trace, unserved, finished_rank, finish_of_lem, of_finish}
+use Rattle.boards.proofs.Traces.{release_of, work_of, trace, unserved, finished_rank, finish_told, of_finish}
 use Rattle.boards.proofs.Ranks.{hold_below}
 use Rattle.boards.proofs.Windows.{periods, needs}
 use Rattle.boards.proofs.Turns.{Turn, one_turn, some_turn, takes_of, turn_of, ends_not, not_ends}
@@ -255,7 +255,7 @@ module _ (order : List Row) (offset : ℕ → ℕ) (need : ℕ → ℕ → ℕ) 
         let whole = ahead k (need 0 k) (on_time k) (omega arith) in
         let done = subst (λ u. needed (need 0) (suc k) ≤ service runs 0 u) (sym next) whole in
         subst (Finishes order offset need keeps 0 (release 0 k)) next
-        (finish_of_lem order offset need keeps periods needs 0 t k l (omega arith) done)
+        (finish_told order offset need keeps periods needs 0 t k l (omega arith) done)
 
   -- ---- all together
   all_runs : BoardRuns order offset need keeps

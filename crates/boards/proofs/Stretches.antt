@@ -16,7 +16,7 @@ use Rattle.rows.specs.Rows.{row_at}
 use Rattle.rows.specs.Rows.{Row}
 use Rattle.boards.specs.Boards.{Job, Board, with_releases, highest, queue_at, ends, goes_on, after_ticks}
 use Rattle.boards.proofs.Queues.{HasJob, queue_there, worked_has, released_has, length_none, length_released}
-use Rattle.boards.proofs.Queues.{released_at_lem, highest_at, length_worked, worked_same}
+use Rattle.boards.proofs.Queues.{released_at, highest_at, length_worked, worked_same}
 
 -- rank j's hold
 abbrev pub hold_of : List Row → ℕ → ℕ
@@ -120,7 +120,7 @@ module _ (order : List Row) (offset : ℕ → ℕ) (need : ℕ → ℕ → ℕ) 
       (worked_has (queue_at (queues_in t) m) (not_ended t (left_some (suc t) e))) in
       let n = ranks_before (suc t) in
       let l : m < length order = omega (arith, queue_there (board_before (suc t)).pending m o) in
-      rw (released_at_lem offset need 0 (suc t) order (board_before (suc t)).pending m n l, zero-add m)
+      rw (released_at offset need 0 (suc t) order (board_before (suc t)).pending m n l, zero-add m)
       (released_has (need m) (row_at order m) (offset m) (suc t) (queue_at (board_before (suc t)).pending m) o)
 
   pub rank_on : (t : ℕ) → on_in t ≡ true → runs_in t < length order

@@ -20,7 +20,7 @@ use Rattle.boards.specs.Claims.{Finishes}
 use Rattle.boards.proofs.Releases.{released, released_grows, unreleased, needed, needed_grows, needed_one}
 use Rattle.boards.proofs.Releases.{release_yes, release_no}
 use Rattle.boards.proofs.Service.{mark, service, service_step, served_by, Run, service_within}
-use Rattle.boards.proofs.Queues.{HasJob, new_job, queue_there, none_at, released_at_lem, highest_after}
+use Rattle.boards.proofs.Queues.{HasJob, new_job, queue_there, none_at, released_at, highest_after}
 use Rattle.boards.proofs.Queues.{worked_same, worked_other, done_append, ends_tick, tick_ends}
 use Rattle.boards.proofs.Backlog.{Oldest, Backlog, backlog_release, backlog_under, backlog_worked}
 use Rattle.boards.proofs.Stretches.{board_before, queues_in, on_in, runs_in, began_in, hold_of, ranks_before, ranks_in}
@@ -57,7 +57,7 @@ module _ (order : List Row) (offset : ℕ → ℕ) where
           → BacklogOf j t x qs → BacklogOf j (suc t) x (with_releases 0 t order offset need qs)
       backlog_released j t x qs n l b =
           let r = row_at order j in
-          rw (released_at_lem offset need 0 t order qs j n l, zero-add j) (elim (test_of (releases r (offset j) t)) [
+          rw (released_at offset need 0 t order qs j n l, zero-add j) (elim (test_of (releases r (offset j) t)) [
             | inl e ↦ (let y = release_yes r (offset j) t (periods j l) e in
                 rw (e, y.2) (backlog_release (release_of j) (need j) (λ k. needs j k l) (released_of j t) x
                 (queue_at qs j) (new_job (need j) r (offset j) t) (sym y.0) (ap (need j) y.1) b))
@@ -199,10 +199,10 @@ module _ (order : List Row) (offset : ℕ → ℕ) (need : ℕ → ℕ → ℕ) 
   ]
 
   -- the tick that completes the work of job k finishes it
-  pub finish_of_lem : (j t k : ℕ) → j < length order → service runs j t < needed (need j) (suc k)
+  pub finish_told : (j t k : ℕ) → j < length order → service runs j t < needed (need j) (suc k)
       → needed (need j) (suc k) ≤ service runs j (suc t)
       → Finishes order offset need keeps j (release j k) (suc t)
-  finish_of_lem j t k l a b = elim (test_of (eqb (runs t) j)) [
+  finish_told j t k l a b = elim (test_of (eqb (runs t) j)) [
     | inl e ↦ (
         let r = eqb-true (runs t) j e in
         let s = service_step runs j t r in

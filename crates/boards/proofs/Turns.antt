@@ -20,7 +20,7 @@ use Rattle.boards.proofs.Releases.{released_before_lem, unreleased, needed, need
 use Rattle.boards.proofs.Service.{service, service_step, service_grows}
 use Rattle.boards.proofs.Stretches.{queues_in, runs_in}
 use Rattle.boards.proofs.Traces.{release_of, released_of, work_of, oldest, trace, unserved}
-use Rattle.boards.proofs.Traces.{finish_of_lem, of_finish}
+use Rattle.boards.proofs.Traces.{finish_told, of_finish}
 
 module _ (order : List Row) (offset : ℕ → ℕ) (need : ℕ → ℕ → ℕ) (keeps : ℕ → Bool)
     (periods : (j : ℕ) → j < length order → 1 ≤ (row_at order j).period)
@@ -186,7 +186,7 @@ module _ (order : List Row) (offset : ℕ → ℕ) (need : ℕ → ℕ → ℕ) 
       → Finishes order offset need keeps i (release i k) (suc t)
   finish_then i k t l n =
       let step = service_step runs i t n.turn.ran in
-      finish_of_lem order offset need keeps periods needs i t k l n.turn.unfinished
+      finish_told order offset need keeps periods needs i t k l n.turn.unfinished
       (omega (arith, n.turn.begun, n.turn.unfinished, share i k (suc t) l, n.whole))
 
   -- the tick before a finish

@@ -10,14 +10,14 @@ use Rattle.basics.proofs.Tests.{true_not_false}
 use Rattle.rows.specs.Rows.{row_at, cost}
 use Rattle.rows.specs.Rows.{Row}
 use Rattle.responses.specs.Extremes.{smallest, largest}
-use Rattle.responses.specs.BusyIntervals.{jobs_in, longest_response, latest_by}
+use Rattle.responses.specs.BusyIntervals.{jobs_in, longest_response, latest_within}
 use Rattle.responses.specs.Figures.{rows_above, rows_below, blocking, is_late}
 use Rattle.responses.specs.Claims.{NoneHolds, switched}
 use Rattle.boards.specs.Claims.{LastsInRange, AfterFirstReleases, NoneLate}
 use Rattle.boards.specs.Runs.{board_goes_to}
 use Rattle.boards.specs.Witnesses.{with_holds, example_order, held_order, switched_order, at_once, lasting}
 use Rattle.boards.specs.Witnesses.{never, NeedsByNumbers, RunsMet, HoldsCount, SwitchCounts}
-use Rattle.boards.specs.Witnesses.{overrun_order, released_at, OverrunsCount}
+use Rattle.boards.specs.Witnesses.{overrun_order, first_releases, OverrunsCount}
 
 -- of three ranks, each
 each : (P : ℕ → Type 0) → P 0 → P 1 → P 2 → (i : ℕ) → i < 3 → P i
@@ -30,11 +30,11 @@ abbrev InTime : List Row → ℕ → Type 0
 InTime order i = is_late (row_at order i) (rows_above order i) (rows_below order i) ≡ false
 
 in_time : NoneLate example_order
-unfolding smallest jobs_in longest_response latest_by cost blocking
+unfolding smallest jobs_in longest_response latest_within cost blocking
 in_time = each (InTime example_order) refl refl refl
 
 in_time_held : NoneLate held_order
-unfolding smallest jobs_in longest_response latest_by cost blocking
+unfolding smallest jobs_in longest_response latest_within cost blocking
 in_time_held = each (InTime held_order) refl refl refl
 
 no_hold_lem : (m l : ℕ) → m ≤ 1 → l ≤ 1 → NoneHolds (with_holds m l)
@@ -103,7 +103,7 @@ runs_met = record {
 }
 
 pub holds_count : HoldsCount
-unfolding smallest largest jobs_in longest_response latest_by cost blocking
+unfolding smallest largest jobs_in longest_response latest_within cost blocking
 holds_count = record {
   none_late = in_time_held;
   latest_is = refl;
@@ -125,7 +125,7 @@ holds_count = record {
 
 -- ---- under a switch
 pub switch_counts : SwitchCounts
-unfolding smallest largest jobs_in longest_response latest_by cost blocking
+unfolding smallest largest jobs_in longest_response latest_within cost blocking
 switch_counts = record {
   none_late = each (InTime switched_order) refl refl refl;
   latest_is = refl;
@@ -156,18 +156,18 @@ lasts_over c lower = lasts_by overrun_order need
     need : ℕ → ℕ → ℕ
     need = lasting (26 ∷ c ∷ [])
 
-held_over : AfterFirstReleases overrun_order (released_at (0 ∷ 30 ∷ [])) 1 730
+held_over : AfterFirstReleases overrun_order (first_releases (0 ∷ 30 ∷ [])) 1 730
 held_over zero l = omega arith
 held_over (suc j) l = absurd (omega arith)
 
 pub overruns_count : OverrunsCount
-unfolding smallest largest jobs_in longest_response latest_by cost blocking
+unfolding smallest largest jobs_in longest_response latest_within cost blocking
 overruns_count = record {
   none_late = either (InTime overrun_order) refl refl;
   lasts_latest = lasts_over 62 (omega arith, omega arith);
   jobs_are = refl;
   latest_is = refl;
-  first-is = refl;
+  first_is = refl;
   fifth_is = refl;
   last_is = refl;
   first_reached = refl;

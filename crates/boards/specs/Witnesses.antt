@@ -128,8 +128,8 @@ abbrev pub overrun_order : List Row
 overrun_order = row 21 70 70 26 26 1000 26000 0 0 ∷ row 22 100 118 62 40 1000 1000000 0 0 ∷ []
 
 -- first releases rank by rank
-abbrev pub released_at : List ℕ → ℕ → ℕ
-released_at ticks i = get_or ticks i 0
+abbrev pub first_releases : List ℕ → ℕ → ℕ
+first_releases ticks i = get_or ticks i 0
 
 -- w(q) of rank i
 abbrev pub finish_at : List Row → ℕ → ℕ → ℕ
@@ -142,7 +142,7 @@ pub record OverrunsCount : Type 0 where
   -- takes 114 and the last 94
   pub jobs_are : jobs_in (finish_at overrun_order 1) 100 ≡ 7
   pub latest_is : latest_at overrun_order 1 ≡ 118
-  pub first-is : finish_at overrun_order 1 0 ≡ 114
+  pub first_is : finish_at overrun_order 1 0 ≡ 114
   pub fifth_is : finish_at overrun_order 1 4 ≡ 518
   pub last_is : finish_at overrun_order 1 6 ≡ 694
   -- in the run in which both are released at tick 0 and every job takes its worst, these jobs finish just then
@@ -156,9 +156,9 @@ pub record OverrunsCount : Type 0 where
   -- a job that is released a deadline or more after the first release above, and takes its earliest response, 40
   pub earliest_is : earliest_at overrun_order 1 ≡ 40
   pub lasts_earliest : LastsInRange overrun_order (lasting (26 ∷ 40 ∷ []))
-  pub held_early : AfterFirstReleases overrun_order (released_at (0 ∷ 30 ∷ [])) 1 730
+  pub held_early : AfterFirstReleases overrun_order (first_releases (0 ∷ 30 ∷ [])) 1 730
   pub earliest_reached :
-      Finishes overrun_order (released_at (0 ∷ 30 ∷ [])) (lasting (26 ∷ 40 ∷ [])) never 1 730 770
+      Finishes overrun_order (first_releases (0 ∷ 30 ∷ [])) (lasting (26 ∷ 40 ∷ [])) never 1 730 770
   -- over a hold of 5 each of the jobs is blocked once and not once for each: the first is done in 118 ticks, four more,
   -- and the fifth in 522
   pub held_first : finish_of (row_at overrun_order 1) (rows_above overrun_order 1) (row_at held_order 2 ∷ []) 0 ≡ 118

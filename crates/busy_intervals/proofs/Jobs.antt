@@ -15,7 +15,7 @@ use Rattle.basics.proofs.Numbers.{larger_left}
 use Rattle.rows.specs.Rows.{max_ticks}
 use Rattle.responses.specs.declared.Load.{Load}
 use Rattle.responses.specs.Interference.{interference, least_fixed}
-use Rattle.responses.specs.BusyIntervals.{longest, latest_by}
+use Rattle.responses.specs.BusyIntervals.{longest, latest_within}
 use Rattle.responses.proofs.Sums.{interference_mono}
 use Rattle.responses.proofs.FixedPoints.{fixed_below, demand_mono, least_fixed_lem, least_least}
 use Rattle.responses.proofs.BusyIntervals.{Counts, latest_here, late_here}
@@ -80,7 +80,7 @@ module _ (cost blocked period deadline : ℕ) (ls : List Load) (t : InLimits cos
   w q = finishes cost blocked ls q
 
   abbrev latest : ℕ
-  latest = latest_by w period deadline
+  latest = latest_within w period deadline
 
   period_some : 1 ≤ period
   period_some = omega (arith, t.cost_some, t.cost_period)
@@ -95,8 +95,8 @@ module _ (cost blocked period deadline : ℕ) (ls : List Load) (t : InLimits cos
   }
 
   -- ---- the first job
-  pub first_late_lem : least_fixed (cost + blocked) deadline ls ≡ 0 → 0 ≡ latest
-  first_late_lem z =
+  pub first_late : least_fixed (cost + blocked) deadline ls ≡ 0 → 0 ≡ latest
+  first_late z =
       let base : suc 0 * cost + blocked ≡ cost + blocked = omega arith in
       let none : least_fixed (suc 0 * cost + blocked) deadline ls ≡ 0 =
       ap (λ (b : ℕ). least_fixed b deadline ls) base ∙ z in

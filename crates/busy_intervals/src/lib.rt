@@ -3,7 +3,7 @@
 
 ghost use Rattle.std.specs.Prelude.{◌≡◌, ◌+◌, ◌≤◌};
 ghost use Rattle.rows.specs.Rows.{max_ticks};
-ghost use Rattle.responses.specs.BusyIntervals.{latest_by};
+ghost use Rattle.responses.specs.BusyIntervals.{latest_within};
 ghost use Rattle.fixed_points.specs.inside.Values.{found};
 ghost use Rattle.busy_intervals.specs.inside.Finishes.{finishes, limit_for, InLimits};
 
@@ -38,7 +38,7 @@ fn limit_for(due: u64) -> u64
 // job more takes a cost more, so no solution lies below the last and that cost. A search that finds none up to the
 // deadline of its job shows the task late.
 pub fn latest_response(task: Times, above: Tasks) -> Option<u64>
-    ensures { result ≡ found (latest_by (finishes task.cost task.blocked above.entry.loads.now)
+    ensures { result ≡ found (latest_within (finishes task.cost task.blocked above.entry.loads.now)
         task.period task.deadline) }
 {
     let mut base = task.cost + task.blocked;

@@ -7,7 +7,7 @@ use Rattle.grammars.specs.Grammars.{read_for}
 use Rattle.tables.specs.TableLines.{read_table}
 use Rattle.rows.specs.Rows.{cost}
 use Rattle.responses.specs.Extremes.{smallest, largest}
-use Rattle.responses.specs.BusyIntervals.{jobs_in, longest_response, latest_by}
+use Rattle.responses.specs.BusyIntervals.{jobs_in, longest_response, latest_within}
 use Rattle.responses.specs.Figures.{blocking}
 use Rattle.orders.specs.Orders.{over_set}
 use Rattle.plans.specs.Plans.{rank_text, head_text, plan_text, refusal_text}
@@ -21,6 +21,6 @@ cuts_so = (refl, (refl, (refl, (refl, (refl, (refl, (refl, (refl, (refl, (refl, 
 
 pub cranes_so : AllSo cranes
 unfolding digits decimal signed key_line number_of line_at form_at read_for read_table cost blocking smallest largest
-    jobs_in longest_response latest_by over_set rank_text head_text plan_text refusal_text fitted on_table if_ordered
+    jobs_in longest_response latest_within over_set rank_text head_text plan_text refusal_text fitted on_table if_ordered
     crane_text craned
 cranes_so = (refl, (refl, (refl, (refl, (refl, (refl, (refl, (refl, (refl, (refl, (refl, (refl, tt))))))))))))

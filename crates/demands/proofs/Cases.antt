@@ -14,7 +14,7 @@ use Rattle.curves.specs.Curves.{Point, point, permitted, curve_margin}
 use Rattle.rows.specs.Rows.{row, cost, with_deadline, with_switch, with_curve}
 use Rattle.rows.specs.Rows.{Row}
 use Rattle.responses.specs.Extremes.{smallest, largest}
-use Rattle.responses.specs.BusyIntervals.{jobs_in, longest_response, latest_by}
+use Rattle.responses.specs.BusyIntervals.{jobs_in, longest_response, latest_within}
 use Rattle.responses.specs.Figures.{blocking, is_late}
 use Rattle.responses.specs.Claims.{NoneHolds}
 use Rattle.responses.proofs.Blocking.{no_blocking}
@@ -48,7 +48,7 @@ late_over t above h below none =
 
 pub starred_so : AllSo starred
 unfolding digits decimal signed key_line number_of line_at form_at read_for read_table cost blocking smallest largest
-    jobs_in longest_response latest_by over_set rank_text head_text plan_text fitted on_table if_ordered
+    jobs_in longest_response latest_within over_set rank_text head_text plan_text fitted on_table if_ordered
 starred_so = (
   over (row13 57000) [] (refl, refl, refl, refl, refl),
   (
@@ -71,7 +71,7 @@ starred_so = (
 
 pub unstarred_so : AllSo unstarred
 unfolding digits decimal signed key_line number_of line_at form_at read_for read_table cost blocking smallest largest
-    jobs_in longest_response latest_by over_set rank_text head_text plan_text refusal_text fitted if_in_time on_table
+    jobs_in longest_response latest_within over_set rank_text head_text plan_text refusal_text fitted if_in_time on_table
     if_ordered
 unstarred_so = (refl, (refl, (refl, (refl, (refl, (refl, (refl, tt)))))))
 
@@ -81,7 +81,7 @@ tasks_so = (refl, tt)
 
 pub holds_so : AllSo of_holds
 unfolding digits decimal signed key_line number_of line_at form_at read_for read_table cost blocking smallest largest
-    jobs_in longest_response latest_by over_set rank_text head_text plan_text fitted on_table if_ordered
+    jobs_in longest_response latest_within over_set rank_text head_text plan_text fitted on_table if_ordered
 holds_so = (
   (refl, refl, refl, refl, refl),
   (
@@ -98,7 +98,7 @@ holds_so = (
 
 pub switch_so : AllSo of_switch
 unfolding digits decimal signed key_line number_of line_at form_at read_for read_table cost blocking smallest largest
-    jobs_in longest_response latest_by over_set rank_text head_text plan_text refusal_text fitted if_in_time on_table
+    jobs_in longest_response latest_within over_set rank_text head_text plan_text refusal_text fitted if_in_time on_table
     if_ordered
 switch_so = (
   over (with_switch 5 (row13 57000)) [] (refl, refl, refl, refl, refl),
@@ -132,7 +132,7 @@ judge : (c : List Point) {e w j : ℕ} {m : ℤ} → HasFigures (curved13 c) (ro
 judge c h = over (curved13 c) (row11 8000 ∷ row12 8000 ∷ []) h
 
 pub curves_so : AllSo of_curves
-unfolding cost blocking smallest largest jobs_in longest_response latest_by permitted curve_margin
+unfolding cost blocking smallest largest jobs_in longest_response latest_within permitted curve_margin
 curves_so =
     judge (point 30 10 ∷ []) (refl, refl, refl, refl, refl)
     also judge (point 25 12 ∷ []) (refl, refl, refl, refl, refl)
@@ -166,7 +166,7 @@ curves_so =
 
 pub curve_texts_so : AllSo of_curve_texts
 unfolding digits decimal signed key_line number_of line_at form_at read_for read_table cost blocking smallest largest
-    jobs_in longest_response latest_by permitted curve_margin over_set rank_text head_text plan_text refusal_text
+    jobs_in longest_response latest_within permitted curve_margin over_set rank_text head_text plan_text refusal_text
     fitted if_in_time on_table if_ordered
 curve_texts_so =
     refl also refl also refl also refl also refl also refl also refl also refl
@@ -176,7 +176,7 @@ curve_texts_so =
 
 pub deadlines_so : AllSo of_deadlines
 unfolding digits decimal signed key_line number_of line_at form_at read_for read_table cost blocking smallest largest
-    jobs_in longest_response latest_by over_set rank_text head_text plan_text refusal_text fitted if_in_time on_table
+    jobs_in longest_response latest_within over_set rank_text head_text plan_text refusal_text fitted if_in_time on_table
     if_ordered
 deadlines_so =
     refl

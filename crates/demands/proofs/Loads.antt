@@ -20,7 +20,7 @@ use Rattle.tables.specs.TableLines.{read_table}
 use Rattle.tables.specs.Claims.{Tells}
 use Rattle.responses.specs.Extremes.{smallest}
 use Rattle.responses.specs.Interference.{ceiling}
-use Rattle.responses.specs.BusyIntervals.{jobs_in, longest_response, latest_by}
+use Rattle.responses.specs.BusyIntervals.{jobs_in, longest_response, latest_within}
 use Rattle.responses.specs.Figures.{rows_above, rows_below, worst_in, blocking, is_late, margin}
 use Rattle.responses.specs.Claims.{Divides}
 use Rattle.responses.proofs.Finishes.{ends}
@@ -92,7 +92,7 @@ unfolding number_of line_at form_at read_for read_table
 ranked_told = telling true ranked_text refl
 
 lower_late : FirstLate heavy_order 1
-unfolding cost blocking smallest jobs_in longest_response latest_by
+unfolding cost blocking smallest jobs_in longest_response latest_within
 lower_late = record { there = omega arith; late = heavy_late 31 32 []; above_in_time = above }
   where
     above : (j : ℕ) → j < 1

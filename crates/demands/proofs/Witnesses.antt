@@ -18,7 +18,7 @@ use Rattle.rows.specs.Rows.{Row}
 use Rattle.tables.specs.TableLines.{TableRead, read_table}
 use Rattle.responses.specs.declared.Load.{Load}
 use Rattle.responses.specs.Extremes.{smallest, largest}
-use Rattle.responses.specs.BusyIntervals.{jobs_in, longest_response, latest_by}
+use Rattle.responses.specs.BusyIntervals.{jobs_in, longest_response, latest_within}
 use Rattle.responses.specs.Figures.{worst_load, best_load, worst_in, best_in, blocking, finish_of, is_late}
 use Rattle.responses.specs.Figures.{latest, earliest, margin_at}
 use Rattle.responses.specs.Interference.{ceiling, least_fixed}
@@ -158,7 +158,7 @@ module _ where
 
 pub met : Met
 unfolding digits decimal signed key_line number_of line_at form_at read_for read_table cost blocking smallest largest
-    jobs_in longest_response latest_by well_formed permitted curve_margin over_set rank_text head_text plan_text
+    jobs_in longest_response latest_within well_formed permitted curve_margin over_set rank_text head_text plan_text
     if_in_time on_table
 met =
     let late_told = telling true late_text refl in
@@ -246,7 +246,7 @@ unfolding number_of line_at form_at read_for read_table
 example_accepted = refl
 
 late_only : (room : ℕ) → reviewed late_text room ≡ refuses 7 3
-unfolding number_of line_at form_at read_for read_table cost blocking smallest jobs_in longest_response latest_by
+unfolding number_of line_at form_at read_for read_table cost blocking smallest jobs_in longest_response latest_within
     if_in_time on_table
 late_only room = refl
 

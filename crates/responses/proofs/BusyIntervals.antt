@@ -12,7 +12,7 @@ use Rattle.basics.specs.Basics.{pick, larger}
 use Rattle.basics.proofs.Tests.{test_of, le-or-lt}
 use Rattle.basics.proofs.Numbers.{larger_left, larger_right}
 use Rattle.rows.specs.Rows.{max_ticks}
-use Rattle.responses.specs.BusyIntervals.{ends_with, jobs_in, longest, longest_response, latest_by}
+use Rattle.responses.specs.BusyIntervals.{ends_with, jobs_in, longest, longest_response, latest_within}
 use Rattle.responses.specs.Claims.{Equation4, NotFound}
 use Rattle.responses.proofs.FixedPoints.{smallest_takes, smallest_least}
 
@@ -173,14 +173,14 @@ module _ (w : ℕ → ℕ) (period : ℕ) (some : 1 ≤ period) (c : Counts w) w
   -- ---- within a deadline
   module _ (deadline : ℕ) where
     abbrev latest : ℕ
-    latest = latest_by w period deadline
+    latest = latest_within w period deadline
 
     pub in_deadline : response ≤ deadline → latest ≡ response
-    unfolding latest_by
+    unfolding latest_within
     in_deadline h = ap (λ (b : Bool). pick b response 0) (le-leb response deadline h)
 
     pub past_deadline : deadline < response → latest ≡ 0
-    unfolding latest_by
+    unfolding latest_within
     past_deadline h = ap (λ (b : Bool). pick b response 0) (lt-leb response deadline h)
 
     pub timely : 1 ≤ latest → (latest ≡ response) × (response ≤ deadline)

@@ -174,8 +174,8 @@ module _ (t : Row) (above below : List Row) where
         ]
 
     -- ---- of a task that is not late: w(0) is one job's, and at or below W
-    pub first-is : 1 ≤ W → w 0 ≡ cost t + blocking below + worst_in (w 0) above
-    first-is h =
+    pub first_is : 1 ≤ W → w 0 ≡ cost t + blocking below + worst_in (w 0) above
+    first_is h =
         let e = (latest_is (is_timely h)).1 in
         let f = (finish_fixed 0 (e.found 0 (omega arith))).0 in
         omega (arith, f)
@@ -253,8 +253,8 @@ module _ (t : Row) (above below : List Row) where
     abbrev v : ℕ
     v = least_fixed base t.deadline loads
 
-    first_late_lem : v ≡ 0 → (w 0 ≡ 0) ⊎ (0 * t.period + t.deadline < w 0)
-    first_late_lem z = elim (le-or-lt 1 (w 0)) [
+    first_late : v ≡ 0 → (w 0 ≡ 0) ⊎ (0 * t.period + t.deadline < w 0)
+    first_late z = elim (le-or-lt 1 (w 0)) [
       | inl a ↦ elim (le-or-lt (w 0) t.deadline) [
         | inl b ↦ (
             let i = (finish_fixed 0 a).0 in
@@ -288,7 +288,7 @@ module _ (t : Row) (above below : List Row) where
       | inr h ↦ (
           let z : v ≡ 0 = omega arith in
           late_here w t.period period_some counts t.deadline 0 (λ j a. absurd (omega (arith, a)))
-          (first_late_lem z)
+          (first_late z)
           ∙ sym z)
     ]
 

@@ -27,7 +27,7 @@ use Rattle.responses.proofs.Blocking.{blocks, no_blocking}
 use Rattle.responses.proofs.Switches.{by_numbers, without_switch, switch_grows}
 use Rattle.responses.proofs.FixedPoints.{largest_fixed_lem, largest_above}
 use Rattle.responses.proofs.Windows.{best_fits}
-use Rattle.responses.proofs.Finishes.{finish_fixed, finish_least, first-is, first_latest, latest_is, latest_max}
+use Rattle.responses.proofs.Finishes.{finish_fixed, finish_least, first_is, first_latest, latest_is, latest_max}
 use Rattle.responses.proofs.Finishes.{latest_if, late_is, late_past, late_not_found, not_late, is_timely}
 use Rattle.responses.proofs.Finishes.{ends, within_period}
 use Rattle.responses.proofs.Deadlines.{own_deadline}
@@ -61,7 +61,7 @@ responses t above below ht h k =
     let l = times t ht in
     let f : t.best + best_in (latest t above below) above ≤ latest t above below =
     best_fits t.best (cost t + blocking below) (finish_of t above below 0) above h l.best_some
-    (omega (arith, l.best_cost)) (first-is t above below ht k) (latest t above below)
+    (omega (arith, l.best_cost)) (first_is t above below ht k) (latest t above below)
     (first_latest t above below ht k) in
     let e = largest_fixed_lem t.best (latest t above below) (map best_load above) l.best_some f in
     let by_rank : t.hold ≤ 1 → earliest t above below ≡ formula t above below = earliest_formula t above below in

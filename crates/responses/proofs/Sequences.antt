@@ -19,7 +19,7 @@ use Rattle.rows.specs.Rows.{Row}
 use Rattle.responses.specs.Extremes.{smallest, largest}
 use Rattle.responses.specs.declared.Load.{Load}
 use Rattle.responses.specs.Interference.{ceiling, interference}
-use Rattle.responses.specs.BusyIntervals.{latest_by}
+use Rattle.responses.specs.BusyIntervals.{latest_within}
 use Rattle.responses.specs.Figures.{worst_load, best_load, worst_in, best_in, blocking, finish_of, latest, earliest}
 use Rattle.responses.specs.Figures.{largest_hold, may_hold, rows_above, rows_below, margin_at, late_figures, no_figures}
 use Rattle.responses.specs.Figures.{Answered, figures_at, figures_under, max_others, in_limits, figures_of}
@@ -45,7 +45,7 @@ module _ (t : Row) {xs ys bs cs : List Row} (s : Same xs ys bs cs) where
       (fun_ext (λ x. ap₂ (λ (h k : ℕ). eqb x (suc q * cost t + h + k)) s.blocking_same (s.worst_same x))))
 
   pub latest-same : latest t xs bs ≡ latest t ys cs
-  latest-same = ap (λ (w : ℕ → ℕ). latest_by w t.period t.deadline) finish_same
+  latest-same = ap (λ (w : ℕ → ℕ). latest_within w t.period t.deadline) finish_same
 
   pub earliest_same : earliest t xs bs ≡ earliest t ys cs
   earliest_same =

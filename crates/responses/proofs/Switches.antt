@@ -19,7 +19,7 @@ use Rattle.rows.specs.Rows.{Row}
 use Rattle.rows.proofs.Limits.{limits, Times, times, in_range_times}
 use Rattle.responses.specs.declared.Load.{Load}
 use Rattle.responses.specs.Interference.{least_fixed, largest_fixed}
-use Rattle.responses.specs.BusyIntervals.{latest_by}
+use Rattle.responses.specs.BusyIntervals.{latest_within}
 use Rattle.responses.specs.Figures.{worst_load, best_load, worst_in, largest_hold, blocking, finish_of, latest, is_late}
 use Rattle.responses.specs.Figures.{may_hold, earliest, margin_at, margin, is_stable}
 use Rattle.responses.specs.Claims.{switched_load, ByNumbers, plain_load, NoSwitch, WithoutSwitch}
@@ -28,7 +28,7 @@ use Rattle.responses.proofs.Blocking.{blocking_is}
 use Rattle.responses.proofs.Conditions.{eased}
 use Rattle.responses.proofs.BusyIntervals.{Counts, in_deadline, timely, response_mono}
 use Rattle.responses.proofs.Windows.{settled}
-use Rattle.responses.proofs.Finishes.{finish_fixed, finish_within, counts, first-is, first_latest, within_period}
+use Rattle.responses.proofs.Finishes.{finish_fixed, finish_within, counts, first_is, first_latest, within_period}
 
 -- ---- by the numbers of the rows
 pub cost_is : (r : Row) → cost r ≡ r.worst + r.switch
@@ -41,8 +41,8 @@ loads_by rs = refl
 
 pub by_numbers : (t : Row) (above below : List Row) → ByNumbers t above below
 by_numbers t above below = record {
-  latest_by_lem =
-      ap₂ (λ c ls. latest_by (λ q. least_fixed (suc q * c + blocking below) max_ticks ls) t.period t.deadline)
+  latest_by =
+      ap₂ (λ c ls. latest_within (λ q. least_fixed (suc q * c + blocking below) max_ticks ls) t.period t.deadline)
       (cost_is t) (loads_by above);
   earliest_by = refl;
 }
@@ -143,7 +143,7 @@ module _ (t : Row) (above below : List Row) (s : ℕ) (is_in_range : in_range t 
         let l = no_less h in
         let first = first_latest t above below ht l.0 in
         settled t.best (cost t + blocking below) (w 0) above ha own_times.best_some
-        (omega (arith, own_times.best_cost)) (first-is t above below ht l.0) before after first
+        (omega (arith, own_times.best_cost)) (first_is t above below ht l.0) before after first
         (omega (arith, first, l.1))
 
     same_earliest : earliest t above below ≡ earliest (with_switch s t) (switched s above) (switched s below)

@@ -28,7 +28,7 @@ longest_response w period =
     pick (eqb (w (n - 1)) 0) 0 (longest w period n)
 
 -- W where it is within a deadline, and else 0
-unfoldable pub latest_by : (ℕ → ℕ) → ℕ → ℕ → ℕ
-latest_by w period deadline =
+unfoldable pub latest_within : (ℕ → ℕ) → ℕ → ℕ → ℕ
+latest_within w period deadline =
     let longest = longest_response w period in
     pick (leb longest deadline) longest 0

@@ -15,7 +15,7 @@ use Rattle.rows.specs.Rows.{Row}
 use Rattle.rows.specs.Numbers.{field_count, rows_of, row_in}
 use Rattle.responses.specs.declared.Load.{Load}
 use Rattle.responses.specs.Interference.{load, ceiling, least_fixed, largest_fixed}
-use Rattle.responses.specs.BusyIntervals.{jobs_in, latest_by}
+use Rattle.responses.specs.BusyIntervals.{jobs_in, latest_within}
 use Rattle.responses.specs.Figures.{rows_above, rows_below, worst_load, best_load}
 use Rattle.responses.specs.Figures.{worst_in, best_in, blocking, finish_of, latest, is_late}
 use Rattle.responses.specs.Figures.{may_hold, earliest, jitter}
@@ -184,10 +184,10 @@ abbrev pub shortest_load : Row → Load
 shortest_load r = load r.period r.best
 
 pub record ByNumbers (t : Row) (above below : List Row) : Type 0 where
-  pub latest_by_lem :
+  pub latest_by :
       let w : ℕ → ℕ = λ q. least_fixed (suc q * (t.worst + t.switch) + blocking below) max_ticks
       (map switched_load above) in
-      latest t above below ≡ latest_by w t.period t.deadline
+      latest t above below ≡ latest_within w t.period t.deadline
   pub earliest_by :
       earliest t above below
       ≡ pick (may_hold t) t.best

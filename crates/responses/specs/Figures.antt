@@ -11,7 +11,7 @@ use Rattle.responses.specs.declared.NoFigures.{NoFigures}
 use Rattle.responses.specs.declared.NoFigures.TheVariants as N
 use Rattle.responses.specs.declared.Load.{Load}
 use Rattle.responses.specs.Interference.{load, interference, least_fixed, largest_fixed}
-use Rattle.responses.specs.BusyIntervals.{latest_by}
+use Rattle.responses.specs.BusyIntervals.{latest_within}
 
 -- the rows above row i of an order and those below it, all highest first
 abbrev pub rows_above : List Row → ℕ → List Row
@@ -51,7 +51,7 @@ finish_of t above below q = least_fixed (suc q * cost t + blocking below) max_ti
 
 -- W, the worst-case response time; 0 where the task is late
 abbrev pub latest : Row → List Row → List Row → ℕ
-latest t above below = latest_by (finish_of t above below) t.period t.deadline
+latest t above below = latest_within (finish_of t above below) t.period t.deadline
 
 -- late: misses its deadline, or a job of its busy interval is not found
 abbrev pub is_late : Row → List Row → List Row → Bool

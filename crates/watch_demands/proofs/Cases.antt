@@ -11,7 +11,7 @@ use Rattle.grammars.specs.Grammars.{read_for}
 use Rattle.grammars.proofs.Decision.{decides}
 use Rattle.rows.specs.Rows.{cost, row_at}
 use Rattle.responses.specs.Extremes.{smallest, largest}
-use Rattle.responses.specs.BusyIntervals.{jobs_in, longest_response, latest_by}
+use Rattle.responses.specs.BusyIntervals.{jobs_in, longest_response, latest_within}
 use Rattle.responses.specs.Figures.{blocking, rows_above, rows_below, is_late}
 use Rattle.boards.specs.Claims.{AfterFirstReleases, NoneLate}
 use Rattle.plans.specs.Plans.{refusal_text}
@@ -26,23 +26,23 @@ use Rattle.watch_demands.proofs.Texts.{watch_plain}
 
 pub runs_so : AllSo runs
 unfolding digits decimal signed key_line number_of line_at form_at read_for cost blocking smallest largest jobs_in
-    longest_response latest_by refusal_text fitted index_of rank_with job_text run_in_time watched
+    longest_response latest_within refusal_text fitted index_of rank_with job_text run_in_time watched
 runs_so = (refl, (refl, (refl, (refl, (refl, (refl, (refl, (refl, (refl, tt)))))))))
 
 pub overruns_so : AllSo overruns
 unfolding digits decimal signed key_line number_of line_at form_at read_for
-    cost blocking smallest largest jobs_in longest_response latest_by refusal_text fitted index_of rank_with job_text
+    cost blocking smallest largest jobs_in longest_response latest_within refusal_text fitted index_of rank_with job_text
     run_in_time watched
 overruns_so = (refl, (refl, (refl, (refl, (refl, (refl, (refl, (refl, (refl, (refl, (refl, tt)))))))))))
 
 pub refusals_so : AllSo refusals
 unfolding digits decimal signed key_line number_of line_at form_at read_for cost blocking smallest largest jobs_in
-    longest_response latest_by refusal_text fitted index_of rank_with job_text run_in_time watched
+    longest_response latest_within refusal_text fitted index_of rank_with job_text run_in_time watched
 refusals_so = (refl, (refl, (refl, (refl, (refl, (refl, (refl, (refl, (refl, (refl, (refl, (refl, (refl, (refl, (refl, (refl, (refl, (refl, (refl, (refl, (refl, tt)))))))))))))))))))))
 
 pub watch_met : WatchMet
 unfolding digits decimal signed key_line number_of line_at form_at read_for
-    cost blocking smallest largest jobs_in longest_response latest_by index_of rank_with
+    cost blocking smallest largest jobs_in longest_response latest_within index_of rank_with
 watch_met = record {
   told = (decides watch_text watch_plain watch_start sample).as_written _ refl;
   none_late = in_time;

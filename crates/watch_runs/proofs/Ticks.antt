@@ -19,7 +19,7 @@ use Rattle.rows.specs.Rows.{Row}
 use Rattle.boards.specs.Boards.{Job, Done, releases, with_releases, highest, queue_at, worked, worked_at, finishing}
 use Rattle.boards.specs.Document01.{after_work, finishes}
 use Rattle.boards.proofs.Document01.{work_is, finishes_is}
-use Rattle.boards.proofs.Queues.{with_release, length_released, released_at_lem}
+use Rattle.boards.proofs.Queues.{with_release, length_released, released_at}
 use Rattle.boards.proofs.Queues.{length_worked, worked_same, worked_other}
 use Rattle.boards.proofs.Releases.{released_before_lem, unreleased, release_yes, release_no}
 use Rattle.watch_demands.specs.Jobs.{release_of, index_of, length_of}
@@ -147,7 +147,7 @@ module _
 
         here : queue_at (with_releases 0 t order offset need qs) j
             ≡ with_release (need j) (row_at order j) (offset j) t (queue_at qs j)
-        here = rw zero-add at (released_at_lem offset need 0 t order qs j long l)
+        here = rw zero-add at (released_at offset need 0 t order qs j long l)
 
     -- ---- who is due
     module _

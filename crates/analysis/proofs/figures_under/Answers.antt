@@ -10,7 +10,7 @@ use Rattle.rows.specs.inside.Numbers.{row_from}
 use Rattle.rows.proofs.RowNumbers.{line_from}
 use Rattle.rows.proofs.Limits.{limits, times, in_range_times}
 use Rattle.responses.specs.declared.Load.{Load}
-use Rattle.responses.specs.BusyIntervals.{latest_by}
+use Rattle.responses.specs.BusyIntervals.{latest_within}
 use Rattle.responses.specs.Figures.{Answered}
 use Rattle.responses.proofs.Responses.{late_answer, timely_answer}
 use Rattle.fixed_points.specs.inside.Values as V
@@ -22,19 +22,19 @@ use Rattle.analysis.proofs.figures_under.Goals as goal
 
 -- the search of W answers W of the row's cost, period and deadline
 latest_is : (ws : List ℕ) (x blocked : ℕ) (worst : List Load) → x ≡ cost (row_from ws)
-    → latest_by (finishes x blocked worst) (get_or ws period_at 0) (get_or ws deadline_at 0)
-    ≡ latest_by (finishes (cost (row_from ws)) blocked worst) (row_from ws).period (row_from ws).deadline
+    → latest_within (finishes x blocked worst) (get_or ws period_at 0) (get_or ws deadline_at 0)
+    ≡ latest_within (finishes (cost (row_from ws)) blocked worst) (row_from ws).period (row_from ws).deadline
 latest_is ws x blocked worst e =
-    ap (λ (y : ℕ). latest_by (finishes y blocked worst) (get_or ws period_at 0) (get_or ws deadline_at 0)) e
-    ∙ ap₂ (λ (p d : ℕ). latest_by (finishes (cost (row_from ws)) blocked worst) p d)
+    ap (λ (y : ℕ). latest_within (finishes y blocked worst) (get_or ws period_at 0) (get_or ws deadline_at 0)) e
+    ∙ ap₂ (λ (p d : ℕ). latest_within (finishes (cost (row_from ws)) blocked worst) p d)
     (sym (line_from ws period_at (omega arith))) (sym (line_from ws deadline_at (omega arith)))
 
 -- where it has found one
 module _ (ws : List ℕ) (x blocked w : ℕ) (worst best : List Load) (p : Under (row_from ws) blocked worst best)
     (e : x ≡ cost (row_from ws))
     (is : Some w
-    ≡ V.found (latest_by (finishes x blocked worst) (get_or ws period_at 0) (get_or ws deadline_at 0))) where
-  answered : w ≡ latest_by (finishes (cost (row_from ws)) blocked worst) (row_from ws).period (row_from ws).deadline
+    ≡ V.found (latest_within (finishes x blocked worst) (get_or ws period_at 0) (get_or ws deadline_at 0))) where
+  answered : w ≡ latest_within (finishes (cost (row_from ws)) blocked worst) (row_from ws).period (row_from ws).deadline
   answered = (found_some _ w is).0 ∙ latest_is ws x blocked worst e
 
   timely : Found (row_from ws) best w

@@ -8,7 +8,7 @@ use Rattle.responses.specs.Interference.{least_fixed}
 use Rattle.fixed_points.specs.inside.Values.{found}
 use Rattle.fixed_points.proofs.Values.{some_found, found_some, none_found}
 use Rattle.busy_intervals.specs.inside.Finishes.{limit_for, InLimits}
-use Rattle.busy_intervals.proofs.Jobs.{Behind, first_late_lem, first_job, small, from_last, next_late}
+use Rattle.busy_intervals.proofs.Jobs.{Behind, first_late, first_job, small, from_last, next_late}
 use Rattle.busy_intervals.proofs.Jobs.{next_job, later, last_job}
 use Rattle.busy_intervals.proofs.latest_response.Goals as goal
 
@@ -16,7 +16,7 @@ pub returns-in_err-finish : goal.returns-in_err-finish
 returns-in_err-finish c =
     let t = c.args.task in
     c.from_residual.ensures
-    ∙ ap found (first_late_lem t.cost t.blocked t.period t.deadline c.args.above.loads.now t.in_limits
+    ∙ ap found (first_late t.cost t.blocked t.period t.deadline c.args.above.loads.now t.in_limits
     (none_found _ c.in_err-finish.ensures))
 
 pub loop-next-init : goal.loop-next-init
