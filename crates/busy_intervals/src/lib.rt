@@ -1,8 +1,9 @@
 // W of a task that may overrun its period: the longest response in its busy interval, which is searched job after job.
 #![tactic(auto)]
 
-ghost use Rattle.std.specs.Prelude.{◌≡◌, ◌+◌, ◌≤◌};
+ghost use Rattle.std.specs.Prelude.{◌≡◌, Some, ◌+◌, ◌≤◌};
 ghost use Rattle.rows.specs.Rows.{max_ticks};
+ghost use Rattle.responses.specs.Interference.{least_fixed};
 ghost use Rattle.responses.specs.BusyIntervals.{latest_within};
 ghost use Rattle.fixed_points.specs.inside.Values.{found};
 ghost use Rattle.busy_intervals.specs.inside.Finishes.{finishes, limit_for, InLimits};
@@ -34,16 +35,24 @@ fn limit_for(due: u64) -> u64
     }
 }
 
-// W, if the task is not late. The first jobs of the interval are done at `finish`, and the next is released at `next`. A
-// job more takes a cost more, so no solution lies below the last and that cost. A search that finds none up to the
-// deadline of its job shows the task late.
-pub fn latest_response(task: Times, above: Tasks) -> Option<u64>
+// The response of the interval's first job, if that is in time.
+pub fn first_response(task: Times, above: Tasks) -> Option<u64>
+    ensures { result ≡ found (least_fixed (task.cost + task.blocked) task.deadline above.entry.loads.now) }
+{
+    least_fixed(task.cost + task.blocked, task.deadline, above)
+}
+
+// W, if the task is not late, where the first job is in time. The first jobs of the interval are done at `finish`, and the
+// next is released at `next`. A job more takes a cost more, so no solution lies below the last and that cost. A search
+// that finds none up to the deadline of its job shows the task late.
+pub fn latest_from(first: u64, task: Times, above: Tasks) -> Option<u64>
+    requires { Some first ≡ found (least_fixed (task.cost + task.blocked) task.deadline above.loads.now) }
     ensures { result ≡ found (latest_within (finishes task.cost task.blocked above.entry.loads.now)
         task.period task.deadline) }
 {
     let mut base = task.cost + task.blocked;
-    let mut finish = least_fixed(base, task.deadline, above)?;
-    let mut longest = finish;
+    let mut finish = first;
+    let mut longest = first;
     let mut next = task.period;
     while next < finish {
         base += task.cost;
@@ -53,4 +62,13 @@ pub fn latest_response(task: Times, above: Tasks) -> Option<u64>
         next += task.period;
     }
     Some(longest)
+}
+
+// W, if the task is not late.
+pub fn latest_response(task: Times, above: Tasks) -> Option<u64>
+    ensures { result ≡ found (latest_within (finishes task.cost task.blocked above.entry.loads.now)
+        task.period task.deadline) }
+{
+    let first = first_response(task, above)?;
+    latest_from(first, task, above)
 }

@@ -8,6 +8,7 @@ pub mod Margins
 pub mod Blocking
 pub mod Conditions
 pub mod Deadlines
+pub mod FirstJobs
 pub mod Switches
 pub mod Responses
 pub mod Sequences

@@ -2,7 +2,7 @@
 use Rattle.std.proofs.Common.{ℕ, ◌-◌}
 use Rattle.rows.specs.Rows.{max_ticks}
 use Rattle.busy_intervals.proofs.Jobs.{Behind}
-use Rattle.busy_intervals.proofs.latest_response.Given as goal
+use Rattle.busy_intervals.proofs.latest_from.Given as goal
 
 abbrev pub invariant-loop-next : goal.invariant-loop-next
 invariant-loop-next l =
