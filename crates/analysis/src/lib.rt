@@ -2,18 +2,19 @@
 // block it for some ticks. Each `as` is proved to lose nothing.
 #![tactic(auto)]
 
-ghost use Rattle.std.specs.Prelude.{◌≡◌, true, ◌+◌, ◌-◌, ◌*◌, ◌≤◌, length, drop};
+ghost use Rattle.std.specs.Prelude.{◌≡◌, true, pos, ◌+◌, ◌-◌, ◌*◌, ◌≤◌, length, drop};
 ghost use Rattle.std.proofs.Math.IntN.{sub_ℕ};
+ghost use Rattle.std.specs.Int.Signed.{le_z};
 ghost use Rattle.basics.specs.Basics.{pick};
 ghost use Rattle.rows.specs.Rows.{max_ticks, max_alpha, max_beta, in_range, times_in_range};
 ghost use Rattle.responses.specs.Interference.{interference, largest_fixed};
 ghost use Rattle.responses.specs.Figures.{worst_load, best_load, blocking, may_hold, margin_at};
 ghost use Rattle.rows.specs.inside.Numbers.{row_from};
 ghost use Rattle.rows.specs.inside.LentOrders.{rows_in_order};
-ghost use Rattle.analysis.specs.inside.Above.{Fillable, Filled, Under, FiguresIn};
+ghost use Rattle.analysis.specs.inside.Above.{Fillable, Filled, TimesAre, Under, FiguresIn, StableIn};
 
 use basics::larger;
-use busy_intervals::{Times, latest_response};
+use busy_intervals::{Times, first_response, latest_from, latest_response};
 use curves::{Responses, curve_margin, points_from};
 use fixed_points::{Tasks, largest_fixed};
 use responses::{Figures, Load, NoFigures};
@@ -54,6 +55,14 @@ pub fn margin(row: &RowNumbers, responses: Responses) -> i64
     }
     let curve = points_from(&row[FIRST_POINT..SWITCH], points as usize);
     curve_margin(curve, responses)
+}
+
+// Whether responses of a row are inside its stability condition.
+fn is_inside(row: &RowNumbers, responses: Responses) -> bool
+    requires { in_range (row_from row.now) ≡ true }
+    ensures { result ≡ le_z (pos 0) (margin_at (row_from row.now) responses.latest responses.earliest) }
+{
+    0 <= margin(row, responses)
 }
 
 // The earliest response of a row, whose latest is known, under some rows: in a stretch of its own none of them counts.
@@ -135,17 +144,55 @@ pub fn fill_loads(order: LentOrder, worst: &mut [Load], best: &mut [Load])
     }
 }
 
+// What the search of W takes of a row, which rows below block for some ticks.
+fn times_of(row: &RowNumbers, blocked: u64) -> Times
+    requires { (in_range (row_from row.now) ≡ true) × (blocked ≤ max_ticks) }
+    ensures { TimesAre (row_from row.now) blocked result }
+{
+    Times {
+        cost: cost(row),
+        blocked,
+        period: row[PERIOD],
+        deadline: row[DEADLINE],
+    }
+}
+
+// Whether a row is stable under some rows, which rows below block for some ticks: what its figures say, and sooner. E is
+// found in the time of the busy interval's first job, and no later job has a smaller response; so where the margin is
+// below 0 by the first, the others are not searched.
+pub fn stable_under(row: &RowNumbers, blocked: u64, above: Above) -> bool
+    requires { Under (row_from row.now) blocked above.worst.now above.best.now }
+    ensures { StableIn (row_from row.now) blocked above.entry.worst.now above.entry.best.now result }
+{
+    let task = times_of(row, blocked);
+    let worst = Tasks { loads: above.worst };
+    let best = Tasks { loads: above.best };
+    let Some(first) = first_response(task, worst) else {
+        return false;
+    };
+    let earliest = earliest(row, first, best);
+    let responses = Responses {
+        latest: first,
+        earliest,
+    };
+    if !is_inside(row, responses) {
+        return false;
+    }
+    let Some(latest) = latest_from(first, task, worst) else {
+        return false;
+    };
+    if latest == first {
+        return true;
+    }
+    is_inside(row, Responses { latest, earliest })
+}
+
 // All figures of a row under some rows, which rows below block for some ticks.
 pub fn figures_under(row: &RowNumbers, blocked: u64, above: Above) -> Result<Figures, NoFigures>
     requires { Under (row_from row.now) blocked above.worst.now above.best.now }
     ensures { FiguresIn (row_from row.now) blocked above.entry.worst.now above.entry.best.now result }
 {
-    let task = Times {
-        cost: cost(row),
-        blocked,
-        period: row[PERIOD],
-        deadline: row[DEADLINE],
-    };
+    let task = times_of(row, blocked);
     let worst = Tasks { loads: above.worst };
     let best = Tasks { loads: above.best };
     let Some(latest) = latest_response(task, worst) else {

@@ -11,7 +11,7 @@ ghost use Rattle.search.specs.inside.Sets.{others, fits, Recorded, LowestFound, 
 ghost use Rattle.orders.specs.Stability.{stable};
 ghost use Rattle.search.specs.inside.Search.{Lent, Gathered, MayGo, Chained, chain_tasks, TableRows, Chooses};
 
-use analysis::{Above, blocking_time, figures_under, load_at_best, load_at_worst};
+use analysis::{Above, blocking_time, load_at_best, load_at_worst, stable_under};
 use basics::larger;
 use responses::Load;
 use rows::{HOLD, MAX_TASKS, NUMBERS, Order, Row, RowNumbers, TASK, put_rows, rows_from};
@@ -101,7 +101,7 @@ impl<const SETS: usize, const TASKS: usize> Search<'_, SETS, TASKS> {
             worst: &self.worst[..count],
             best: &self.best[..count],
         };
-        figures_under(&rows[i], blocked, above).is_ok_and(|figures| figures.stable)
+        stable_under(&rows[i], blocked, above)
     }
 
     // Whether row i may go lowest in set m: it is in the set and stable there, and the rest isn't known to have no

@@ -1,10 +1,11 @@
 -- A promise between functions: the loads of some rows, and the figures of a row under them.
-use Rattle.std.specs.Prelude.{◌≡◌, true, List, ℕ, ◌≤◌, length, map}
-use Rattle.rows.specs.Rows.{max_ticks, times_in_range, in_range, all_rows}
+use Rattle.std.specs.Prelude.{◌≡◌, Bool, true, List, ℕ, ◌≤◌, length, map}
+use Rattle.rows.specs.Rows.{max_ticks, cost, times_in_range, in_range, all_rows}
 use Rattle.rows.specs.Rows.{Row}
 use Rattle.fixed_points.specs.inside.Loads.{loads_max}
+use Rattle.busy_intervals.specs.declared.Times.{Times}
 use Rattle.responses.specs.declared.Load.{Load}
-use Rattle.responses.specs.Figures.{Answered, worst_load, best_load, blocking, figures_under}
+use Rattle.responses.specs.Figures.{Answered, worst_load, best_load, blocking, is_stable, figures_under}
 
 -- the loads of some rows, one for each
 pub record Filled (rows : List Row) (worst best : List Load) : Type 0 where
@@ -28,7 +29,19 @@ pub record Under (t : Row) (blocked : ℕ) (worst best : List Load) : Type 0 whe
   pub blocked_is : blocked ≡ blocking below
   pub blocked_max : blocked ≤ max_ticks
 
+-- a row's numbers as the search of W takes them
+pub record TimesAre (t : Row) (blocked : ℕ) (x : Times) : Type 0 where
+  pub cost_is : x.cost ≡ cost t
+  pub blocked_is : x.blocked ≡ blocked
+  pub period_is : x.period ≡ t.period
+  pub deadline_is : x.deadline ≡ t.deadline
+
 -- the figures of a row, whatever rows have these loads, and whatever rows below have that blocking time
 abbrev pub FiguresIn : Row → ℕ → List Load → List Load → Answered → Type 0
 FiguresIn t blocked worst best x =
     (rows below : List Row) → Filled rows worst best → blocked ≡ blocking below → x ≡ figures_under t rows below
+
+-- and whether it is stable
+abbrev pub StableIn : Row → ℕ → List Load → List Load → Bool → Type 0
+StableIn t blocked worst best b =
+    (rows below : List Row) → Filled rows worst best → blocked ≡ blocking below → b ≡ is_stable t rows below

@@ -10,8 +10,8 @@ use Rattle.search.proofs.LentRows.{ranged}
 use Rattle.search.proofs.Gathering.{some_pass}
 use Rattle.search.proofs.Search.stable_under.Goals as goal
 
-pub figures_under-requires : goal.figures_under-requires
-figures_under-requires g c =
+pub stable_under-requires : goal.stable_under-requires
+stable_under-requires g c =
     let a = c.args in
     let p = a.self.now.lent in
     let table = table_of a.self.now.rows.now in
@@ -39,6 +39,6 @@ returns-clause-fits g c =
     let table = table_of a.self.now.rows.now in
     let found = rw c.power.ensures at c.gather-count.ensures.gathered in
     let e =
-    c.figures_under.ensures (members (a.m - 2 ^ a.i) table) (others a.m table) found.filled c.requires.2 in
+    c.stable_under.ensures (members (a.m - 2 ^ a.i) table) (others a.m table) found.filled c.requires.2 in
     let row = table_at a.self.now.rows.now a.i c.requires.0 in
     search (rules, e, row)
