@@ -38,10 +38,20 @@ earliest-earliest-requires c =
 
 pub invariant_of-responses : goal.invariant_of-responses
 invariant_of-responses c =
-    let a = c.times_of-task.ensures in record {
-      in_limits = first_max c.requires a c.in-Some.ensures;
-      ordered = here_first c.requires a c.in-Some.ensures c.earliest-earliest.result c.earliest-earliest.ensures;
-    }
+    let a = c.times_of-task.ensures in
+    let within = here_first c.requires a c.in-Some.ensures c.earliest-earliest.result c.earliest-earliest.ensures in
+    record { in_limits = omega (arith, within, first_max c.requires a c.in-Some.ensures); ordered = omega (arith, within) }
+
+pub returns-then-latest-first : goal.returns-then-latest-first
+returns-then-latest-first c rows below f blocked =
+    let t = row_from c.args.row.now in
+    let e = c.earliest-earliest.result in
+    let inside = sym c.if-not-is_inside.false ∙ c.is_inside.ensures in
+    inside
+    ∙ ap (λ (w : ℕ). le_z (pos 0) (margin_at t w e)) (sym c.if-latest-first.true)
+    ∙ by_margin c.requires c.times_of-task.ensures c.in-Some.ensures e c.earliest-earliest.ensures _
+    c.in-Some-latest_from.ensures
+    ∙ stable_same c.requires rows below f blocked
 
 pub returns-then-not-is_inside : goal.returns-then-not-is_inside
 returns-then-not-is_inside c rows below f blocked =
@@ -56,17 +66,6 @@ returns-in_default-latest_from c rows below f blocked =
     let none = found_none _ _ c.latest_from.ensures c.in_default-latest_from.not-Some in
     late_unstable t rows below
     (sym (latest_found t below f blocked) ∙ sym (latest_taken c.times_of-task.ensures worst) ∙ none)
-
-pub returns-then-latest-first : goal.returns-then-latest-first
-returns-then-latest-first c rows below f blocked =
-    let t = row_from c.args.row.now in
-    let e = c.earliest-earliest.result in
-    let inside = sym c.if-not-is_inside.false ∙ c.is_inside.ensures in
-    inside
-    ∙ ap (λ (w : ℕ). le_z (pos 0) (margin_at t w e)) (sym c.if-latest-first.true)
-    ∙ by_margin c.requires c.times_of-task.ensures c.in-Some.ensures e c.earliest-earliest.ensures _
-    c.in-Some-latest_from.ensures
-    ∙ stable_same c.requires rows below f blocked
 
 pub invariant_of-is_inside : goal.invariant_of-is_inside
 invariant_of-is_inside c =
