@@ -1,14 +1,14 @@
 -- A busy interval over any w: it has a last job, W is the longest response of its jobs, and both are the only ones of
 -- equation 4. It suffices that no w is above 1,000,000 and that q + 1 jobs take q + 1 ticks at least.
-use mathlib.Core.Path.{◌≡◌, refl, sym, ap, ◌∙◌}
-use mathlib.Core.Bool.{Bool, true, false}
+use mathlib.Core.Path.{◌≡◌, sym, ap, ◌∙◌}
+use mathlib.Core.Bool.{Bool, true}
 use mathlib.Core.Logic.{◌⊎◌, inl, inr}
 use Prim.Native.Nat.{ℕ, zero, suc, ◌+◌, ◌-◌, ◌*◌, ◌≤◌, ◌<◌}
-use native.Mathlib.Nat.{le_refl, le_antisymm, mul-le-mul_left}
+use native.Mathlib.Nat.{le_refl, mul-le-mul_left}
 use native.Mathlib.Omega.{arith}
-use lib.Dec.{eqb, leb}
-use borrow.Author.Tests.{eqb-true, eqb-false, eq-eqb, ne_eqb, leb-true, leb-false, le-leb, lt-leb}
-use Rattle.basics.specs.Basics.{pick, larger}
+use lib.Dec.{leb}
+use borrow.Author.Tests.{eq-eqb, ne_eqb, leb-true, le-leb, lt-leb}
+use Rattle.basics.specs.Basics.{pick}
 use Rattle.basics.proofs.Tests.{test_of, le-or-lt}
 use Rattle.basics.proofs.Numbers.{larger_left, larger_right}
 use Rattle.rows.specs.Rows.{max_ticks}

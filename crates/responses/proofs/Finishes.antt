@@ -1,11 +1,11 @@
 -- The w(q) of a row between the rows above and below it, and its busy interval: each w(q) is a least fixed point, so at
 -- or below every window that has room for its jobs; W and late are those of equation 4; and the interval always ends.
 use mathlib.Core.Path.{◌≡◌, refl, sym, ap, ◌∙◌, subst}
-use mathlib.Core.Bool.{Bool, true, false}
+use mathlib.Core.Bool.{true, false}
 use mathlib.Core.Logic.{◌⊎◌, inl, inr}
 use mathlib.Core.List.{List, [], ◌∷◌, map}
-use Prim.Native.Nat.{ℕ, zero, suc, ◌+◌, ◌-◌, ◌*◌, ◌≤◌, ◌<◌}
-use native.Mathlib.Nat.{le_refl, mul-le-mul_left, mul-le-mul_right, mul_comm, mul_assoc, mul-add, add-mul, sub-zero}
+use Prim.Native.Nat.{ℕ, suc, ◌+◌, ◌-◌, ◌*◌, ◌≤◌, ◌<◌}
+use native.Mathlib.Nat.{le_refl, mul-le-mul_left, mul-le-mul_right, mul_comm, mul_assoc, mul-add, sub-zero}
 use native.Mathlib.Omega.{arith}
 use lib.Dec.{eqb}
 use lib.ListN.{length}
@@ -21,7 +21,7 @@ use Rattle.responses.specs.Claims.{Equation4, NotFound, Divides, Ends, WithinPer
 use Rattle.responses.proofs.Sums.{ceiling_covers, ceiling_under, ceiling_some}
 use Rattle.responses.proofs.FixedPoints.{fixed_below, demand_mono, least_fixed_lem, least_least}
 use Rattle.responses.proofs.BusyIntervals.{Counts, some_jobs, jobs_least, goes_on, equation, not_found}
-use Rattle.responses.proofs.BusyIntervals.{response_is, response_none, in_deadline, past_deadline, timely}
+use Rattle.responses.proofs.BusyIntervals.{response_is, in_deadline, past_deadline, timely}
 use Rattle.responses.proofs.BusyIntervals.{longest_covers, longest_one, latest_here, late_here}
 
 -- ---- in a window x that is a multiple of every period: what each other window v brings is at least its share of that

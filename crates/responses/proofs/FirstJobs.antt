@@ -7,7 +7,6 @@ use mathlib.Core.List.{List, map}
 use Prim.Native.Nat.{ℕ, ◌+◌, ◌≤◌}
 use native.Mathlib.Omega.{arith}
 use borrow.Author.Tests.{eq-eqb, ne_eqb, not-true, eqb-false}
-use lib.Dec.{eqb}
 use lib.IntN.{pos}
 use lib.Signed.{le_z}
 use Rattle.basics.specs.Basics.{pick}

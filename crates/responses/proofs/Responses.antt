@@ -5,7 +5,7 @@ use mathlib.Core.Bool.{Bool, true, false, ◌&&◌}
 use mathlib.Core.List.{List, map}
 use Prim.Native.Nat.{ℕ, ◌+◌, ◌≤◌}
 use native.Mathlib.Omega.{arith}
-use borrow.Author.Tests.{eqb-false, eq-eqb, ne_eqb, le-leb, lt-leb}
+use borrow.Author.Tests.{eq-eqb, ne_eqb, le-leb, lt-leb}
 use mathlib.Core.Logic.{inl, inr}
 use lib.Dec.{leb}
 use lib.IntN.{ℤ}
@@ -15,7 +15,7 @@ use Rattle.rows.specs.Rows.{Row}
 use Rattle.basics.specs.Basics.{pick}
 use Rattle.basics.proofs.Tests.{test_of, and_left, and_right, le-or-lt}
 use Rattle.rows.proofs.Limits.{times, in_range_times, all_times}
-use Rattle.responses.specs.Interference.{ceiling, least_fixed, largest_fixed}
+use Rattle.responses.specs.Interference.{least_fixed, largest_fixed}
 use Rattle.std.specs.Prelude.{Ok, Err}
 use Rattle.responses.specs.Figures.{best_load, best_in, blocking, finish_of, latest, is_late, earliest}
 use Rattle.responses.specs.Figures.{Answered, is_stable, margin_at, margin, late_figures, figures_at, figures_under}

@@ -1,5 +1,5 @@
 -- What each search answers is the response of the rows whose loads are lent (`found`); the rest is reading.
-use Rattle.std.proofs.Common.{◌≡◌, ℕ, List, ap₂, sym, ◌∙◌, arith}
+use Rattle.std.proofs.Common.{◌≡◌, ℕ, List, ap₂, sym, ◌∙◌}
 use Rattle.std.specs.Prelude.{Some, Ok, ℤ, pos}
 use Rattle.std.specs.Int.Signed.{le_z}
 use mir.Syntax.{w64}

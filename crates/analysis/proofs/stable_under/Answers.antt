@@ -1,6 +1,6 @@
 -- A row that is late, or outside its stability condition by its busy interval's first job, is not stable; else its margin
 -- by W decides, with E as it was found by that job.
-use Rattle.std.proofs.Common.{◌≡◌, sym, ap, ◌∙◌, ℕ, arith}
+use Rattle.std.proofs.Common.{sym, ap, ◌∙◌, ℕ, arith}
 use Rattle.std.specs.Prelude.{pos}
 use Rattle.std.specs.Int.Signed.{le_z}
 use Rattle.rows.specs.inside.Numbers.{row_from}

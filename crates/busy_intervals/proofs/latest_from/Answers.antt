@@ -124,12 +124,13 @@ loop-next-smaller c =
 pub loop-next-preserved : goal.loop-next-preserved
 loop-next-preserved c =
     let t = c.args.task in
-    let x = c.loop-next in
-    (suc x.invariant.0,
-    rw c.larger-longest.ensures
-    (behind t.cost t.blocked t.period t.deadline c.args.above.loads.now t.in_limits x.base x.finish x.longest x.next
-    x.invariant (omega (arith, c.loop-next-test.true)) c.limit_for-limit.result c.limit_for-limit.ensures.limit c.in_ok-finish.finish
-    c.in_ok-finish.ensures))
+    let x = c.loop-next in (
+      suc x.invariant.0,
+      rw c.larger-longest.ensures
+          (behind t.cost t.blocked t.period t.deadline c.args.above.loads.now t.in_limits x.base x.finish x.longest x.next
+          x.invariant (omega (arith, c.loop-next-test.true)) c.limit_for-limit.result c.limit_for-limit.ensures.limit c.in_ok-finish.finish
+          c.in_ok-finish.ensures),
+    )
 
 pub returns : goal.returns
 returns c =

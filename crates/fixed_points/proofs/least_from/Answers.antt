@@ -1,5 +1,5 @@
 -- The last value of the search is the least solution, or shows that there is none within the limit.
-use Rattle.std.proofs.Common.{◌≡◌, ℕ, ap, ◌∙◌, arith}
+use Rattle.std.proofs.Common.{ap, ◌∙◌, arith}
 use Rattle.fixed_points.specs.inside.Values.{Searching, found}
 use Rattle.fixed_points.proofs.Values.{searching, ends_at, ends_late, some_found}
 use Rattle.fixed_points.proofs.least_from.Goals as goal

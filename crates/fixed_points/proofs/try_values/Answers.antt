@@ -1,5 +1,4 @@
 -- The search may begin at its first value.
-use Rattle.std.proofs.Common.{arith}
 use Rattle.fixed_points.proofs.Loads.{periods_some}
 use Rattle.fixed_points.proofs.Values.{begins}
 use Rattle.fixed_points.proofs.try_values.Goals as goal
