@@ -1,9 +1,9 @@
 -- What is claimed of the figures: they are those of the published formulas (demand 2), W by equation 4 of document 002;
 -- the rows above and below count as sets, those below by their blocking time alone; a busy interval always ends; a task
--- is stable by its own curve, or by its line where it has none; a deadline counts for its own task alone, and at or
--- below the period W is that of one job; the switch counts beside each `worst` and nowhere else, and W never falls when
--- it grows; where it is 0 they are those before it, and where no job may hold the processor past a tick either,
--- document 01's.
+-- is stable by its own curve, or by its line where it has none; a deadline counts for its own task alone, and where it
+-- is the period W is that of one job; the switch counts beside each `worst` and nowhere else, and W never falls when it
+-- grows; where it is 0 and the deadline the period they are those before the switch, and where no job may hold the
+-- processor past a tick either, document 01's.
 use Rattle.std.specs.Prelude.{◌≡◌, true, false, ◌⊎◌, ℕ, suc, ◌+◌, ◌-◌, ◌*◌, ◌≤◌, ◌<◌, eqb, length, pos, ◌-ℤ◌}
 use mathlib.Core.List.{List, [], map, Perm}
 use Rattle.basics.specs.Basics.{pick}

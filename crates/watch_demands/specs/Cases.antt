@@ -40,7 +40,6 @@ abbrev pub table_of : String → String → String → List ℕ
 table_of worst1 hold1 hold2 = table_due "deadline=6" worst1 hold1 hold2
 
 -- task 2 above task 1; both are first released on tick 1
-
 abbrev pub run_on : String → List String → List ℕ
 run_on ticks lengths =
     table_of "worst=2" "hold=0" "hold=0"
