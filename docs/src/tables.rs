@@ -45,6 +45,9 @@ const CROSSING_DRAWS: usize = 20;
 /// How often a curve is drawn until a row is stable by it.
 const CURVE_DRAWS: usize = 10;
 
+/// How often an order is drawn until no task in it is late whatever its deadline.
+const ORDER_DRAWS: usize = 4;
+
 /// Tables with more tasks than this seldom have loads that are brought close to 1.
 const MANY_TASKS: usize = 6;
 
@@ -402,6 +405,12 @@ fn overrunning_order(dice: &mut Dice, table: &Table) -> Vec<usize> {
     order
 }
 
+/// The boundary of a row in an order.
+fn boundary_in(table: &Table, order: &[usize], rank: usize) -> Option<u64> {
+    let ranked: Vec<&Row> = order.iter().map(|&index| &table.rows[index]).collect();
+    boundary(table.switch, ranked[rank], &ranked[..rank], &ranked[rank + 1..])
+}
+
 /// The latest response of a row in an order whatever its deadline; none if it has none up to the
 /// longest.
 pub fn latest_in(table: &Table, order: &[usize], rank: usize) -> Option<u64> {
@@ -475,14 +484,56 @@ fn set_deadlines(dice: &mut Dice, table: &mut Table, order: &[usize]) {
     }
 }
 
+/// One of a few orders in which no task is late whatever its deadline, if there is one.
+fn order_in_time(dice: &mut Dice, table: &Table) -> Vec<usize> {
+    let mut order = overrunning_order(dice, table);
+    let late =
+        |order: &[usize]| (0..order.len()).any(|rank| latest_in(table, order, rank).is_none());
+    for _ in 0..ORDER_DRAWS {
+        if !late(&order) {
+            break;
+        }
+        order = overrunning_order(dice, table);
+    }
+    order
+}
+
+/// A task that may go lowest, past its period, and should not: by period it is above one that gains
+/// by it and is just stable so. It is the first of the table, where the rule tries it first. The answer
+/// is the order by period; none where no task gains.
+fn set_a_trap(table: &mut Table) -> Option<Vec<usize>> {
+    let mut order: Vec<usize> = (0..table.rows.len()).collect();
+    order.sort_by_key(|&index| table.rows[index].period);
+    let (_, gone) = gain_in(table, &order)?;
+    table.rows.swap(0, order[gone]);
+    let other = order.iter().position(|&index| index == 0)?;
+    order.swap(gone, other);
+    let last = order.len() - 1;
+    let lowest = [&order[..gone], &order[gone + 1..], &[0]].concat();
+    let latest = latest_in(table, &lowest, last)?;
+    let before = boundary_in(table, &order, gone);
+    table.rows[0].deadline = latest.max(table.rows[0].period);
+    let beta = before.max(boundary_in(table, &lowest, last))?;
+    for rank in 0..order.len() {
+        let boundary = boundary_in(table, &order, rank).unwrap_or(MOST_BETA);
+        table.rows[order[rank]].beta = if rank == gone { beta } else { boundary }.min(MOST_BETA);
+    }
+    Some(order)
+}
+
 /// Gives a table deadlines and, where betas are a limit, new betas for them; the answer is an order
 /// in which most of its tasks are in time. The more tasks it has the more sets of them there are to
 /// be tried, so that it has long busy intervals less often.
 fn put_deadlines(dice: &mut Dice, table: &mut Table, loose: bool) -> Vec<usize> {
+    if !loose && dice.once_in(4) {
+        if let Some(order) = set_a_trap(table) {
+            return order;
+        }
+    }
     let fills =
         if table.rows.len() > MANY_TASKS { dice.once_in(20) as u64 } else { dice.between(0, 2) };
     (0..fills).for_each(|_| fill_the_load(dice, table));
-    let order = overrunning_order(dice, table);
+    let order = order_in_time(dice, table);
     set_deadlines(dice, table, &order);
     if !loose && dice.once_in(8) {
         set_betas(dice, table);
@@ -539,8 +590,15 @@ fn loose_table(dice: &mut Dice, family: Family, count: usize, switch: Switch) ->
 
 /// Whether, by period, some task has a larger margin than without one of the tasks above it.
 fn some_task_gains(table: &Table) -> bool {
-    let mut ranked: Vec<&Row> = table.rows.iter().collect();
-    ranked.sort_by_key(|row| row.period);
+    let mut order: Vec<usize> = (0..table.rows.len()).collect();
+    order.sort_by_key(|&index| table.rows[index].period);
+    gain_in(table, &order).is_some()
+}
+
+/// The first rank of an order whose task has a larger margin than without that of a rank above it, and
+/// the first such rank above it.
+fn gain_in(table: &Table, order: &[usize]) -> Option<(usize, usize)> {
+    let ranked: Vec<&Row> = order.iter().map(|&index| &table.rows[index]).collect();
     let gains = |rank: usize, gone: usize| {
         let fewer = [&ranked[..gone], &ranked[gone + 1..rank]].concat();
         let below = &ranked[rank + 1..];
@@ -550,7 +608,8 @@ fn some_task_gains(table: &Table) -> bool {
             without.is_some_and(|without| cost < without)
         })
     };
-    (1..ranked.len()).any(|rank| (0..rank).any(|gone| gains(rank, gone)))
+    let pairs = (1..ranked.len()).flat_map(|rank| (0..rank).map(move |gone| (rank, gone)));
+    pairs.into_iter().find(|&(rank, gone)| gains(rank, gone))
 }
 
 fn set_betas(dice: &mut Dice, table: &mut Table) {

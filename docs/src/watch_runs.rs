@@ -158,13 +158,13 @@ impl Report {
 
 /// How many of the jobs that are printed finished after the next release of their task.
 fn overran(watch: &Watch, output: &[u8]) -> u64 {
-    let lines: Vec<&[u8]> = output.split_inclusive(|&byte| byte == b'\n').collect();
+    let lines: Vec<&[u8]> = output.split(|&byte| byte == b'\n').collect();
     let period = |task: u64| watch.table.rows.iter().find(|row| row.task == task);
     let late = |job: &&[&[u8]]| {
         let [task, release, finish] = [1, 2, 3].map(|line| number_on(job, line) as u64);
         period(task).is_some_and(|row| finish > release + row.period)
     };
-    lines.chunks(3).filter(late).count() as u64
+    lines.chunks_exact(3).filter(late).count() as u64
 }
 
 /// The buffer lengths to try a text with: two, or now and then all up to past the output.
