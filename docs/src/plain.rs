@@ -199,13 +199,24 @@ pub const ONE_OF_EACH: u8 = 1;
 pub const JOB_AFTER_JOB: u8 = 2;
 
 /// The rows above as columns; their work is counted if `COUNTED`, and `START` says where the search
-/// for the end of a job begins.
+/// for the end of a job begins. Past the most terms every row is late, so that the count has an end.
 struct Above<const COUNTED: bool, const START: u8> {
     count: usize,
     period: [u64; MOST_TASKS],
     worst: [u64; MOST_TASKS],
     best: [u64; MOST_TASKS],
     work: Work,
+    most: u64,
+}
+
+/// How many jobs of a task are released in a time from one of its releases on. That is often within
+/// the period, and a test is faster than a division; both are far below 2^31, and a division is faster
+/// there than in 64 bits.
+fn ceil(time: u64, period: u64) -> u64 {
+    if time <= period {
+        return 1;
+    }
+    u64::from((time as u32 + period as u32 - 1) / period as u32)
 }
 
 struct Figures {
@@ -215,13 +226,14 @@ struct Figures {
 }
 
 impl<const COUNTED: bool, const START: u8> Above<COUNTED, START> {
-    fn new() -> Self {
+    fn new(most: u64) -> Self {
         Above {
             count: 0,
             period: [1; MOST_TASKS],
             worst: [0; MOST_TASKS],
             best: [0; MOST_TASKS],
             work: Work::default(),
+            most,
         }
     }
 
@@ -260,7 +272,7 @@ impl<const COUNTED: bool, const START: u8> Above<COUNTED, START> {
             self.count_a_sum();
             let mut next = base;
             for (period, worst) in self.period[..self.count].iter().zip(&self.worst) {
-                next += time.div_ceil(*period) * worst;
+                next += ceil(time, *period) * worst;
             }
             if next == time {
                 return Some(time);
@@ -281,6 +293,9 @@ impl<const COUNTED: bool, const START: u8> Above<COUNTED, START> {
         loop {
             if COUNTED {
                 self.work.jobs += 1;
+                if self.work.terms > self.most {
+                    return None;
+                }
             }
             let end = self.filled(time, base, MOST_FINISH.min(release + row.deadline))?;
             longest = longest.max(end - release);
@@ -299,7 +314,7 @@ impl<const COUNTED: bool, const START: u8> Above<COUNTED, START> {
             self.count_a_sum();
             let mut next = row.best;
             for (period, best) in self.period[..self.count].iter().zip(&self.best) {
-                next += (time.div_ceil(*period) - 1) * best;
+                next += (ceil(time, *period) - 1) * best;
             }
             if next == time {
                 return time;
@@ -396,14 +411,15 @@ impl<const COUNTED: bool, const START: u8> Search<'_, COUNTED, START> {
     }
 }
 
-/// The order of the plan, highest rank first, and the work done to find it (0 unless `COUNTED`); the
-/// rows have the switch in their worst times.
+/// The order of the plan, highest rank first, and the work done to find it (0 unless `COUNTED`), or
+/// no order and a work of more than `most` terms; the rows have the switch in their worst times.
 pub fn chosen<const COUNTED: bool, const START: u8>(
     Table { rows, points, .. }: &Table,
+    most: u64,
 ) -> (Option<Vec<usize>>, Work) {
     let mut lowest = vec![UNKNOWN; 1 << rows.len()];
     lowest[0] = 0;
-    let mut search = Search { rows, points, lowest, above: Above::<COUNTED, START>::new() };
+    let mut search = Search { rows, points, lowest, above: Above::<COUNTED, START>::new(most) };
     let found = search.has_order((1 << rows.len()) - 1, 0);
     (found.then(|| search.order()), search.above.work)
 }
@@ -434,7 +450,7 @@ fn plan_text<const START: u8>(
     push_line(&mut text, b"plan=", 1);
     push_line(&mut text, b"board=", *board);
     push_line(&mut text, b"tasks=", rows.len() as u64);
-    let mut above = Above::<false, START>::new();
+    let mut above = Above::<false, START>::new(u64::MAX);
     for (at, &index) in order.iter().enumerate() {
         let (row, rank) = (&rows[index], at as u64 + 1);
         let blocked = blocking_time(order[at + 1..].iter().map(|&index| &rows[index]));
@@ -456,7 +472,8 @@ fn planned<const START: u8>(text: &[u8]) -> Result<Vec<u8>, Refusal> {
     let mut reader = Reader::new(text);
     let table = reader.table()?;
     reader.end()?;
-    let order = chosen::<false, START>(&table).0.ok_or(Refusal { number: 8, place: 0 })?;
+    let order =
+        chosen::<false, START>(&table, u64::MAX).0.ok_or(Refusal { number: 8, place: 0 })?;
     plan_text::<START>(&table, &order)
 }
 

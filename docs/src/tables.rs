@@ -692,6 +692,14 @@ pub fn switching(dice: &mut Dice, family: Family, count: usize, loose: bool) -> 
     table
 }
 
+/// A table of document 01 with deadlines, for `bench` alone.
+#[allow(dead_code)]
+pub fn deadlined(dice: &mut Dice, family: Family, count: usize) -> Table {
+    let mut table = drawn(dice, family, count, NO_SWITCH);
+    put_deadlines(dice, &mut table, false);
+    table
+}
+
 /// A few tasks under a switch, one of them with hundreds of jobs in the time of another's.
 pub fn crowded(dice: &mut Dice, count: usize) -> Table {
     let switch = dice.pick(&[1, 2, 10, 100, MOST_SWITCH - 1, MOST_SWITCH]);
