@@ -1,12 +1,19 @@
 //! Times the proved planner against the same algorithm in plain Rust (`plain.rs`), on the same
-//! texts in one run, and looks for a slow table. With `--cfg before` it has an older library beside
-//! it, from before request 7, which is given the same tables without their lines of points. See
+//! texts in one run, and looks for slow tables. With `--cfg before` it has an older library beside
+//! it, from before request 8, which is given the same tables without their deadlines. Built with
+//! `--cfg model_only` it needs no library, and times plain Rust against itself. See
 //! `docs/TESTING.md`.
+
+// The flags are given to rustc by hand, so that no list of known flags names them.
+#![allow(unexpected_cfgs)]
 
 mod dice;
 // Of these files only a part is needed here.
+#[cfg(not(model_only))]
 #[allow(dead_code)]
 mod library;
+#[cfg(model_only)]
+use plain as library;
 #[allow(dead_code)]
 mod model;
 #[allow(dead_code)]
@@ -16,7 +23,7 @@ mod tables;
 
 use dice::Dice;
 use model::{Answer, Row, Table, MOST_PIECES, MOST_TASKS};
-use plain::Work;
+use plain::{Work, JOB_AFTER_JOB, ONE_OF_EACH, OWN_TIMES};
 use std::hint::black_box;
 use std::process::ExitCode;
 
@@ -52,7 +59,9 @@ const WATCH: Pair = Pair { base: plain::watch, timed: library::watch };
 
 /// The planner before request 6 and after it, in plain Rust.
 const SOONER: Pair = Pair { base: plain::plan_before, timed: plain::plan };
-/// An older planner and an older reviewer, which know no points, and these.
+/// The planner where the search for the end of each job begins anew, and as it is, in plain Rust.
+const GOING_ON: Pair = Pair { base: plain::plan_anew, timed: plain::plan };
+/// An older planner and an older reviewer, which know no deadlines, and these.
 #[cfg(before)]
 const OLDER_PLAN: Pair = Pair { base: library::plan_before, timed: library::plan };
 #[cfg(before)]
@@ -175,13 +184,9 @@ fn print_times_on(
 
 /// The older calls beside these, which have a line more to read in each row.
 #[cfg(before)]
-fn print_older(
-    typical: &[Vec<Table>],
-    slow: &[Vec<Table>],
-    rounds: u32,
-) -> Result<(), Different> {
+fn print_older(typical: &[Vec<Table>], slow: &[Vec<Table>], rounds: u32) -> Result<(), Different> {
     let print = |title, pair, texts: &[Vec<Vec<u8>>]| {
-        print_times_on(title, ("older", pair, without_points), texts, rounds)
+        print_times_on(title, ("older", pair, without_deadlines), texts, rounds)
     };
     print("planner, typical tables", &OLDER_PLAN, &texts_of(typical, tables::text))?;
     print("planner, slow tables", &OLDER_PLAN, &texts_of(slow, tables::text))?;
@@ -193,27 +198,26 @@ fn print_older(_: &[Vec<Table>], _: &[Vec<Table>], _: u32) -> Result<(), Differe
     Ok(())
 }
 
-/// The text of a table without points as it was before request 7.
+/// The text of a table whose deadlines are its periods as it was before request 8.
 #[cfg(before)]
-fn without_points(text: &[u8]) -> Vec<u8> {
+fn without_deadlines(text: &[u8]) -> Vec<u8> {
     let lines = text.split_inclusive(|&byte| byte == b'\n');
-    lines.filter(|line| *line != b"points=0\n").flatten().copied().collect()
+    lines.filter(|line| !line.starts_with(b"deadline=")).flatten().copied().collect()
 }
 
 // ---- Tables -----------------------------------------------------------------------------
 
-/// The plan's order, and the work of the search for it if `COUNTED`, as it is or as it was before
-/// request 6.
-fn chosen<const COUNTED: bool, const SOONER: bool>(table: &Table) -> (Option<Vec<usize>>, Work) {
-    plain::chosen::<COUNTED, SOONER>(&plain::table_of(table))
+/// The work of the search for the plan's order, begun as `START` says, up to so many terms.
+fn counted<const START: u8>(table: &Table, most: u64) -> Work {
+    plain::chosen::<true, START>(&plain::table_of(table), most).1
 }
 
 fn order(table: &Table) -> Option<Vec<usize>> {
-    chosen::<false, true>(table).0
+    plain::chosen::<false, JOB_AFTER_JOB>(&plain::table_of(table), u64::MAX).0
 }
 
 fn work(table: &Table) -> u64 {
-    chosen::<true, true>(table).1.terms
+    counted::<JOB_AFTER_JOB>(table, u64::MAX).terms
 }
 
 fn typical(dice: &mut Dice, tasks: usize) -> Table {
@@ -234,6 +238,11 @@ fn switching(dice: &mut Dice, tasks: usize) -> Table {
 fn curved(dice: &mut Dice, tasks: usize) -> Table {
     let family = dice.pick(&tables::FAMILIES);
     tables::curved(dice, family, tasks)
+}
+
+fn deadlined(dice: &mut Dice, tasks: usize) -> Table {
+    let family = dice.pick(&tables::FAMILIES);
+    tables::deadlined(dice, family, tasks)
 }
 
 fn slowest_drawn(dice: &mut Dice, draw: Draw, tasks: usize) -> Table {
@@ -261,6 +270,10 @@ fn slow_switching(dice: &mut Dice, tasks: usize) -> Table {
 
 fn slow_curved(dice: &mut Dice, tasks: usize) -> Table {
     slowest_drawn(dice, curved, tasks)
+}
+
+fn slow_deadlined(dice: &mut Dice, tasks: usize) -> Table {
+    slowest_drawn(dice, deadlined, tasks)
 }
 
 type Draw = fn(&mut Dice, usize) -> Table;
@@ -361,8 +374,8 @@ fn print_saved(name: &str, tables: &[Table], rounds: u32) -> Result<(), Differen
     let values = |work: fn(&Table) -> Work| {
         tables.iter().map(|table| work(table).values).sum::<u64>() as f64 / count
     };
-    let before = values(|table| chosen::<true, false>(table).1);
-    let after = values(|table| chosen::<true, true>(table).1);
+    let before = values(|table| counted::<OWN_TIMES>(table, u64::MAX));
+    let after = values(|table| counted::<JOB_AFTER_JOB>(table, u64::MAX));
     println!("  {name}: values tried {before:.1}, {after:.1}, ratio {:.3}", after / before);
     let mut sum = Times::default();
     for table in tables {
@@ -373,6 +386,30 @@ fn print_saved(name: &str, tables: &[Table], rounds: u32) -> Result<(), Differen
     Ok(())
 }
 
+/// What it saves to go on from the end of the job before, on tables with deadlines: the values that
+/// are tried, and the time of a call, where the search begins anew for each job and where it goes on.
+fn print_anew(dice: &mut Dice, options: &Options) -> Result<(), Different> {
+    print!("planner, the end of each job searched anew, or on from the one before: ");
+    println!("values tried for an order, microseconds a call");
+    for tasks in SHOWN {
+        let tables: Vec<Table> = (0..options.tables).map(|_| slow_deadlined(dice, tasks)).collect();
+        let count = tables.len() as f64;
+        let values = |work: fn(&Table) -> Work| {
+            tables.iter().map(|table| work(table).values).sum::<u64>() as f64 / count
+        };
+        let anew = values(|table| counted::<ONE_OF_EACH>(table, u64::MAX));
+        let after = values(|table| counted::<JOB_AFTER_JOB>(table, u64::MAX));
+        let mut sum = Times::default();
+        for table in &tables {
+            sum.add(measure(&GOING_ON, &tables::text(table), options.rounds)?);
+        }
+        let (base, timed) = (sum.base * 1e6 / count, sum.timed * 1e6 / count);
+        println!("  {tasks} tasks, slow: values {anew:.1}, {after:.1}, ratio {:.3}", after / anew);
+        println!("    plain: {base:.2}, {timed:.2}, ratio {:.3}", sum.ratio());
+    }
+    Ok(())
+}
+
 // ---- Full runs --------------------------------------------------------------------------
 
 /// A run of the most ticks with the most tasks and lengths, all tasks nearly alike.
@@ -380,6 +417,7 @@ fn full_run(period: u64, worst: u64, best: u64) -> Vec<u8> {
     let row = |task: u64| Row {
         task,
         period: period + task,
+        deadline: period + task,
         worst,
         best,
         alpha: 1_000,
@@ -499,7 +537,11 @@ fn print_stack(dice: &mut Dice, count: usize) {
     );
 }
 
-// ---- The search for a slow table --------------------------------------------------------
+// ---- The search for slow tables ---------------------------------------------------------
+
+const MOST_TICKS: u64 = 1_000_000;
+/// A search of more terms than this is timed by one call.
+const SLOW_WORK: u64 = 500_000_000;
 
 fn near(dice: &mut Dice, number: u64, low: u64, high: u64) -> u64 {
     let moved = match dice.below(5) {
@@ -515,26 +557,32 @@ fn near(dice: &mut Dice, number: u64, low: u64, high: u64) -> u64 {
 /// A beta that is no limit, or that the row just misses below some of the others.
 fn some_beta(dice: &mut Dice, table: &Table, index: usize) -> u64 {
     match tables::boundary_at_random(dice, table, index) {
-        Some(beta) if dice.once_in(2) => beta - 1,
+        Some(beta) if dice.once_in(2) => beta.max(1) - 1,
         _ => 200_000_000_000,
     }
 }
 
-/// A table a step away; its switch stays, and is 0 where a climb begins.
-fn step_from(dice: &mut Dice, table: &Table) -> Table {
+/// A table a step away, with deadlines of its own if `patient`; its switch stays, and is 0 where a
+/// climb begins.
+fn step_from(dice: &mut Dice, table: &Table, patient: bool) -> Table {
     let mut table = table.clone();
     let (index, other) = (dice.below(table.rows.len()), dice.below(table.rows.len()));
     let mut row = table.rows[index].clone();
-    match dice.below(7) {
-        0 => row.period = near(dice, row.period, row.worst, 1_000_000),
+    match dice.below(if patient { 9 } else { 7 }) {
+        0 => row.period = near(dice, row.period, row.worst, MOST_TICKS),
         1 => row.worst = near(dice, row.worst, 1, row.period),
         2 => row.best = near(dice, row.best, 1, row.worst),
         3 => row.alpha = dice.pick(&[1_000, 2_000, 100_000]),
         4 => row.beta = some_beta(dice, &table, index),
         5 => row = Row { task: row.task, ..table.rows[other].clone() },
-        _ => {}
+        6 => {}
+        7 => row.deadline = MOST_TICKS,
+        _ => row.deadline = near(dice, row.deadline, 1, MOST_TICKS),
     }
     row.best = row.best.min(row.worst);
+    if !patient {
+        row.deadline = row.period;
+    }
     table.rows[index] = row;
     if dice.once_in(4) {
         table.rows.swap(index, other);
@@ -542,33 +590,68 @@ fn step_from(dice: &mut Dice, table: &Table) -> Table {
     table
 }
 
-/// A table made to be slow: short tasks that leave one tick in 87,639 free, so that the search of a
-/// latest response creeps; long tasks that all just fit below them, so that every set of these is
-/// tried; and, last in the table, a task that is never stable, so that all of it is in vain.
-fn creeping(tasks: usize) -> Table {
-    let loose = |period| Row {
+/// A row of jobs of so many ticks that no line troubles and, but for its period, no deadline either.
+fn loose(period: u64, ticks: u64, deadline: u64) -> Row {
+    Row {
         task: 0,
         period,
-        worst: 1,
-        best: 1,
+        deadline,
+        worst: ticks,
+        best: ticks,
         alpha: 1_000,
         beta: 200_000_000_000,
         hold: 0,
         curve: Vec::new(),
-    };
-    let (short, never) = ([1_844, 43, 7, 3, 2], 1);
-    let long = std::iter::repeat_n(1_000_000, tasks - short.len() - never);
-    let mut rows = long.chain(short).map(loose).collect::<Vec<_>>();
-    rows.push(Row { beta: 0, ..rows[0].clone() });
+    }
+}
+
+fn numbered(mut rows: Vec<Row>) -> Table {
     rows.iter_mut().zip(1..).for_each(|(row, task)| row.task = task);
     Table { board: 1, switch: 0, rows }
 }
 
-/// Climbs from a table to slower ones until the work of all tables tried passes `budget`.
-fn climb(dice: &mut Dice, start: Table, budget: u64) -> (u64, Table) {
-    let (mut most, mut table, mut spent) = (work(&start), start, 0);
+/// A table made to be slow: short tasks that leave one tick in 87,639 free, so that the search of a
+/// latest response creeps; long tasks that all just fit below them, so that every set of these is
+/// tried; and, last in the table, a task that is never stable, so that all of it is in vain.
+fn creeping(tasks: usize) -> Table {
+    let (short, never) = ([1_844, 43, 7, 3, 2], 1);
+    let long = std::iter::repeat_n(MOST_TICKS, tasks - short.len() - never);
+    let rows = long.chain(short).map(|period| loose(period, 1, period));
+    let mut rows = rows.collect::<Vec<_>>();
+    rows.push(Row { beta: 0, ..rows[0].clone() });
+    numbered(rows)
+}
+
+/// A table made to be slow by its deadlines: a task of one tick in two, the last of the table, below
+/// one of nearly half a million ticks that is never stable has half a million jobs in its busy
+/// interval. The others are stable wherever they stand, so that every set of them is tried, with that
+/// task as its lowest too.
+fn overrunning(tasks: usize) -> Table {
+    let others = tasks as u64 - 2;
+    let mut rows: Vec<Row> = (0..others).map(|_| loose(MOST_TICKS, 1, MOST_TICKS)).collect();
+    let long = MOST_TICKS / 2 - 2 * others;
+    rows.push(Row { beta: 0, ..loose(MOST_TICKS, long, MOST_TICKS) });
+    rows.push(loose(2, 1, MOST_TICKS));
+    numbered(rows)
+}
+
+/// The same with tasks that all overrun: each has tens of thousands of jobs in its busy interval below
+/// the long one, and no row of a set ends within its own period.
+fn all_overrunning(tasks: usize) -> Table {
+    let short = tasks as u64 - 1;
+    let mut rows: Vec<Row> = (0..short).map(|_| loose(2 * short + 2, 1, MOST_TICKS)).collect();
+    rows.push(Row { beta: 0, ..loose(MOST_TICKS, MOST_TICKS / 2, MOST_TICKS) });
+    numbered(rows)
+}
+
+/// Climbs from a table to slower ones until the work of all tables tried passes `budget`; the work of
+/// the last, or one past the budget if it needs more.
+fn climb(dice: &mut Dice, start: Table, budget: u64, patient: bool) -> (u64, Table) {
+    let work = |table: &Table| counted::<JOB_AFTER_JOB>(table, budget).terms.min(budget + 1);
+    let (mut most, mut table) = (work(&start), start);
+    let mut spent = most;
     while spent < budget {
-        let next = step_from(dice, &table);
+        let next = step_from(dice, &table, patient);
         let needed = work(&next);
         spent += needed;
         if needed >= most {
@@ -578,24 +661,91 @@ fn climb(dice: &mut Dice, start: Table, budget: u64) -> (u64, Table) {
     (most, table)
 }
 
-/// Climbs from a drawn table and from the made one, each with half of the budget, and times the
-/// slowest table that was met.
+/// What one call takes of each on a text; of several rounds the shortest where they are quick.
+fn measure_slow(pair: &Pair, text: &[u8], work: u64, rounds: u32) -> Result<Times, Different> {
+    if work < SLOW_WORK {
+        return measure(pair, text, rounds);
+    }
+    let mut buffers = [vec![0; AMPLE], vec![0; AMPLE]];
+    let [one, other] = &mut buffers;
+    let once = |function: Function, buffer: &mut Vec<u8>| {
+        let started = clock();
+        let answer = black_box(function(black_box(text), buffer));
+        (answer, (clock() - started) as f64 * 1e-6)
+    };
+    let (base, timed) = (once(pair.base, one), once(pair.timed, other));
+    if (base.0, one) != (timed.0, other) {
+        return Err(Different(text.to_vec()));
+    }
+    Ok(Times { base: base.1, timed: timed.1 })
+}
+
+/// Prints a slow table with the times that it takes and, up to so many terms, where they go.
+fn print_slow(name: &str, table: &Table, most: u64, rounds: u32) -> Result<(), Different> {
+    let Work { sets, tests, jobs, values, terms } = counted::<JOB_AFTER_JOB>(table, most);
+    let text = tables::text(table);
+    let times = measure_slow(&PLAN, &text, terms, rounds)?;
+    let (plain, library) = (times.base * 1e3, times.timed * 1e3);
+    println!("{name}: plain {plain:.3} ms, library {library:.3} ms, ratio {:.3}", times.ratio());
+    match terms > most {
+        true => println!("  more than {most} terms"),
+        false => {
+            print!("  {sets} sets, {tests} tests of a row, {jobs} jobs of busy intervals, ");
+            println!("{values} values of their ends, {terms} terms");
+        }
+    }
+    print!("{}", String::from_utf8_lossy(&text));
+    Ok(())
+}
+
+/// Climbs from a drawn table and from made ones, each with its part of the budget, and times the
+/// slowest table that was met; with deadlines of the periods, and with other ones.
 fn print_slowest(dice: &mut Dice, millions: u64, rounds: u32) -> Result<(), Different> {
-    let starts = [slow(dice, MOST_TASKS), creeping(MOST_TASKS)];
-    let ends = starts.map(|start| climb(dice, start, millions * 500_000));
-    println!("climbed to {} and {} terms", ends[0].0, ends[1].0);
-    let (_, table) = ends.into_iter().max_by_key(|end| end.0).expect("two climbs");
     println!("{SAVED}");
     print_saved("12 tasks, made to be slow", &[creeping(12)], 2)?;
-    print_saved("the slowest table found", &[table.clone()], 2)?;
-    let text = tables::text(&table);
-    let times = measure(&PLAN, &text, rounds)?;
-    let (plain, library) = (times.base * 1e3, times.timed * 1e3);
+    for tasks in SHOWN {
+        for patient in [false, true] {
+            let starts = match patient {
+                false => vec![slow(dice, tasks), creeping(tasks)],
+                true => {
+                    vec![slow_deadlined(dice, tasks), all_overrunning(tasks), overrunning(tasks)]
+                }
+            };
+            let budget = millions * 1_000_000 / starts.len() as u64;
+            let ends = starts.into_iter().map(|start| climb(dice, start, budget, patient));
+            let ends: Vec<(u64, Table)> = ends.collect();
+            let met: Vec<u64> = ends.iter().map(|end| end.0).collect();
+            let (_, table) = ends.into_iter().max_by_key(|end| end.0).expect("some climbs");
+            let with = if patient { "with deadlines" } else { "with deadlines of the periods" };
+            println!("{tasks} tasks {with}: climbed to {met:?} terms");
+            print_slow(&format!("slowest table of {tasks} tasks {with}"), &table, budget, rounds)?;
+        }
+    }
+    Ok(())
+}
+
+/// What one test of a row costs whose busy interval has the most ticks: the first row of the table,
+/// below all others. Beside it only rows are tested that are late at once.
+fn print_busy_interval(rounds: u32) -> Result<(), Different> {
     println!(
-        "slowest table found: plain {plain:.3} ms, library {library:.3} ms, ratio {:.3}",
-        times.ratio()
+        "planner, a row tested whose busy interval has {MOST_TICKS} ticks, milliseconds a call"
     );
-    print!("{}", String::from_utf8_lossy(&text));
+    // The others are late at once below any other row.
+    let long = |ticks| loose(MOST_TICKS, ticks, 1);
+    let (once, often) = (vec![long(1); 14], vec![loose(30, 1, 1); 14]);
+    let tables = [
+        ("500000 jobs below one task", vec![loose(2, 1, MOST_TICKS), long(500_000)]),
+        ("500000 jobs below 15", [vec![loose(2, 1, MOST_TICKS), long(499_986)], once].concat()),
+        ("33334 jobs below 15", [vec![loose(30, 1, MOST_TICKS), long(500_000)], often].concat()),
+    ];
+    for (name, rows) in tables {
+        let table = numbered(rows);
+        let Work { tests, jobs, values, terms, .. } = counted::<JOB_AFTER_JOB>(&table, u64::MAX);
+        let times = measure_slow(&PLAN, &tables::text(&table), terms, rounds)?;
+        let (plain, library) = (1e3 * times.base, 1e3 * times.timed);
+        print!("  {name}: plain {plain:.3}, library {library:.3}, ratio {:.3}", times.ratio());
+        println!("; {tests} tests, {jobs} jobs, {values} values, {terms} terms");
+    }
     Ok(())
 }
 
@@ -665,6 +815,9 @@ fn run(options: &Options) -> Result<(), Different> {
     print_more(&mut own(2), "with holds", [holding, slow_holding], options)?;
     print_more(&mut own(4), "with a switch", [switching, slow_switching], options)?;
     print_more(&mut own(5), "with a curve in every row", [curved, slow_curved], options)?;
+    print_more(&mut own(6), "with deadlines", [deadlined, slow_deadlined], options)?;
+    print_anew(&mut own(7), options)?;
+    print_busy_interval(options.rounds)?;
     print_full_runs(options.rounds)?;
     print_stack(&mut own(3), options.tables.min(MOST_PIECES));
     if options.climb > 0 {

@@ -3,14 +3,16 @@
 use crate::boards::{self, Choice, Keeps, Lengths, Releases, Seen, Task};
 use crate::calls::{self, AMPLE};
 use crate::dice::Dice;
-use crate::model::{Row, Table, MOST_TASKS};
+use crate::model::{self, Row, Table, MOST_TASKS};
 use crate::{library, progress, tables};
 use std::time::Instant;
 
 const MOST_TICKS: u64 = 6_000;
-/// A table with a longer period is left out, since a run of it takes too long.
+/// A table with a longer period or a longer busy interval is left out, since a run of it takes too
+/// long; so is a run that has to be longer.
 const LONGEST_PERIOD: u64 = 10_000;
-/// So many plans have a switch in some of them.
+const LONGEST_RUN: u64 = 40_000;
+/// So many plans have a switch in some of them, and a task that overruns its period in others.
 const MANY_PLANS: u64 = 50;
 
 /// How many tasks came how close to one of their lines, each over all its runs.
@@ -39,6 +41,13 @@ impl Gaps {
     }
 }
 
+/// A plan on a board: its tasks, and for each the ticks of the busy interval in which its responses
+/// are longest.
+struct Plan {
+    tasks: Vec<Task>,
+    busy: Vec<u64>,
+}
+
 /// A task that did not come as far as the rules allow.
 struct Missed {
     what: &'static str,
@@ -52,6 +61,10 @@ struct Report {
     runs: u64,
     switching: u64,
     holding: u64,
+    /// Plans with a worst line past the period of its task, and those of them in which a job of such a
+    /// task is held to its best line.
+    overrunning: u64,
+    settling: u64,
     total: Seen,
     to_worst: Gaps,
     to_best: Gaps,
@@ -66,6 +79,10 @@ impl Report {
     /// Adds one plan's tasks, each with all that was seen of it.
     fn add(&mut self, text: &[u8], tasks: &[Task], all: &[Seen]) {
         self.holding += tasks.iter().any(|task| task.hold >= 2) as u64;
+        let overruns = |(task, _): &(&Task, &Seen)| task.worst > task.period;
+        self.overrunning += tasks.iter().zip(all).any(|task| overruns(&task)) as u64;
+        let mut overrunning = tasks.iter().zip(all).filter(overruns);
+        self.settling += overrunning.any(|(_, seen)| seen.settled > 0) as u64;
         for (rank, (task, seen)) in tasks.iter().zip(all).enumerate() {
             absorb(&mut self.total, seen);
             let gap = task.worst - seen.largest;
@@ -97,7 +114,7 @@ impl Report {
     }
 
     fn print(&self) {
-        let Seen { jobs, at_worst, settled, at_best, kept, .. } = self.total;
+        let Seen { jobs, at_worst, settled, at_best, kept, overran, pending, .. } = self.total;
         println!("  {jobs} jobs, none past its worst line, {at_worst} exactly on it");
         println!(
             "  {settled} jobs held to their best line, none before it, {at_best} exactly on it"
@@ -105,6 +122,14 @@ impl Report {
         self.to_worst.print("worst line, by task");
         self.to_best.print("best line, by task");
         println!("  {} of the plans with a switch above 0", self.switching);
+        let Report { overrunning, settling, .. } = self;
+        print!(
+            "  {overrunning} of the plans with a task that overruns its period, {settling} with "
+        );
+        print!(
+            "jobs of such a task that are held to its best line; {overran} jobs finished after "
+        );
+        println!("the next release of their task, {pending} of a task unfinished at most");
         println!(
             "  {} of the plans with a hold of 2 or more, {kept} ticks kept from a higher rank",
             self.holding
@@ -122,6 +147,9 @@ impl Report {
         if plans >= MANY_PLANS && self.switching == 0 {
             return Err(format!("NO SWITCH in {plans} plans\n"));
         }
+        if plans >= MANY_PLANS && (self.settling == 0 || self.total.pending < 3) {
+            return Err(format!("NO TASK OVERRAN its period as it should in {plans} plans\n"));
+        }
         Ok(())
     }
 }
@@ -132,25 +160,29 @@ fn absorb(total: &mut Seen, seen: &Seen) {
     total.at_worst += seen.at_worst;
     total.at_best += seen.at_best;
     total.kept += seen.kept;
+    total.overran += seen.overran;
+    total.pending = total.pending.max(seen.pending);
     total.largest = total.largest.max(seen.largest);
     total.smallest = [total.smallest, seen.smallest].into_iter().flatten().min();
 }
 
-/// The tasks of the plan that the library writes for a table, with the lines as it wrote them;
-/// none if it refuses.
-fn tasks_of_plan(text: &[u8], table: &Table) -> Option<Vec<Task>> {
+/// The plan that the library writes for a table, with the lines as it wrote them; none if it refuses.
+fn plan_of(text: &[u8], table: &Table) -> Option<Plan> {
     let mut buffer = [0; AMPLE];
     let answer = library::plan(text, &mut buffer);
     if answer.number != 0 {
         return None;
     }
     let ranks = calls::ranks_in(buffer.get(..answer.length as usize)?, &table.rows)?;
-    let task = |rank: calls::Rank| {
-        let Row { period, worst, best: least, hold, .. } = table.rows[rank.index];
+    let task = |rank: &calls::Rank| {
+        let Row { period, deadline, worst, best: least, hold, .. } = table.rows[rank.index];
         let most = worst + table.switch;
-        Task { period, least, most, hold, best: rank.best, worst: rank.worst }
+        Task { period, deadline, least, most, hold, best: rank.best, worst: rank.worst }
     };
-    Some(ranks.into_iter().map(task).collect())
+    let tasks = ranks.iter().map(task).collect();
+    let order: Vec<usize> = ranks.iter().map(|rank| rank.index).collect();
+    let busy = (0..order.len()).map(|rank| model::busy_ticks(table, &order, rank)).collect();
+    Some(Plan { tasks, busy })
 }
 
 /// Every choice of first releases with every choice of lengths and, where something may hold, of
@@ -182,18 +214,28 @@ fn choices(tasks: &[Task]) -> Vec<Choice> {
     choices
 }
 
+/// The ticks of a run: some periods, a busy interval of each task, and up to the job that is to be the
+/// first of its task and the shortest.
+fn ticks(plan: &Plan, first: &[u64], choice: Choice) -> u64 {
+    let longest = plan.tasks.iter().map(|task| task.period).max().unwrap_or(0);
+    let busy = plan.busy.iter().max().unwrap_or(&0) + 1;
+    let some = (12 * longest).min(MOST_TICKS).max(4 * longest).max(busy);
+    match choice.releases {
+        Releases::Aligned(rank) => some.max(first[rank] + plan.tasks[rank].worst),
+        _ => some,
+    }
+}
+
 /// All runs of one plan; the error describes a broken line.
-fn run_plan(
-    dice: &mut Dice,
-    report: &mut Report,
-    text: &[u8],
-    tasks: &[Task],
-) -> Result<(), String> {
-    let longest = tasks.iter().map(|task| task.period).max().unwrap_or(0);
-    let ticks = (12 * longest).min(MOST_TICKS).max(4 * longest);
+fn run_plan(dice: &mut Dice, report: &mut Report, text: &[u8], plan: &Plan) -> Result<(), String> {
+    let tasks = &plan.tasks;
     let mut all = vec![Seen::default(); tasks.len()];
     for choice in choices(tasks) {
         let first = boards::first_releases(dice, choice.releases, tasks);
+        let ticks = ticks(plan, &first, choice);
+        if ticks > LONGEST_RUN {
+            continue;
+        }
         let seen = boards::run(dice, tasks, &first, choice, ticks).map_err(|violation| {
             let Choice { lengths, keeps, .. } = choice;
             let run = format!("first releases {first:?}, lengths {lengths:?}, kept {keeps:?}");
@@ -217,10 +259,13 @@ pub fn run(dice: &mut Dice, count: u64) -> Result<(), String> {
             continue;
         }
         let text = tables::text(&table);
-        let Some(tasks) = tasks_of_plan(&text, &table) else {
+        let Some(plan) = plan_of(&text, &table) else {
             continue;
         };
-        run_plan(dice, &mut report, &text, &tasks)?;
+        if plan.busy.iter().any(|&ticks| ticks >= LONGEST_RUN) {
+            continue;
+        }
+        run_plan(dice, &mut report, &text, &plan)?;
         report.switching += (table.switch > 0) as u64;
         done += 1;
         progress("boards", done, count, started);

@@ -1,6 +1,6 @@
-//! The board of document 01 with the stretches of request 2 and the longer jobs of request 4, tick by
-//! tick. First releases, job lengths and stretches are chosen to bring finishes as close as they can
-//! come to a plan's `worst` and `best` lines.
+//! The board of document 01 with the stretches of request 2, the longer jobs of request 4 and the
+//! deadlines of request 8, tick by tick. First releases, job lengths and stretches are chosen to bring
+//! finishes as close as they can come to a plan's `worst` and `best` lines.
 
 use crate::dice::Dice;
 use std::collections::VecDeque;
@@ -9,6 +9,8 @@ use std::collections::VecDeque;
 #[derive(Clone, Copy, Debug, PartialEq)]
 pub struct Task {
     pub period: u64,
+    /// How long after the first releases above its jobs are held to `best`, from the table.
+    pub deadline: u64,
     /// What a job may need, from the table: its best time, up to its worst and the switch.
     pub least: u64,
     pub most: u64,
@@ -72,13 +74,17 @@ pub struct Seen {
     pub jobs: u64,
     pub largest: u64,
     pub at_worst: u64,
-    /// Jobs released at least a period of their own after every first release above: only these
+    /// Jobs released at least a deadline of their own after every first release above: only these
     /// are promised not to finish before `best`.
     pub settled: u64,
     pub smallest: Option<u64>,
     pub at_best: u64,
     /// Ticks that its jobs kept from a higher rank.
     pub kept: u64,
+    /// Jobs that finished after the next release of their task, and the most that were unfinished at
+    /// once.
+    pub overran: u64,
+    pub pending: u64,
 }
 
 /// A job that finished past a line, or that can no longer finish within `worst`.
@@ -137,8 +143,8 @@ pub fn shortest(tasks: &[Task], own: usize) -> u64 {
 
 pub fn first_releases(dice: &mut Dice, releases: Releases, tasks: &[Task]) -> Vec<u64> {
     let aligned = |rank: usize, own: usize| {
-        let longest = tasks[..=own].iter().map(|task| task.period).max().unwrap_or(0);
-        let start = longest + tasks[own].period;
+        let longest = tasks[..own].iter().map(|task| task.period).max().unwrap_or(0);
+        let start = longest + tasks[own].deadline;
         if rank < own {
             (start + ticks_by_rank(tasks, own)) % tasks[rank].period
         } else {
@@ -183,7 +189,7 @@ fn length(dice: &mut Dice, lengths: Lengths, task: &Task, turn: u64) -> u64 {
 fn places(tasks: &[Task], first: &[u64]) -> Vec<Place> {
     let place = |rank: usize| {
         let last_first = first[..rank].iter().max();
-        let settled_from = last_first.map_or(0, |last| last + tasks[rank].period);
+        let settled_from = last_first.map_or(0, |last| last + tasks[rank].deadline);
         Place {
             queue: VecDeque::new(),
             next: first[rank],
@@ -202,6 +208,7 @@ fn release(dice: &mut Dice, lengths: Lengths, tasks: &[Task], places: &mut [Plac
         if place.next == tick {
             let left = length(dice, lengths, task, place.released + rank as u64);
             place.queue.push_back(Job { release: tick, left });
+            place.seen.pending = place.seen.pending.max(place.queue.len() as u64);
             place.released += 1;
             place.next += task.period;
         }
@@ -214,6 +221,7 @@ fn finish(task: &Task, place: &mut Place, release: u64, response: u64) -> bool {
     seen.jobs += 1;
     seen.largest = seen.largest.max(response);
     seen.at_worst += (response == task.worst) as u64;
+    seen.overran += (response > task.period) as u64;
     if release < place.settled_from {
         return response <= task.worst;
     }
@@ -327,12 +335,17 @@ pub fn run(
 mod tests {
     use super::*;
 
+    /// A task whose deadline is its period, by the ends of what its jobs last and of its responses.
+    fn task(period: u64, [least, most]: [u64; 2], hold: u64, [best, worst]: [u64; 2]) -> Task {
+        Task { period, deadline: period, least, most, hold, best, worst }
+    }
+
     /// The plan of document 01's example.
     fn example() -> Vec<Task> {
         vec![
-            Task { period: 18, least: 2, most: 2, hold: 0, best: 2, worst: 2 },
-            Task { period: 24, least: 6, most: 6, hold: 0, best: 6, worst: 8 },
-            Task { period: 200, least: 17, most: 19, hold: 0, best: 25, worst: 35 },
+            task(18, [2, 2], 0, [2, 2]),
+            task(24, [6, 6], 0, [6, 8]),
+            task(200, [17, 19], 0, [25, 35]),
         ]
     }
 
@@ -359,9 +372,9 @@ mod tests {
     /// The example with a switch of 1, and the lines of the reviewer for it.
     fn switched() -> Vec<Task> {
         vec![
-            Task { period: 18, least: 2, most: 3, hold: 0, best: 2, worst: 3 },
-            Task { period: 24, least: 6, most: 7, hold: 0, best: 6, worst: 10 },
-            Task { period: 200, least: 17, most: 20, hold: 0, best: 25, worst: 43 },
+            task(18, [2, 3], 0, [2, 3]),
+            task(24, [6, 7], 0, [6, 10]),
+            task(200, [17, 20], 0, [25, 43]),
         ]
     }
 
@@ -407,12 +420,93 @@ mod tests {
         assert_eq!(broken, Err(Violation { rank: 3, release: first[2], response: 25 }));
     }
 
+    // ---- Jobs that overrun --------------------------------------------------------------
+
+    /// The largest responses, what the last task's jobs have done, and how many of them were held to
+    /// their best line, in a run of some ticks with all released at once and at their longest.
+    fn at_once(tasks: &[Task], ticks: u64) -> Result<(Vec<u64>, [u64; 5]), Violation> {
+        let first = vec![0; tasks.len()];
+        let seen = run(&mut Dice::new(1), tasks, &first, at_worst(Keeps::Never), ticks)?;
+        let last = seen[tasks.len() - 1];
+        let counts = [last.jobs, last.overran, last.at_worst, last.pending, last.settled];
+        Ok((seen.iter().map(|seen| seen.largest).collect(), counts))
+    }
+
+    /// Two axis loops of 8 ticks every 40 and 14 every 70 above a heater of 58 every 100, which has a
+    /// deadline of 150. The heater's first job has ticks 22 to 39, 48 to 69 and 92 to 109, so that it is
+    /// done ten ticks after the next release; the second has 110 to 119, 128 to 139, 154 to 159 and 168
+    /// to 197. The third has 208, 209, 224 to 239, 248 to 279 and 302 to 309: it is done at 310.
+    fn heater(deadline: u64) -> Vec<Task> {
+        let heater = task(100, [50, 58], 0, [72, 110]);
+        vec![
+            task(40, [8, 8], 0, [8, 8]),
+            task(70, [14, 14], 0, [14, 22]),
+            Task { deadline, ..heater },
+        ]
+    }
+
+    #[test]
+    fn a_job_may_be_done_after_the_next_release_and_goes_before_it() {
+        let tasks = heater(150);
+        assert_eq!(at_once(&tasks, 109), Ok((vec![8, 22, 0], [0, 0, 0, 2, 0])));
+        assert_eq!(at_once(&tasks, 110), Ok((vec![8, 22, 110], [1, 1, 1, 2, 0])));
+        assert_eq!(at_once(&tasks, 197), Ok((vec![8, 22, 110], [1, 1, 1, 2, 0])));
+        assert_eq!(at_once(&tasks, 198), Ok((vec![8, 22, 110], [2, 1, 1, 2, 0])));
+        let mut tight = heater(150);
+        tight[2].worst = 109;
+        let overdue = Violation { rank: 3, release: 0, response: 109 };
+        assert_eq!(at_once(&tight, 200), Err(overdue));
+    }
+
+    #[test]
+    fn jobs_are_held_to_their_best_line_from_a_deadline_of_their_own_on() {
+        // The jobs are released at 0, 100 and 200, all above at 0 for the first time.
+        for (deadline, settled) in [(100, 2), (101, 1), (150, 1), (200, 1), (201, 0), (1_000, 0)] {
+            let (_, counts) = at_once(&heater(deadline), 310).unwrap();
+            assert_eq!(counts, [3, 2, 2, 2, settled], "{deadline}");
+        }
+        // The first is too early by its line, and nobody minds before the deadline.
+        let mut late = heater(101);
+        late[2].best = 110;
+        let early = Violation { rank: 3, release: 100, response: 98 };
+        assert!(at_once(&late, 310).is_ok());
+        late[2].deadline = 100;
+        assert_eq!(at_once(&late, 310), Err(early));
+    }
+
+    /// Jobs of 4 ticks every 10 below one of 50 every 100. Six wait at tick 50, and the qth is done at
+    /// 54 + 4 q, the ninth before its next release.
+    #[test]
+    fn many_jobs_wait_and_the_oldest_goes_first() {
+        let mut tasks = vec![task(100, [50, 50], 0, [50, 50]), task(10, [4, 4], 0, [4, 54])];
+        tasks[1].deadline = 60;
+        for (ticks, done) in
+            [(53, 0u64), (54, 1), (57, 1), (58, 2), (85, 8), (86, 9), (93, 9), (94, 10)]
+        {
+            let (largest, counts) = at_once(&tasks, ticks).unwrap();
+            assert_eq!(largest, [50, if done == 0 { 0 } else { 54 }], "{ticks}");
+            // Responses are 54, 48 and so on down to 6, and then 4.
+            assert_eq!(counts, [done, done.min(8), done.min(1), 6, done.saturating_sub(6)]);
+        }
+        tasks[1].worst = 53;
+        let overdue = Violation { rank: 2, release: 0, response: 53 };
+        assert_eq!(at_once(&tasks, 100), Err(overdue));
+    }
+
+    #[test]
+    fn the_job_that_is_to_be_the_shortest_is_held_to_its_best_line() {
+        let (tasks, mut dice) = (heater(150), Dice::new(1));
+        let first = first_releases(&mut dice, Releases::Aligned(2), &tasks);
+        // 70 and the deadline, and then the releases above 72 ticks later.
+        assert_eq!(first, [12, 12, 220]);
+        let choice = Choice { lengths: Lengths::Least, ..at_worst(Keeps::Never) };
+        let seen = run(&mut dice, &tasks, &first, choice, 292).unwrap();
+        assert_eq!((seen[2].jobs, seen[2].settled, seen[2].smallest), (1, 1, Some(72)));
+    }
+
     /// Two ticks above five of which three may be a stretch.
     fn two(hold: u64) -> Vec<Task> {
-        vec![
-            Task { period: 10, least: 2, most: 2, hold: 0, best: 2, worst: 4 },
-            Task { period: 40, least: 5, most: 5, hold, best: 5, worst: 7 },
-        ]
+        vec![task(10, [2, 2], 0, [2, 4]), task(40, [5, 5], hold, [5, 7])]
     }
 
     /// The largest responses in the first ten ticks, the lower job released first, and the ticks
@@ -442,10 +536,7 @@ mod tests {
 
     #[test]
     fn stretches_follow_each_other_and_each_begins_by_rank() {
-        let tasks = [
-            Task { period: 5, least: 2, most: 2, hold: 0, best: 2, worst: 4 },
-            Task { period: 40, least: 12, most: 12, hold: 3, best: 12, worst: 20 },
-        ];
+        let tasks = [task(5, [2, 2], 0, [2, 4]), task(40, [12, 12], 3, [12, 20])];
         let choice = at_worst(Keeps::Always);
         let seen = run(&mut Dice::new(1), &tasks, &[1, 0], choice, 18).unwrap();
         assert_eq!((seen[0].jobs, seen[0].at_worst), (3, 3));
@@ -457,10 +548,7 @@ mod tests {
 
     #[test]
     fn a_stretch_ends_with_its_job() {
-        let tasks = [
-            Task { period: 3, least: 1, most: 1, hold: 0, best: 1, worst: 3 },
-            Task { period: 3, least: 2, most: 3, hold: 3, best: 2, worst: 3 },
-        ];
+        let tasks = [task(3, [1, 1], 0, [1, 3]), task(3, [2, 3], 3, [2, 3])];
         let choice = Choice { lengths: Lengths::Least, ..at_worst(Keeps::Always) };
         let seen = run(&mut Dice::new(1), &tasks, &[0, 0], choice, 30).unwrap();
         assert_eq!((seen[0].jobs, seen[0].largest, seen[1].kept), (10, 1, 0));
@@ -470,10 +558,7 @@ mod tests {
     fn the_shortest_response_is_best_where_a_stretch_is_long_enough() {
         for (hold, response) in [(0, 8), (1, 8), (2, 8), (3, 8), (4, 6), (5, 6), (6, 6), (7, 6)] {
             // The lines are wide, so that none is broken whatever the hold.
-            let tasks = [
-                Task { period: 5, least: 2, most: 2, hold: 0, best: 2, worst: 20 },
-                Task { period: 20, least: 6, most: 7, hold, best: 6, worst: 13 },
-            ];
+            let tasks = [task(5, [2, 2], 0, [2, 20]), task(20, [6, 7], hold, [6, 13])];
             assert_eq!(shortest(&tasks, 1), response);
             let mut dice = Dice::new(1);
             let first = first_releases(&mut dice, Releases::Aligned(1), &tasks);
@@ -485,7 +570,7 @@ mod tests {
 
     #[test]
     fn lengths_stay_between_least_and_most() {
-        let task = Task { period: 20, least: 3, most: 5, hold: 0, best: 3, worst: 5 };
+        let task = task(20, [3, 5], 0, [3, 5]);
         let mut dice = Dice::new(1);
         let mut drift = |turn| length(&mut dice, Lengths::Drifting, &task, turn);
         assert_eq!([drift(0), drift(1), drift(2), drift(3), drift(4)], [3, 4, 5, 4, 3]);

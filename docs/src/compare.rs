@@ -37,6 +37,8 @@ const SHORT_PLAN: usize = 200;
 const MOST_SQUEEZES: u64 = 3;
 /// A table with hundreds of jobs of one task in the time of another's has so many tasks at most.
 const MOST_CROWDED: usize = 5;
+/// Some of the plans of so many tables have tasks that overrun their periods.
+const MANY_TABLES: u64 = 200;
 
 const USAGE: &str =
     "usage: compare [--texts N] [--tables N] [--boards N] [--cranes N] [--crowded N]
@@ -70,10 +72,18 @@ fn lengths(dice: &mut Dice, outcome: &Outcome) -> Vec<usize> {
 }
 
 /// Both calls on one text; how many of its plans were tried with every buffer length.
-fn compare_text(dice: &mut Dice, tally: &mut Tally, text: &[u8]) -> Result<u64, String> {
+fn compare_text(
+    dice: &mut Dice,
+    tally: &mut Tally,
+    overruns: &mut Overruns,
+    text: &[u8],
+) -> Result<u64, String> {
     let mut swept = 0;
     for call in [Call::Plan, Call::Review] {
         let outcome = call.by_model()(text);
+        if let (Call::Plan, Ok(plan)) = (call, &outcome) {
+            overruns.count_plan(text, plan);
+        }
         let lengths = lengths(dice, &outcome);
         swept += (lengths.len() > 1) as u64;
         for length in lengths {
@@ -85,13 +95,15 @@ fn compare_text(dice: &mut Dice, tally: &mut Tally, text: &[u8]) -> Result<u64, 
 
 fn run_texts(dice: &mut Dice, count: u64) -> Result<(), String> {
     let (mut tally, mut swept, started) = (Tally::default(), 0, Instant::now());
+    let mut overruns = Overruns::default();
     for done in 1..=count {
         let text = texts::any(dice);
-        swept += compare_text(dice, &mut tally, &text)?;
+        swept += compare_text(dice, &mut tally, &mut overruns, &text)?;
         progress("texts", done, count, started);
     }
     println!("{count} texts, {} calls, no difference", tally.calls());
     tally.print();
+    overruns.print();
     println!("  plans tried with every buffer length from 0 to past their own: {swept}");
     Ok(())
 }
@@ -145,8 +157,16 @@ fn tighten_a_condition(dice: &mut Dice, table: &mut Table, order: &[usize]) {
     table.rows[order[rank]].beta = boundary.map_or(0, |beta| beta - dice.between(0, 1));
 }
 
-/// The planner on a table whose conditions are tightened one after another, so that ever fewer
-/// orders are stable and each table stands on a boundary or near it; how many tables that were.
+/// Brings the deadline of one task of an order to its latest response there, or one tick below.
+fn tighten_a_deadline(dice: &mut Dice, table: &mut Table, order: &[usize]) {
+    let rank = dice.below(order.len());
+    let latest = tables::latest_in(table, order, rank).unwrap_or(1);
+    table.rows[order[rank]].deadline = (latest - dice.between(0, 1)).max(1);
+}
+
+/// The planner on a table whose conditions and deadlines are tightened one after another, so that
+/// ever fewer orders are stable and each table stands on a boundary or near it; how many tables that
+/// were.
 fn squeeze(
     dice: &mut Dice,
     tally: &mut Tally,
@@ -155,7 +175,10 @@ fn squeeze(
 ) -> Result<u64, String> {
     let mut steps = 0;
     while let Some(stable) = order.filter(|_| steps < MOST_SQUEEZES) {
-        tighten_a_condition(dice, &mut table, &stable);
+        match dice.below(3) {
+            0 => tighten_a_deadline(dice, &mut table, &stable),
+            _ => tighten_a_condition(dice, &mut table, &stable),
+        }
         order = compare_plan(tally, &table)?;
         steps += 1;
     }
@@ -165,7 +188,7 @@ fn squeeze(
 fn run_tables(dice: &mut Dice, count: u64) -> Result<(), String> {
     let (mut tally, started) = (Tally::default(), Instant::now());
     let (mut accepted, mut with_switch, mut squeezed) = ([0; MOST_TASKS], 0, 0);
-    let mut curved = Curved::default();
+    let (mut curved, mut overruns) = (Curved::default(), Overruns::default());
     for done in 1..=count {
         let tasks = (done as usize - 1) % MOST_TASKS;
         let family = dice.pick(&tables::FAMILIES);
@@ -174,6 +197,7 @@ fn run_tables(dice: &mut Dice, count: u64) -> Result<(), String> {
         accepted[tasks] += order.is_some() as u64;
         with_switch += (table.switch > 0 && order.is_some()) as u64;
         curved.count(&table, order.is_some());
+        overruns.count(&table, order.as_deref().unwrap_or(&[]));
         squeezed += squeeze(dice, &mut tally, table, order)?;
         progress("tables", done, count, started);
     }
@@ -183,7 +207,8 @@ fn run_tables(dice: &mut Dice, count: u64) -> Result<(), String> {
     println!("  with a stable order, by number of tasks: {accepted:?}");
     println!("  of these with a switch above 0: {with_switch}");
     curved.print();
-    Ok(())
+    overruns.print();
+    overruns.complete(count)
 }
 
 /// Tables with an order and without, by how many of their rows have points: none, some or all.
@@ -212,20 +237,90 @@ impl Curved {
     }
 }
 
+/// How tasks stand to their deadlines and periods in the plans that were compared.
+#[derive(Default)]
+struct Overruns {
+    /// Tasks with a deadline below their period, and past it.
+    short: u64,
+    long: u64,
+    /// Tasks whose latest response is just their deadline.
+    just: u64,
+    /// Tasks whose first job in a busy interval is not done by the next release: w(0) is past the
+    /// period. And those of them that a later job has the latest response of.
+    overran: u64,
+    later: u64,
+    /// The most jobs and the most ticks of a busy interval.
+    jobs: u64,
+    ticks: u64,
+}
+
+impl Overruns {
+    /// Adds a table's tasks in an order in which none is late; none in an empty order.
+    fn count(&mut self, table: &Table, order: &[usize]) {
+        let ranked: Vec<&Row> = order.iter().map(|&index| &table.rows[index]).collect();
+        for (rank, row) in ranked.iter().enumerate() {
+            let (above, below) = (&ranked[..rank], &ranked[rank + 1..]);
+            let finishes = model::finishes(table.switch, row, above, below).unwrap_or_default();
+            let latest = model::latest(table.switch, row, above, below);
+            self.short += (row.deadline < row.period) as u64;
+            self.long += (row.deadline > row.period) as u64;
+            self.just += (latest == Some(row.deadline)) as u64;
+            self.overran += (finishes.len() > 1) as u64;
+            self.later += (finishes.len() > 1 && latest > finishes.first().copied()) as u64;
+            self.jobs = self.jobs.max(finishes.len() as u64);
+            self.ticks = self.ticks.max(finishes.last().copied().unwrap_or(0));
+        }
+    }
+
+    fn count_plan(&mut self, text: &[u8], plan: &[u8]) {
+        let Ok(table) = model::read_table(text) else {
+            return;
+        };
+        let ranks = calls::ranks_in(plan, &table.rows).unwrap_or_default();
+        let order: Vec<usize> = ranks.iter().map(|rank| rank.index).collect();
+        self.count(&table, &order);
+    }
+
+    fn print(&self) {
+        let Overruns { short, long, just, overran, later, jobs, ticks } = self;
+        print!(
+            "  tasks of the plans with a deadline below their period: {short}, past it: {long}, "
+        );
+        println!("with just their latest response: {just}");
+        print!(
+            "  tasks that overrun their period: {overran}, {later} of them longest by a later job "
+        );
+        println!("than the first; busy intervals of {jobs} jobs and {ticks} ticks at most");
+    }
+
+    /// That the tables tried what they should.
+    fn complete(&self, tables: u64) -> Result<(), String> {
+        let Overruns { short, just, overran, later, .. } = self;
+        if tables >= MANY_TABLES && [short, just, overran, later].contains(&&0) {
+            return Err(format!(
+                "NOT MET: a kind of deadline that is counted above, {tables} tables\n"
+            ));
+        }
+        Ok(())
+    }
+}
+
 /// Tables in which hundreds of jobs of one task, each with its switch, delay another's.
 fn run_crowded(dice: &mut Dice, count: u64) -> Result<(), String> {
     let (mut tally, started) = (Tally::default(), Instant::now());
-    let mut accepted = 0;
+    let (mut accepted, mut overruns) = (0, Overruns::default());
     for done in 1..=count {
         let tasks = 2 + dice.below(MOST_CROWDED - 1);
         let table = tables::crowded(dice, tasks);
         let order = compare_table(dice, &mut tally, &table)?;
         accepted += order.is_some() as u64;
+        overruns.count(&table, order.as_deref().unwrap_or(&[]));
         progress("crowded tables", done, count, started);
     }
     print!("{count} tables of 2 to {MOST_CROWDED} tasks, hundreds of jobs of one in the time of ");
     println!("another's, {} calls, no difference", tally.calls());
     println!("  with a stable order: {accepted}");
+    overruns.print();
     Ok(())
 }
 

@@ -15,7 +15,7 @@ const LINES: [usize; 8] = [31, 32, 33, 64, 256, 257, 288, 9_362];
 const MOST_LINES: usize = 65_540;
 
 /// Pieces of a line or two that are no tables.
-const SHORT_PIECES: [&[u8]; 16] = [
+const SHORT_PIECES: [&[u8]; 17] = [
     b"board=\n",
     b"board=\n\n",
     b"board=7\n",
@@ -31,7 +31,9 @@ const SHORT_PIECES: [&[u8]; 16] = [
     b"board=7\ntasks=1\nswitch=0\n",
     b"board=7\nswitch=0\ntasks=1\n",
     b"board=7\ntasks=1\nswitch=0\npoints=0\n",
-    b"board=7\ntasks=1\nswitch=0\ntask=1\nperiod=9\nworst=9\nbest=9\nalpha=1000\nbeta=0\nhold=0\n",
+    b"board=7\ntasks=1\nswitch=0\ntask=1\nperiod=9\nworst=9\nbest=9\nalpha=1000\nbeta=0\n",
+    b"board=7\ntasks=1\nswitch=0\ntask=1\nperiod=9\ndeadline=9\nworst=9\nbest=9\nalpha=1000\nbeta=0\n\
+      hold=0\n",
 ];
 
 /// Bytes ahead of the first board, with a line feed at their end and without.

@@ -1,6 +1,6 @@
 //! The planner and the reviewer of document 01 with the holds of request 2, the sixteen tasks of
-//! request 3, the switch of request 4 and the curves of request 7, and the crane of request 1,
-//! written from those papers alone.
+//! request 3, the switch of request 4, the curves of request 7 and the deadlines of request 8, and
+//! the crane of request 1, written from those papers alone.
 //!
 //! Nothing here is clever, and nothing follows the product: lines are an indexed list, figures
 //! are found by walking the points where a sum can change, and orders by trying every
@@ -14,6 +14,9 @@ pub const MOST_TASKS: usize = 16;
 
 /// A planned table has no longer holds.
 const MOST_HOLD: u64 = 1_000_000;
+
+/// A task is late if one of its jobs takes longer than this from the start of a busy interval.
+pub const MOST_FINISH: u64 = 1_000_000;
 
 /// A row's curve has no more points than this, and no larger numbers.
 pub const MOST_POINTS: usize = 8;
@@ -42,6 +45,8 @@ pub struct Point {
 pub struct Row {
     pub task: u64,
     pub period: u64,
+    /// The latest response may be past the period, but not past this.
+    pub deadline: u64,
     pub worst: u64,
     pub best: u64,
     pub alpha: u64,
@@ -160,16 +165,17 @@ fn row_at(
     let task = number_at(lines, place, "task", 1, 65_535)?;
     refuse_if(before.iter().any(|row| row.task == task), 5, place)?;
     let period = number_at(lines, place + 1, "period", 1, 1_000_000)?;
-    let worst = number_at(lines, place + 2, "worst", 1, 1_000_000)?;
-    refuse_if(worst + switch > period, 4, place + 2)?;
-    let best = number_at(lines, place + 3, "best", 1, 1_000_000)?;
-    refuse_if(best > worst, 4, place + 3)?;
-    let alpha = number_at(lines, place + 4, "alpha", 1_000, 100_000)?;
-    let beta = number_at(lines, place + 5, "beta", 0, 200_000_000_000)?;
-    let hold = number_at(lines, place + 6, "hold", 0, most_hold)?;
-    refuse_if(hold > worst, 4, place + 6)?;
-    let curve = curve_at(lines, place + 7)?;
-    Ok(Row { task, period, worst, best, alpha, beta, hold, curve })
+    let deadline = number_at(lines, place + 2, "deadline", 1, 1_000_000)?;
+    let worst = number_at(lines, place + 3, "worst", 1, 1_000_000)?;
+    refuse_if(worst + switch > period, 4, place + 3)?;
+    let best = number_at(lines, place + 4, "best", 1, 1_000_000)?;
+    refuse_if(best > worst, 4, place + 4)?;
+    let alpha = number_at(lines, place + 5, "alpha", 1_000, 100_000)?;
+    let beta = number_at(lines, place + 6, "beta", 0, 200_000_000_000)?;
+    let hold = number_at(lines, place + 7, "hold", 0, most_hold)?;
+    refuse_if(hold > worst, 4, place + 7)?;
+    let curve = curve_at(lines, place + 8)?;
+    Ok(Row { task, period, deadline, worst, best, alpha, beta, hold, curve })
 }
 
 /// The table at the start of the text, and how many lines it takes; no hold may be above
@@ -181,7 +187,7 @@ pub fn table_at_start(lines: &[&[u8]], most_hold: u64) -> Result<(Table, usize),
     let (mut rows, mut taken) = (Vec::new(), 3);
     for _ in 0..tasks {
         let row = row_at(lines, taken + 1, switch, most_hold, &rows)?;
-        taken += 8 + 2 * row.curve.len();
+        taken += 9 + 2 * row.curve.len();
         rows.push(row);
     }
     Ok((Table { board, switch, rows }, taken))
@@ -233,29 +239,80 @@ fn blocking(below: &[&Row]) -> u64 {
     }
 }
 
-/// The latest response of a row between `above` and `below`, or none if it is late. A job of any
-/// row may last its worst time and the switch; a stretch has no part of the switch.
+/// What the tasks above take of a busy interval, with the blocking time that begins it.
 ///
-/// The right side of the equation changes only just after a multiple of a period above, so it
-/// has one value from there up to the next such point, that point included. The first span
-/// whose value does not lie past the span's end holds the smallest solution.
-pub fn latest(switch: u64, row: &Row, above: &[&Row], below: &[&Row]) -> Option<u64> {
-    let mut points: Vec<u64> = above.iter().map(|over| over.period).collect();
-    let once = above.iter().map(|over| over.worst + switch).sum::<u64>();
-    let mut demand = row.worst + switch + blocking(below) + once;
-    while demand <= row.period {
-        let end = points.iter().copied().min().unwrap_or(row.period);
-        if demand <= end {
-            return Some(demand);
-        }
-        for (point, over) in points.iter_mut().zip(above) {
-            if *point == end {
-                *point += over.period;
-                demand += over.worst + switch;
+/// It changes only just after a multiple of a period above, so it is one number from there up to the
+/// next such point, that point included. A walk goes from each of these spans to the next.
+struct Others<'a> {
+    switch: u64,
+    above: &'a [&'a Row],
+    /// The next multiple of each period above; the least of them is the end of the span.
+    points: Vec<u64>,
+    /// What is taken of any window that ends in the span.
+    demand: u64,
+}
+
+impl Others<'_> {
+    fn new<'a>(switch: u64, above: &'a [&'a Row], below: &[&Row]) -> Others<'a> {
+        let once = above.iter().map(|over| over.worst + switch).sum::<u64>();
+        let points = above.iter().map(|over| over.period).collect();
+        Others { switch, above, points, demand: blocking(below) + once }
+    }
+
+    /// The smallest window, up to `most`, that is just what `own` ticks and the others take of it. It
+    /// ends in the first span whose end it does not pass. The walk goes on where it was: where fewer
+    /// ticks of its own left no room, more leave none.
+    fn window_with(&mut self, own: u64, most: u64) -> Option<u64> {
+        while own + self.demand <= most {
+            let end = self.points.iter().copied().min().unwrap_or(most);
+            if own + self.demand <= end {
+                return Some(own + self.demand);
+            }
+            for (point, over) in self.points.iter_mut().zip(self.above) {
+                if *point == end {
+                    *point += over.period;
+                    self.demand += over.worst + self.switch;
+                }
             }
         }
+        None
     }
-    None
+}
+
+/// When the jobs of a row between `above` and `below` are done at the latest, counted from the start
+/// of a busy interval: request 8's w(0), w(1) and so on up to the first that is done by the next
+/// release; none if the row is late. A job of any row may last its worst time and the switch; a
+/// stretch has no part of the switch.
+///
+/// A job is released a period after the one before it. The first whose response would be past the
+/// deadline, or that would be done past `MOST_FINISH`, makes the row late.
+pub fn finishes(switch: u64, row: &Row, above: &[&Row], below: &[&Row]) -> Option<Vec<u64>> {
+    let mut others = Others::new(switch, above, below);
+    let mut finishes = Vec::new();
+    loop {
+        let (jobs, release) = (finishes.len() as u64 + 1, finishes.len() as u64 * row.period);
+        let most = MOST_FINISH.min(release + row.deadline);
+        let finish = others.window_with(jobs * (row.worst + switch), most)?;
+        finishes.push(finish);
+        if finish <= release + row.period {
+            return Some(finishes);
+        }
+    }
+}
+
+/// The latest response of a row between `above` and `below`, or none if it is late: the longest of
+/// those of its jobs in a busy interval.
+pub fn latest(switch: u64, row: &Row, above: &[&Row], below: &[&Row]) -> Option<u64> {
+    let finishes = finishes(switch, row, above, below)?;
+    let response = |(q, finish): (usize, &u64)| finish - q as u64 * row.period;
+    finishes.iter().enumerate().map(response).max()
+}
+
+/// The ticks of a busy interval of the row at a rank of an order; 0 if it is late there.
+pub fn busy_ticks(table: &Table, order: &[usize], rank: usize) -> u64 {
+    let ranked: Vec<&Row> = order.iter().map(|&index| &table.rows[index]).collect();
+    let finishes = finishes(table.switch, ranked[rank], &ranked[..rank], &ranked[rank + 1..]);
+    finishes.and_then(|finishes| finishes.last().copied()).unwrap_or(0)
 }
 
 /// The earliest response of a row whose latest is `latest`: the best time where the row's own hold
@@ -502,9 +559,12 @@ mod tests {
     use crate::dice::Dice;
 
     const TABLE: &str = "board=7\ntasks=3\nswitch=0\n\
-        task=11\nperiod=24\nworst=6\nbest=6\nalpha=1000\nbeta=8000\nhold=0\npoints=0\n\
-        task=12\nperiod=18\nworst=2\nbest=2\nalpha=1000\nbeta=8000\nhold=0\npoints=0\n\
-        task=13\nperiod=200\nworst=19\nbest=17\nalpha=3000\nbeta=57000\nhold=0\npoints=0\n";
+        task=11\nperiod=24\ndeadline=24\nworst=6\nbest=6\n\
+        alpha=1000\nbeta=8000\nhold=0\npoints=0\n\
+        task=12\nperiod=18\ndeadline=18\nworst=2\nbest=2\n\
+        alpha=1000\nbeta=8000\nhold=0\npoints=0\n\
+        task=13\nperiod=200\ndeadline=200\nworst=19\nbest=17\n\
+        alpha=3000\nbeta=57000\nhold=0\npoints=0\n";
 
     const PLAN: &str = "plan=1\nboard=7\ntasks=3\n\
         rank=1\ntask=12\nbest=2\nworst=2\njitter=0\nmargin=6000\n\
@@ -599,8 +659,8 @@ mod tests {
     fn one_task_at_its_line() {
         let one = |beta, hold| {
             let text = format!(
-                "board=1\ntasks=1\nswitch=0\ntask=1\nperiod=10\nworst=10\nbest=10\n\
-                alpha=1000\nbeta={beta}\nhold={hold}\npoints=0\n"
+                "board=1\ntasks=1\nswitch=0\ntask=1\nperiod=10\ndeadline=10\nworst=10\n\
+                best=10\nalpha=1000\nbeta={beta}\nhold={hold}\npoints=0\n"
             );
             planned(text.as_bytes())
         };
@@ -609,7 +669,7 @@ mod tests {
             assert!(one(10000, hold).is_ok());
             assert_eq!(one(9999, hold), refused(8, 0));
         }
-        assert_eq!(one(10000, 11), refused(4, 10));
+        assert_eq!(one(10000, 11), refused(4, 11));
     }
 
     #[test]
@@ -621,7 +681,7 @@ mod tests {
         assert_eq!(planned(b"board=07\n"), refused(2, 1));
         assert_eq!(planned(b"board=7\ntasks=17\n"), refused(3, 2));
         assert!(read_table(changed(&[("worst=2", "worst=18")]).as_bytes()).is_ok());
-        assert_eq!(planned(changed(&[("worst=2", "worst=19")]).as_bytes()), refused(4, 14));
+        assert_eq!(planned(changed(&[("worst=2", "worst=19")]).as_bytes()), refused(4, 16));
         assert_eq!(printed(planned, TABLE_TAKES, b""), b"plan=0\nrefusal=1\nline=1\n");
     }
 
@@ -637,11 +697,11 @@ mod tests {
         refuses("board=7", "board7", 1, 1);
         refuses("board=7\n", "board=7", 2, 1);
         let last = "beta=57000\nhold=0\npoints=0\n";
-        refuses("beta=57000\n", "beta=57000", 2, 25);
-        refuses("beta=57000\nhold=0\n", "beta=57000\nhold=0", 2, 26);
-        refuses(last, "beta=57000\nhold=0\npoints=0", 1, 27);
-        refuses(last, "beta=57000\nhold=0\npoints=0\n\n", 1, 28);
-        refuses(last, "beta=57000\nhold=0\npoints=0\nrank=11\n", 1, 28);
+        refuses("beta=57000\n", "beta=57000", 2, 28);
+        refuses("beta=57000\nhold=0\n", "beta=57000\nhold=0", 2, 29);
+        refuses(last, "beta=57000\nhold=0\npoints=0", 1, 30);
+        refuses(last, "beta=57000\nhold=0\npoints=0\n\n", 1, 31);
+        refuses(last, "beta=57000\nhold=0\npoints=0\nrank=11\n", 1, 31);
         refuses("board=7", "board=", 2, 1);
         refuses("board=7", "board=+7", 2, 1);
         refuses("board=7", "board=7\r", 2, 1);
@@ -649,21 +709,21 @@ mod tests {
         refuses("board=7", "board=1000000000000", 2, 1);
         refuses("board=7", "board=0", 3, 1);
         refuses("tasks=3", "tasks=0", 3, 2);
-        refuses("best=6", "best=7", 4, 7);
-        refuses("task=12", "task=11", 5, 12);
-        refuses("alpha=1000", "alpha=999", 3, 8);
-        refuses("beta=8000", "beta=200000000001", 3, 9);
-        refuses("worst=6", "worst=1000001", 3, 6);
+        refuses("best=6", "best=7", 4, 8);
+        refuses("task=12", "task=11", 5, 13);
+        refuses("alpha=1000", "alpha=999", 3, 9);
+        refuses("beta=8000", "beta=200000000001", 3, 10);
+        refuses("worst=6", "worst=1000001", 3, 7);
     }
 
     #[test]
     fn rank_lines_named_twice_or_unknown() {
         let review = |ranks: &str| reviewed(format!("{TABLE}{ranks}").as_bytes());
-        assert_eq!(review("rank=11\nrank=11\nrank=13\n"), refused(6, 29));
-        assert_eq!(review("rank=14\nrank=11\nrank=13\n"), refused(6, 28));
-        assert_eq!(review("rank=65536\n"), refused(3, 28));
-        assert_eq!(review("rank=11\nrank=12\n"), refused(1, 30));
-        assert_eq!(review("rank=11\nrank=12\nrank=13\nrank=13\n"), refused(1, 31));
+        assert_eq!(review("rank=11\nrank=11\nrank=13\n"), refused(6, 32));
+        assert_eq!(review("rank=14\nrank=11\nrank=13\n"), refused(6, 31));
+        assert_eq!(review("rank=65536\n"), refused(3, 31));
+        assert_eq!(review("rank=11\nrank=12\n"), refused(1, 33));
+        assert_eq!(review("rank=11\nrank=12\nrank=13\nrank=13\n"), refused(1, 34));
     }
 
     #[test]
@@ -690,18 +750,44 @@ mod tests {
         assert_eq!(printed(planned, TABLE_TAKES, &long), b"plan=0\nrefusal=1\nline=1\n");
     }
 
-    /// The definitions of W and E without a switch, tried number by number.
+    /// The definitions of W and E without a switch, tried number by number up to a million: each of the
+    /// first w(q) from 1 on, and the others from the one before, below which there is less to do. What
+    /// is past the deadline shows the row late, whatever comes after it.
     fn figures_by_trying(row: &Row, above: &[&Row], below: &[&Row]) -> Option<(u64, u64)> {
+        let (mut worst, mut before) = (0, 0);
+        for q in 0.. {
+            let enough = (q * row.period + row.deadline).min(1_000_000);
+            let from = if q < 8 { 1 } else { before };
+            let w = (from..=enough).find(|&w| w == high(row, above, below, q, w))?;
+            before = w;
+            worst = worst.max(w - q * row.period);
+            if w <= (q + 1) * row.period {
+                break;
+            }
+        }
+        Some((earliest_by_trying(row, above, worst)?, worst))
+    }
+
+    /// The right side of the equation of w(q), without a switch.
+    fn high(row: &Row, above: &[&Row], below: &[&Row], q: u64, w: u64) -> u64 {
         let largest = below.iter().map(|r| r.hold).filter(|&hold| hold > 0).max();
         let blocking = largest.map_or(0, |hold| hold - 1);
-        let over = |w: u64| above.iter().map(|r| w.div_ceil(r.period) * r.worst).sum::<u64>();
-        let high = |w: u64| row.worst + blocking + over(w);
+        let over = above.iter().map(|r| w.div_ceil(r.period) * r.worst).sum::<u64>();
+        (q + 1) * row.worst + over + blocking
+    }
+
+    fn earliest_by_trying(row: &Row, above: &[&Row], worst: u64) -> Option<u64> {
         let low = |e: u64| {
             row.best + above.iter().map(|r| (e.div_ceil(r.period) - 1) * r.best).sum::<u64>()
         };
-        let worst = (1..=row.period).find(|&w| w == high(w))?;
         let solved = (1..=worst).rev().find(|&e| e == low(e))?;
-        Some((if row.hold < 2 { solved } else { row.best }, worst))
+        Some(if row.hold < 2 { solved } else { row.best })
+    }
+
+    /// W and E as they were before request 8: one equation, and late past the period.
+    fn figures_before_deadlines(row: &Row, above: &[&Row], below: &[&Row]) -> Option<(u64, u64)> {
+        let worst = (1..=row.period).find(|&w| w == high(row, above, below, 0, w))?;
+        Some((earliest_by_trying(row, above, worst)?, worst))
     }
 
     /// No points half of the time, else some at delays around a worst time.
@@ -722,13 +808,20 @@ mod tests {
         let switch = dice.pick(&[0, 0, 0, 1, 2, 5]);
         let row = |index| {
             let period = dice.between(1 + switch, 60);
+            let deadline = match dice.below(6) {
+                0 | 1 => period,
+                2 => dice.between(1, period),
+                3 => dice.between(period, 4 * period),
+                _ => dice.between(1, 120),
+            };
             let worst = dice.between(1, (period - switch).min(8));
             let best = dice.between(1, worst);
             let alpha = dice.pick(&[1000, 1500, 4000]);
             let beta = dice.between(1000, 1000 * 2 * period);
             let hold = dice.pick(&[0, 0, 1, 2, worst]).min(worst);
             let curve = small_curve(dice, worst, period);
-            Row { task: index as u64 + 1, period, worst, best, alpha, beta, hold, curve }
+            let task = index as u64 + 1;
+            Row { task, period, deadline, worst, best, alpha, beta, hold, curve }
         };
         Table { board: 1, switch, rows: (0..count).map(row).collect() }
     }
@@ -745,10 +838,17 @@ mod tests {
         rows.iter().map(|row| Row { worst: row.worst + switch, ..row.clone() }).collect()
     }
 
-    /// Whether the first row is in time under some of the others; its figures are those of trying
-    /// every number. With a switch of 0 the formulas are those of before it, and else those with
-    /// longer jobs.
-    fn agrees_with_trying(dice: &mut Dice, Table { switch, rows, .. }: &Table) -> bool {
+    /// How a row does that agrees with trying every number.
+    #[derive(Clone, Copy, PartialEq)]
+    enum Does {
+        Late,
+        Fits,
+        Overruns,
+    }
+
+    /// How the first row does under some of the others; its figures are those of trying every number.
+    /// With a switch of 0 the formulas are those of before it, and else those with longer jobs.
+    fn agrees_with_trying(dice: &mut Dice, Table { switch, rows, .. }: &Table) -> Does {
         let split = dice.below(rows.len());
         let found = figures_at(*switch, rows, split).map(|f| (f.best, f.worst));
         let longer = lengthened(*switch, rows);
@@ -756,29 +856,41 @@ mod tests {
         let (above, below) = others.split_at(split);
         let tried = figures_by_trying(&longer[0], above, below);
         assert_eq!(found, tried, "switch {switch}, {rows:?}");
-        tried.is_some()
+        match tried {
+            None => Does::Late,
+            Some((_, worst)) if worst <= rows[0].period => Does::Fits,
+            _ => Does::Overruns,
+        }
     }
 
     #[test]
     fn figures_agree_with_trying_every_number() {
-        let mut dice = Dice::new(1);
-        for round in 0..20_000 {
+        let (mut dice, mut overran) = (Dice::new(1), 0);
+        for round in 0..40_000 {
             let table = small_table(&mut dice, 1 + round % 6);
-            agrees_with_trying(&mut dice, &table);
+            overran += (agrees_with_trying(&mut dice, &table) == Does::Overruns) as u32;
         }
+        assert!(overran > 1_000, "{overran} of 40000 overrun");
     }
 
     /// The same of full tables, with periods long enough that many a task is in time.
     #[test]
     fn figures_agree_in_full_tables() {
         let mut dice = Dice::new(3);
-        let mut in_time = 0;
-        for _ in 0..2_000 {
+        let (mut in_time, mut overran) = (0, 0);
+        for _ in 0..4_000 {
             let mut table = small_table(&mut dice, MOST_TASKS);
-            table.rows.iter_mut().for_each(|row| row.period *= 20);
-            in_time += agrees_with_trying(&mut dice, &table) as u32;
+            let times = dice.pick(&[6, 10, 20]);
+            for row in &mut table.rows {
+                row.period *= times;
+                row.deadline *= times;
+            }
+            let does = agrees_with_trying(&mut dice, &table);
+            in_time += (does != Does::Late) as u32;
+            overran += (does == Does::Overruns) as u32;
         }
-        assert!(in_time > 500, "{in_time} of 2000 are in time");
+        assert!(in_time > 1_000, "{in_time} of 4000 are in time");
+        assert!(overran > 100, "{overran} of 4000 overrun");
     }
 
     #[test]
@@ -886,29 +998,29 @@ mod tests {
         };
         let last = "beta=57000\nhold=0\n";
         assert!(read_table(held([6, 2, 19]).as_bytes()).is_ok());
-        refuses("hold=0", "hold=7", 4, 10);
-        refuses(last, "beta=57000\nhold=20\n", 4, 26);
-        refuses("hold=0", "hold=1000000", 4, 10);
-        refuses("hold=0", "hold=1000001", 3, 10);
-        refuses("hold=0", "hold=999999999999", 3, 10);
-        refuses("hold=0", "hold=1000000000000", 2, 10);
+        refuses("hold=0", "hold=7", 4, 11);
+        refuses(last, "beta=57000\nhold=20\n", 4, 29);
+        refuses("hold=0", "hold=1000000", 4, 11);
+        refuses("hold=0", "hold=1000001", 3, 11);
+        refuses("hold=0", "hold=999999999999", 3, 11);
+        refuses("hold=0", "hold=1000000000000", 2, 11);
         for number in ["", "00", "06", "-1", "-0", "+6", "6 ", "6\r", "x", "=6"] {
-            refuses("hold=0", &format!("hold={number}"), 2, 10);
+            refuses("hold=0", &format!("hold={number}"), 2, 11);
         }
         for line in ["Hold=0", "hold", "hold0", "holds=0", "hold =0", " hold=0", "", "beta=0"] {
-            refuses("hold=0", line, 1, 10);
+            refuses("hold=0", line, 1, 11);
         }
-        refuses("hold=0\n", "", 1, 10);
-        refuses(last, "beta=57000\n", 1, 26);
-        refuses("hold=0\n", "hold=0\nhold=0\n", 1, 11);
-        refuses(last, "beta=57000\nhold=0\nhold=0\n", 1, 27);
-        refuses("beta=8000\nhold=0\n", "hold=0\nbeta=8000\n", 1, 9);
+        refuses("hold=0\n", "", 1, 11);
+        refuses(last, "beta=57000\n", 1, 29);
+        refuses("hold=0\n", "hold=0\nhold=0\n", 1, 12);
+        refuses(last, "beta=57000\nhold=0\nhold=0\n", 1, 30);
+        refuses("beta=8000\nhold=0\n", "hold=0\nbeta=8000\n", 1, 10);
         let old = TABLE.replace("hold=0\n", "");
-        assert_eq!(planned(old.as_bytes()), refused(1, 10));
-        let largest = "board=1\ntasks=1\nswitch=0\ntask=1\nperiod=1000000\nworst=1000000\nbest=1\n\
-            alpha=1000\nbeta=0\nhold=";
+        assert_eq!(planned(old.as_bytes()), refused(1, 11));
+        let largest = "board=1\ntasks=1\nswitch=0\ntask=1\nperiod=1000000\ndeadline=1000000\n\
+            worst=1000000\nbest=1\nalpha=1000\nbeta=0\nhold=";
         assert!(read_table(format!("{largest}1000000\npoints=0\n").as_bytes()).is_ok());
-        assert_eq!(planned(format!("{largest}1000001\npoints=0\n").as_bytes()), refused(3, 10));
+        assert_eq!(planned(format!("{largest}1000001\npoints=0\n").as_bytes()), refused(3, 11));
     }
 
     // ---- The switch ---------------------------------------------------------------------
@@ -1039,15 +1151,15 @@ mod tests {
         assert!(review(5, "rank=11\nrank=12\nrank=13\n").is_ok());
         assert_eq!(review(6, "rank=11\nrank=12\nrank=13\n"), refused(7, 2));
         assert_eq!(review(6, "rank=12\nrank=11\nrank=13\n"), refused(7, 2));
-        assert_eq!(review(17, "rank=12\nrank=11\nrank=13\n"), refused(4, 14));
+        assert_eq!(review(17, "rank=12\nrank=11\nrank=13\n"), refused(4, 16));
     }
 
     /// One task whose job lasts up to the worst time and the switch.
     fn one(switch: &str, period: u64, worst: u64, best: u64, hold: u64) -> Result<Table, Refusal> {
         let head = format!("board=1\ntasks=1\nswitch={switch}\ntask=1\nperiod={period}\n");
-        let rest =
-            format!("worst={worst}\nbest={best}\nalpha=1000\nbeta=0\nhold={hold}\npoints=0\n");
-        read_table((head + &rest).as_bytes())
+        let times = format!("deadline=1\nworst={worst}\nbest={best}\n");
+        let rest = format!("alpha=1000\nbeta=0\nhold={hold}\npoints=0\n");
+        read_table((head + &times + &rest).as_bytes())
     }
 
     fn unread(number: u64, place: u64) -> Result<Table, Refusal> {
@@ -1057,26 +1169,26 @@ mod tests {
     #[test]
     fn worst_and_switch_are_held_against_the_period() {
         assert!(one("1000", 1_001, 1, 1, 0).is_ok());
-        assert_eq!(one("1000", 1_000, 1, 1, 0), unread(4, 6));
+        assert_eq!(one("1000", 1_000, 1, 1, 0), unread(4, 7));
         assert!(one("3", 10, 7, 1, 0).is_ok());
-        assert_eq!(one("3", 10, 8, 1, 0), unread(4, 6));
+        assert_eq!(one("3", 10, 8, 1, 0), unread(4, 7));
         assert!(one("0", 1_000_000, 1_000_000, 1, 0).is_ok());
         assert!(one("1000", 1_000_000, 999_000, 1, 0).is_ok());
-        assert_eq!(one("1000", 1_000_000, 999_001, 1, 0), unread(4, 6));
-        assert_eq!(one("1", 1_000_000, 1_000_000, 1, 0), unread(4, 6));
-        assert_eq!(one("1", 1_000_000, 1_000_001, 1, 0), unread(3, 6));
+        assert_eq!(one("1000", 1_000_000, 999_001, 1, 0), unread(4, 7));
+        assert_eq!(one("1", 1_000_000, 1_000_000, 1, 0), unread(4, 7));
+        assert_eq!(one("1", 1_000_000, 1_000_001, 1, 0), unread(3, 7));
         // Of the example, task 12 is at its period with a switch of 16, and 11 with 18.
         assert!(read_table(switched(16).as_bytes()).is_ok());
-        assert_eq!(planned(switched(17).as_bytes()), refused(4, 14));
-        assert_eq!(planned(switched(19).as_bytes()), refused(4, 6));
+        assert_eq!(planned(switched(17).as_bytes()), refused(4, 16));
+        assert_eq!(planned(switched(19).as_bytes()), refused(4, 7));
     }
 
     #[test]
     fn best_and_hold_are_held_against_the_worst_time_alone() {
         assert!(one("3", 20, 8, 8, 8).is_ok());
         for above in [9, 10, 11, 12] {
-            assert_eq!(one("3", 20, 8, above, 0), unread(4, 7));
-            assert_eq!(one("3", 20, 8, 8, above), unread(4, 10));
+            assert_eq!(one("3", 20, 8, above, 0), unread(4, 8));
+            assert_eq!(one("3", 20, 8, 8, above), unread(4, 11));
         }
     }
 
@@ -1116,10 +1228,10 @@ mod tests {
         refuses(head, "board=7\nswitch=0\ntasks=3\n", 1, 2);
         refuses("switch=0\ntask=11\n", "task=11\nswitch=0\n", 1, 3);
         refuses("task=11\n", "task=11\nswitch=0\n", 1, 5);
-        refuses("hold=0\n", "hold=0\nswitch=0\n", 1, 11);
-        refuses("points=0\n", "points=0\nswitch=0\n", 1, 12);
-        refuses("hold=0\n", "switch=0\n", 1, 10);
-        refuses("points=0\ntask=12", "switch=0\ntask=12", 1, 11);
+        refuses("hold=0\n", "hold=0\nswitch=0\n", 1, 12);
+        refuses("points=0\n", "points=0\nswitch=0\n", 1, 13);
+        refuses("hold=0\n", "switch=0\n", 1, 11);
+        refuses("points=0\ntask=12", "switch=0\ntask=12", 1, 12);
         let ahead = changed(&[(head, "switch=0\nboard=7\ntasks=3\n")]);
         assert_eq!(planned(ahead.as_bytes()), refused(1, 1));
         // Ahead of the first board of a crane it is a piece of its own, and the next lacks it.
@@ -1132,10 +1244,10 @@ mod tests {
         // At the end, in place of the third line and beside it, and after the ranks.
         let moved = TABLE.replace("switch=0\n", "") + "switch=0\n";
         assert_eq!(planned(moved.as_bytes()), refused(1, 3));
-        assert_eq!(planned(format!("{TABLE}switch=0\n").as_bytes()), refused(1, 28));
-        assert_eq!(reviewed(format!("{TABLE}switch=0\n").as_bytes()), refused(1, 28));
+        assert_eq!(planned(format!("{TABLE}switch=0\n").as_bytes()), refused(1, 31));
+        assert_eq!(reviewed(format!("{TABLE}switch=0\n").as_bytes()), refused(1, 31));
         let ranked = format!("{TABLE}rank=12\nrank=11\nrank=13\nswitch=0\n");
-        assert_eq!(reviewed(ranked.as_bytes()), refused(1, 31));
+        assert_eq!(reviewed(ranked.as_bytes()), refused(1, 34));
         assert_eq!(planned(b"board=7\ntasks=3\n"), refused(1, 3));
         assert_eq!(planned(b"board=7\ntasks=3\nswitch=0"), refused(1, 3));
         assert_eq!(planned(b"board=7\ntasks=3\nswitch=0\n"), refused(1, 4));
@@ -1155,6 +1267,348 @@ mod tests {
             let text = boards[one].clone() + &boards[other];
             assert_eq!(crane_says(&text), answers[one].clone() + &answers[other]);
         }
+    }
+
+    // ---- Deadlines ----------------------------------------------------------------------
+
+    const FAR: u64 = 1_000_000;
+
+    /// A row that no line troubles.
+    fn timed(period: u64, deadline: u64, worst: u64, best: u64) -> Row {
+        let (alpha, beta) = (1_000, 200_000_000_000);
+        Row { task: 1, period, deadline, worst, best, alpha, beta, hold: 0, curve: Vec::new() }
+    }
+
+    /// A row that holds for so long.
+    fn holder(hold: u64) -> Row {
+        Row { hold, ..timed(FAR, FAR, hold, 1) }
+    }
+
+    /// When the jobs of a busy interval of a row are done, and its E and W.
+    fn busy(
+        switch: u64,
+        row: &Row,
+        above: &[&Row],
+        below: &[&Row],
+    ) -> Option<(Vec<u64>, u64, u64)> {
+        let figures = figures(switch, row, above, below)?;
+        Some((finishes(switch, row, above, below)?, figures.best, figures.worst))
+    }
+
+    /// The same by the deadline of the row.
+    fn due(deadline: u64, row: &Row, above: &[&Row]) -> Option<(Vec<u64>, u64, u64)> {
+        busy(0, &Row { deadline, ..row.clone() }, above, &[])
+    }
+
+    /// 26 ticks every 70 and 62 every 100, a well-known pair. The second below the first:
+    ///
+    /// w(0) = 62 + 2 × 26 = 114, w(1) = 124 + 3 × 26 = 202, w(2) = 186 + 5 × 26 = 316,
+    /// w(3) = 248 + 6 × 26 = 404, w(4) = 310 + 8 × 26 = 518, w(5) = 372 + 9 × 26 = 606,
+    /// w(6) = 434 + 10 × 26 = 694, at last before a release, that at 700. The responses are 114,
+    /// 102, 116, 104, 118, 106 and 94.
+    #[test]
+    fn the_latest_response_may_be_that_of_a_later_job() {
+        let (short, long) = (timed(70, FAR, 26, 26), timed(100, FAR, 62, 62));
+        let ends = vec![114, 202, 316, 404, 518, 606, 694];
+        // E is 62 + 26: at 88 one period above has passed, and at 118 not two.
+        for deadline in [118, 119, 700, 999_999, FAR] {
+            assert_eq!(due(deadline, &long, &[&short]), Some((ends.clone(), 88, 118)));
+        }
+        for deadline in [1, 61, 62, 100, 114, 116, 117] {
+            assert_eq!(due(deadline, &long, &[&short]), None, "{deadline}");
+        }
+        // A tick less, and the second job is done with its period: w(1) = 122 + 3 × 26 = 200.
+        let less = timed(100, FAR, 61, 61);
+        assert_eq!(due(113, &less, &[&short]), Some((vec![113, 200], 87, 113)));
+        assert_eq!(due(112, &less, &[&short]), None);
+        // The first below the second, with ten jobs. 26 (q + 1) + 62, 124, 186, ... and the responses
+        // are 88, 106, 124, 80, 98, 116, 72, 90, 108, 64.
+        let ends = vec![88, 176, 264, 290, 378, 466, 492, 580, 668, 694];
+        assert_eq!(due(124, &short, &[&long]), Some((ends, 26, 124)));
+        assert_eq!(due(123, &short, &[&long]), None);
+        assert_eq!(due(26, &short, &[]), Some((vec![26], 26, 26)));
+    }
+
+    /// The same with a stretch below of some ticks less 1: they come once, and not in each job.
+    #[test]
+    fn the_blocking_time_is_counted_once_in_a_busy_interval() {
+        let (short, long) = (timed(70, FAR, 26, 26), timed(100, FAR, 62, 62));
+        let held = |hold| busy(0, &long, &[&short], &[&holder(hold)]);
+        assert_eq!(held(1), busy(0, &long, &[&short], &[]));
+        assert_eq!(held(3), Some((vec![116, 204, 318, 406, 520, 608, 696], 88, 120)));
+        // The last job is just done by the next release.
+        assert_eq!(held(7), Some((vec![120, 208, 322, 410, 524, 612, 700], 88, 124)));
+        assert_eq!(
+            held(8).map(|(ends, ..)| ends[..8].to_vec()),
+            Some(vec![121, 209, 323, 411, 525, 613, 727, 815])
+        );
+        // Its own hold is no part of W, and from 2 on its best is E.
+        let holds = |hold| busy(0, &Row { hold, ..long.clone() }, &[&short], &[]);
+        assert_eq!(holds(1), busy(0, &long, &[&short], &[]));
+        assert_eq!(holds(2).map(|(_, best, worst)| (best, worst)), Some((62, 118)));
+    }
+
+    /// Axis loops of 8 ticks every 40 and 14 every 70 above a heater of 58 every 100, a switch of 1
+    /// in each: w(0) = 58 + 3 × 8 + 2 × 14 = 110 and w(1) = 116 + 5 × 8 + 3 × 14 = 198.
+    #[test]
+    fn each_job_of_a_busy_interval_pays_the_switch() {
+        let heater = timed(100, 110, 57, 50);
+        let axes = [timed(40, 40, 7, 7), timed(70, 70, 13, 13)];
+        let above: Vec<&Row> = axes.iter().collect();
+        // E is 50 + 7: at 57 one period of 40 has passed.
+        assert_eq!(busy(1, &heater, &above, &[]), Some((vec![110, 198], 57, 110)));
+        assert_eq!(busy(1, &Row { deadline: 109, ..heater.clone() }, &above, &[]), None);
+        // Without it 57 + 3 × 7 + 2 × 13 = 104 and 114 + 5 × 7 + 3 × 13 = 188. With 2 they need more
+        // than there is: 9 in 40, 15 in 70 and 59 in 100.
+        assert_eq!(busy(0, &heater, &above, &[]), Some((vec![104, 188], 57, 104)));
+        assert_eq!(busy(2, &Row { deadline: FAR, ..heater }, &above, &[]), None);
+    }
+
+    /// Jobs of 500 every 1,000 below one of 500,000: job q is done at 500,000 + 500 (q + 1), the
+    /// thousandth with the millionth tick, just when the next is released.
+    #[test]
+    fn a_job_is_done_within_a_million_ticks_or_the_task_is_late() {
+        let row = timed(1_000, FAR, 500, 500);
+        let found = |above: u64, hold| {
+            let found = busy(0, &row, &[&timed(FAR, FAR, above, 1)], &[&holder(hold)]);
+            found.map(|(ends, best, worst)| (ends.len(), ends[ends.len() - 1], best, worst))
+        };
+        assert_eq!(found(499_999, 1), Some((1_000, 999_999, 500, 500_499)));
+        assert_eq!(found(500_000, 1), Some((1_000, 1_000_000, 500, 500_500)));
+        assert_eq!(found(499_999, 2), Some((1_000, 1_000_000, 500, 500_500)));
+        // One tick more: no response is past 500,501, and the thousandth job is not found.
+        assert_eq!(found(500_001, 1), None);
+        assert_eq!(found(500_000, 2), None);
+        assert_eq!(
+            due(500_500, &row, &[&timed(FAR, 1, 500_000, 1)]).map(|found| found.2),
+            Some(500_500)
+        );
+        assert_eq!(due(500_499, &row, &[&timed(FAR, 1, 500_000, 1)]), None);
+        // The first job is done with the millionth tick.
+        let (last, long) = (timed(FAR, FAR, 1, 1), timed(FAR, FAR, 999_999, 999_999));
+        assert_eq!(busy(0, &last, &[&long], &[]), Some((vec![FAR], 1, FAR)));
+        assert_eq!(busy(0, &last, &[&long], &[&holder(2)]), None);
+        assert_eq!(due(999_999, &last, &[&long]), None);
+    }
+
+    /// One tick of two and two of four. With a tick of blocking time w(q) = 4 q + 6, which is never
+    /// by the next release, so that no response is past 6 and the task is late all the same.
+    #[test]
+    fn a_busy_interval_may_have_no_end() {
+        let (row, above) = (timed(4, FAR, 2, 1), timed(2, 2, 1, 1));
+        assert_eq!(busy(0, &row, &[&above], &[]), Some((vec![4], 1, 4)));
+        assert_eq!(busy(0, &row, &[&above], &[&holder(2)]), None);
+        // With less to do there is an end to it; with more there is none without blocking either.
+        let less = timed(4, FAR, 1, 1);
+        assert_eq!(busy(0, &less, &[&above], &[&holder(2)]), Some((vec![4], 1, 4)));
+        assert_eq!(busy(0, &timed(4, FAR, 3, 1), &[&above], &[]), None);
+        assert_eq!(busy(0, &row, &[&timed(2, 2, 2, 1)], &[]), None);
+    }
+
+    #[test]
+    fn a_deadline_is_free_of_the_other_times() {
+        for deadline in [1, 9] {
+            assert_eq!(due(deadline, &timed(20, FAR, 10, 10), &[]), None);
+        }
+        for deadline in [10, 11, 19, 20, 21, FAR] {
+            assert_eq!(due(deadline, &timed(20, FAR, 10, 10), &[]), Some((vec![10], 10, 10)));
+        }
+        assert_eq!(due(1, &timed(1, FAR, 1, 1), &[]), Some((vec![1], 1, 1)));
+        assert_eq!(due(FAR, &timed(FAR, FAR, FAR, FAR), &[]), Some((vec![FAR], FAR, FAR)));
+        assert_eq!(due(FAR - 1, &timed(FAR, FAR, FAR, FAR), &[]), None);
+        // The switch is a part of it.
+        let switched = |deadline| busy(3, &timed(20, deadline, 10, 10), &[], &[]);
+        assert_eq!((switched(12), switched(13)), (None, Some((vec![13], 10, 13))));
+        // A deadline above is of no account.
+        for deadline in [1, 2, FAR] {
+            let above = timed(18, deadline, 2, 2);
+            assert_eq!(due(FAR, &timed(200, FAR, 19, 17), &[&above]), Some((vec![23], 19, 23)));
+        }
+    }
+
+    /// The example with deadlines of its rows, in the table's sequence.
+    fn with_deadlines(deadlines: [u64; 3]) -> String {
+        let [first, second, third] = deadlines.map(|deadline| format!("deadline={deadline}\n"));
+        changed(&[
+            ("deadline=24\n", &first),
+            ("deadline=18\n", &second),
+            ("deadline=200\n", &third),
+        ])
+    }
+
+    #[test]
+    fn plans_of_the_example_with_deadlines() {
+        let plan = |deadlines| planned(with_deadlines(deadlines).as_bytes());
+        assert_eq!(with_deadlines([24, 18, 200]), TABLE);
+        // In the plan's order W is 8, 2 and 35.
+        for deadlines in [[8, 2, 35], [24, 2, 36], [9, 18, 35], [8, 18, FAR], [25, 3, 200]] {
+            assert_eq!(plan(deadlines), Ok(PLAN.into()), "{deadlines:?}");
+        }
+        assert_eq!(plan([24, 18, 34]), refused(8, 0));
+        assert_eq!(plan([24, 1, 200]), refused(8, 0));
+        assert_eq!(plan([5, 18, 200]), refused(8, 0));
+        // On top 11 has W 6, and 12 below it 8.
+        assert_eq!(tasks_of(plan([7, 18, 200])), ["11", "12", "13"]);
+        assert_eq!(tasks_of(plan([6, 8, 200])), ["11", "12", "13"]);
+        assert_eq!(plan([6, 7, 200]), refused(8, 0));
+        let review = |deadlines| {
+            reviewed((with_deadlines(deadlines) + "rank=12\nrank=11\nrank=13\n").as_bytes())
+        };
+        assert_eq!(review([8, 2, 35]), Ok(PLAN.into()));
+        assert_eq!(review([8, 2, 34]), refused(7, 3));
+        assert_eq!(review([7, 2, 34]), refused(7, 2));
+        assert_eq!(review([7, 1, 34]), refused(7, 1));
+    }
+
+    /// Task 12 below both others: w(0) = 2 + 2 × 6 + 19 = 33 and w(1) = 4 + 2 × 6 + 19 = 35, which is
+    /// by the release at 36.
+    #[test]
+    fn the_order_of_the_paper_with_a_patient_task() {
+        let review = |deadline| {
+            let text = with_deadlines([24, deadline, 200]) + "rank=11\nrank=13\nrank=12\n";
+            reviewed(text.as_bytes())
+        };
+        let figures = "plan=1\nboard=7\ntasks=3\n\
+            rank=1\ntask=11\nbest=6\nworst=6\njitter=0\nmargin=2000\n\
+            rank=2\ntask=13\nbest=17\nworst=31\njitter=14\nmargin=-2000\n\
+            rank=3\ntask=12\nbest=2\nworst=33\njitter=31\nmargin=-25000\n";
+        assert_eq!(review(33), Ok(figures.into()));
+        assert_eq!(review(FAR), Ok(figures.into()));
+        assert_eq!(review(32), refused(7, 3));
+        assert_eq!(review(1), refused(7, 3));
+    }
+
+    /// With a beta that bears it task 12 may be the lowest: 11 before it in the table may not. But
+    /// then 13 is above it, below 11, where its margin is −2,000; and 11 below 13 is late. So the
+    /// choice has to be taken back, and 13 is the lowest.
+    #[test]
+    fn a_task_that_overruns_may_have_to_be_taken_back() {
+        let text = with_deadlines([24, 33, 200])
+            .replace("2\nalpha=1000\nbeta=8000", "2\nalpha=1000\nbeta=33000");
+        let table = read_table(text.as_bytes()).unwrap();
+        assert_eq!(
+            [0, 1, 2].map(|index| is_stable(&table, index, 7 & !(1 << index))),
+            [false, true, true]
+        );
+        assert_eq!(
+            planned(text.as_bytes()),
+            Ok(PLAN.replace("margin=6000", "margin=31000").into())
+        );
+        // Where 13 bears that margin, 12 is the lowest.
+        let order = tasks_of(planned(text.replace("57000", "59000").as_bytes()));
+        assert_eq!(order, ["11", "13", "12"]);
+        let shorter = text.replace("57000", "59000").replace("deadline=33", "deadline=32");
+        assert_eq!(tasks_of(planned(shorter.as_bytes())), ["12", "11", "13"]);
+    }
+
+    /// With deadlines of the periods all is as it was: the old equation, and late past the period.
+    #[test]
+    fn deadlines_of_the_periods_give_the_old_figures() {
+        let (mut dice, mut in_time) = (Dice::new(9), 0);
+        for round in 0..10_000 {
+            let Table { switch, mut rows, .. } = small_table(&mut dice, 1 + round % 6);
+            rows.iter_mut().for_each(|row| row.deadline = row.period);
+            let split = dice.below(rows.len());
+            let found = figures_at(switch, &rows, split).map(|f| (f.best, f.worst));
+            let longer = lengthened(switch, &rows);
+            let others: Vec<&Row> = longer[1..].iter().collect();
+            let (above, below) = others.split_at(split);
+            assert_eq!(found, figures_before_deadlines(&longer[0], above, below), "{rows:?}");
+            in_time += found.is_some() as u32;
+        }
+        assert!(in_time > 3_000, "{in_time} of 10000 are in time");
+    }
+
+    /// A deadline says whether a row is late and nothing else, and no other row's does. No E is past
+    /// the period: the load with the tasks above is at most 1 where a busy interval has an end.
+    #[test]
+    fn deadlines_say_who_is_late_and_nothing_else() {
+        let (mut dice, mut overran) = (Dice::new(10), 0);
+        for round in 0..4_000 {
+            let Table { switch, mut rows, .. } = small_table(&mut dice, 1 + round % 6);
+            let split = dice.below(rows.len());
+            rows[0].deadline = 5_000;
+            let figures = figures_at(switch, &rows, split);
+            let worst = figures.map_or(5_001, |figures| figures.worst);
+            overran += (figures.is_some() && worst > rows[0].period) as u32;
+            assert!(figures.is_none_or(|figures| figures.best <= rows[0].period), "{rows:?}");
+            for row in &mut rows[1..] {
+                row.deadline = dice.any_size(FAR);
+            }
+            for deadline in [1, worst - 1, worst, worst + 1, 5_000] {
+                rows[0].deadline = deadline.max(1);
+                let found = figures_at(switch, &rows, split);
+                assert_eq!(found, figures.filter(|_| worst <= rows[0].deadline), "{rows:?}");
+            }
+        }
+        assert!(overran > 300, "{overran} of 4000 overrun");
+    }
+
+    #[test]
+    fn the_line_of_the_deadline() {
+        let refuses = |from: &str, to: &str, number, place| {
+            let text = changed(&[(from, to)]);
+            assert_eq!(planned(text.as_bytes()), refused(number, place), "{from} {to}");
+            assert_eq!(reviewed(text.as_bytes()), refused(number, place), "{from} {to}");
+            assert_eq!(crane_says(&text), refusal_says(number, place), "{from} {to}");
+        };
+        for deadline in [1, 2, 5, 6, 23, 24, 25, 999_999, FAR] {
+            let text = changed(&[("deadline=24", &format!("deadline={deadline}"))]);
+            assert_eq!(read_table(text.as_bytes()).unwrap().rows[0].deadline, deadline);
+        }
+        for (line, place) in [("deadline=24", 6), ("deadline=18", 15), ("deadline=200", 24)] {
+            for number in ["0", "1000001", "999999999999"] {
+                refuses(line, &format!("deadline={number}"), 3, place);
+            }
+            for number in
+                ["", "00", "01", "+1", "-1", "-0", "1 ", " 1", "1\r", "x", "=1", "1000000000000"]
+            {
+                refuses(line, &format!("deadline={number}"), 2, place);
+            }
+            for other in [
+                "Deadline=1",
+                "deadline",
+                "deadline1",
+                "deadlines=1",
+                "dead=1",
+                "deadline =1",
+                " deadline=1",
+                "",
+                "period=1",
+                "worst=1",
+            ] {
+                refuses(line, other, 1, place);
+            }
+            // Gone, twice, before the period and after the worst time.
+            let whole = format!("{line}\n");
+            refuses(&whole, "", 1, place);
+            refuses(&whole, &whole.repeat(2), 1, place + 1);
+            let period = format!("{}\n", line.replace("deadline", "period"));
+            refuses(&(period.clone() + &whole), &(whole.clone() + &period), 1, place - 1);
+            refuses(&period, &(whole.clone() + &period), 1, place - 1);
+            let cut = TABLE.find(&whole).unwrap();
+            assert_eq!(planned(TABLE[..cut].as_bytes()), refused(1, place));
+            assert_eq!(planned(TABLE[..cut + line.len()].as_bytes()), refused(1, place));
+        }
+        refuses("deadline=24\nworst=6\n", "worst=6\ndeadline=24\n", 1, 6);
+        refuses("worst=6\n", "worst=6\ndeadline=24\n", 1, 8);
+        refuses("task=11\n", "task=11\ndeadline=24\n", 1, 5);
+        refuses("points=0\n", "points=0\ndeadline=24\n", 1, 13);
+        assert_eq!(planned(format!("{TABLE}deadline=24\n").as_bytes()), refused(1, 31));
+        // As a table was before there were deadlines.
+        let old: String =
+            TABLE.split_inclusive('\n').filter(|line| !line.starts_with("deadline")).collect();
+        assert_eq!(planned(old.as_bytes()), refused(1, 6));
+        assert_eq!(reviewed((old + "rank=12\nrank=11\nrank=13\n").as_bytes()), refused(1, 6));
+        // What comes first on lines one after another, and that 4 is of the period, not of it.
+        refuses("period=24\ndeadline=24", "period=0\ndeadline=0", 3, 5);
+        refuses("deadline=24\nworst=6\n", "deadline=0\nworst=25\n", 3, 6);
+        refuses("deadline=24\nworst=6\n", "deadline=1000000\nworst=25\n", 4, 7);
+        refuses("deadline=24\nworst=6\n", "deadline=1\nworst=25\n", 4, 7);
+        assert!(read_table(
+            changed(&[("deadline=24\nworst=6", "deadline=1\nworst=24")]).as_bytes()
+        )
+        .is_ok());
     }
 
     // ---- Curves -------------------------------------------------------------------------
@@ -1380,10 +1834,10 @@ mod tests {
         let refuses = |from: &str, to: &str, number, place| {
             assert_eq!(planned(text.replacen(from, to, 1).as_bytes()), refused(number, place));
         };
-        refuses("alpha=1000", "alpha=999", 3, 8);
-        refuses("alpha=1000", "alpha=100001", 3, 8);
-        refuses("beta=8000", "beta=200000000001", 3, 9);
-        refuses("beta=57000", "beta=", 2, 29);
+        refuses("alpha=1000", "alpha=999", 3, 9);
+        refuses("alpha=1000", "alpha=100001", 3, 9);
+        refuses("beta=8000", "beta=200000000001", 3, 10);
+        refuses("beta=57000", "beta=", 2, 32);
     }
 
     /// W, E and late are as without points.
@@ -1428,8 +1882,8 @@ mod tests {
     /// One loop of ten ticks of which no other has any, with these lines after its hold.
     fn after_hold(lines: &str) -> String {
         format!(
-            "board=1\ntasks=1\nswitch=0\ntask=1\nperiod=10\nworst=10\nbest=10\nalpha=1000\n\
-            beta=0\nhold=0\n{lines}"
+            "board=1\ntasks=1\nswitch=0\ntask=1\nperiod=10\ndeadline=10\nworst=10\nbest=10\n\
+            alpha=1000\nbeta=0\nhold=0\n{lines}"
         )
     }
 
@@ -1456,12 +1910,12 @@ mod tests {
             assert_eq!(curves, Ok(curve(&EIGHT[..points])));
         }
         for points in [9, 10, 16, 1_000_000, 999_999_999_999u64] {
-            refuses_lines(&lines_of_curve(&EIGHT).replace("=8\n", &format!("={points}\n")), 3, 11);
+            refuses_lines(&lines_of_curve(&EIGHT).replace("=8\n", &format!("={points}\n")), 3, 12);
         }
         for number in
             ["", "00", "08", "-1", "-0", "+1", "1 ", " 1", "1\r", "x", "=1", "1000000000000"]
         {
-            refuses_lines(&format!("points={number}\n"), 2, 11);
+            refuses_lines(&format!("points={number}\n"), 2, 12);
         }
         for line in [
             "Points=0",
@@ -1475,24 +1929,24 @@ mod tests {
             "hold=0",
             "delay=0",
         ] {
-            refuses_lines(&format!("{line}\n"), 1, 11);
+            refuses_lines(&format!("{line}\n"), 1, 12);
         }
-        refuses_lines("", 1, 11);
-        refuses_lines("points=0", 1, 11);
-        refuses_lines("points=8", 1, 11);
+        refuses_lines("", 1, 12);
+        refuses_lines("points=0", 1, 12);
+        refuses_lines("points=8", 1, 12);
         let refuses = |from: &str, to: &str, number, place| {
             let text = changed(&[(from, to)]);
             assert_eq!(planned(text.as_bytes()), refused(number, place), "{from} {to}");
             assert_eq!(reviewed(text.as_bytes()), refused(number, place), "{from} {to}");
         };
-        refuses("hold=0\npoints=0\n", "points=0\nhold=0\n", 1, 10);
-        refuses("points=0\n", "points=0\npoints=0\n", 1, 12);
-        refuses("points=0\ntask=13", "task=13", 1, 19);
+        refuses("hold=0\npoints=0\n", "points=0\nhold=0\n", 1, 11);
+        refuses("points=0\n", "points=0\npoints=0\n", 1, 13);
+        refuses("points=0\ntask=13", "task=13", 1, 21);
         // As a table was before there were curves.
         let old = TABLE.replace("points=0\n", "");
-        assert_eq!(planned(old.as_bytes()), refused(1, 11));
-        assert_eq!(reviewed((old + "rank=12\nrank=11\nrank=13\n").as_bytes()), refused(1, 11));
-        assert_eq!(reviewed(format!("{TABLE}points=0\n").as_bytes()), refused(1, 28));
+        assert_eq!(planned(old.as_bytes()), refused(1, 12));
+        assert_eq!(reviewed((old + "rank=12\nrank=11\nrank=13\n").as_bytes()), refused(1, 12));
+        assert_eq!(reviewed(format!("{TABLE}points=0\n").as_bytes()), refused(1, 31));
     }
 
     #[test]
@@ -1503,7 +1957,7 @@ mod tests {
         for points in 0..=8 {
             for there in 0..=8 {
                 // The first pair too many, or the first that is missing.
-                let place = 12 + 2 * points.min(there as u64);
+                let place = 13 + 2 * points.min(there as u64);
                 if points == there as u64 {
                     assert!(read_table(after_hold(&pairs(points, there)).as_bytes()).is_ok());
                 } else {
@@ -1514,17 +1968,17 @@ mod tests {
             }
         }
         // An allow that is missing, the last and not the last; a delay alone too many.
-        refuses_lines("points=1\ndelay=1\n", 1, 13);
-        refuses_lines("points=2\ndelay=1\nallow=1\ndelay=2\n", 1, 15);
-        refuses_lines("points=2\ndelay=1\ndelay=2\nallow=1\n", 1, 13);
+        refuses_lines("points=1\ndelay=1\n", 1, 14);
+        refuses_lines("points=2\ndelay=1\nallow=1\ndelay=2\n", 1, 16);
+        refuses_lines("points=2\ndelay=1\ndelay=2\nallow=1\n", 1, 14);
         let long = after_hold("points=1\ndelay=1\nallow=1\ndelay=2\n");
-        assert_eq!(planned(long.as_bytes()), refused(1, 14));
-        refuses_lines("points=1\nallow=1\ndelay=1\n", 1, 12);
+        assert_eq!(planned(long.as_bytes()), refused(1, 15));
+        refuses_lines("points=1\nallow=1\ndelay=1\n", 1, 13);
         // In the middle of a table the next row stands where a pair should, or a pair for a row.
         let few = curved([&[(6, 2)], &[], &[]]).replace("points=1", "points=2");
-        assert_eq!(planned(few.as_bytes()), refused(1, 14));
+        assert_eq!(planned(few.as_bytes()), refused(1, 15));
         let many = curved([&[(6, 2)], &[], &[]]).replace("points=1", "points=0");
-        assert_eq!(planned(many.as_bytes()), refused(1, 12));
+        assert_eq!(planned(many.as_bytes()), refused(1, 13));
     }
 
     /// The lines of eight pairs with another number on one of them; `line` counts from 0.
@@ -1540,7 +1994,7 @@ mod tests {
     fn refusal_11_on_each_line_where_it_can_be() {
         for at in 0..8 {
             let (delay_line, allow_line) = (1 + 2 * at, 2 + 2 * at);
-            let (delay_place, allow_place) = (delay_line as u64 + 11, allow_line as u64 + 11);
+            let (delay_place, allow_place) = (delay_line as u64 + 12, allow_line as u64 + 12);
             // 1 to 3 on each line, the first pair's among them.
             for (line, place) in [(delay_line, delay_place), (allow_line, allow_place)] {
                 refuses_lines(&with_line(line, "1000001"), 3, place);
@@ -1586,27 +2040,27 @@ mod tests {
         accepts(&[(0, 1_000_000), (1_000_000, 0)]);
         accepts(&[(0, 1_000_000), (1_000_000, 1_000_000)]);
         accepts(&[(999_999, 0), (1_000_000, 0)]);
-        refuses(&[(1_000_001, 0)], 3, 12);
-        refuses(&[(0, 1_000_001)], 3, 13);
-        refuses(&[(0, 5), (1, 1_000_001)], 3, 15);
-        refuses(&[(1_000_000, 5), (1_000_001, 5)], 3, 14);
-        refuses(&[(1_000_000, 5), (1_000_000, 5)], 11, 14);
-        refuses(&[(7, 5), (7, 5)], 11, 14);
-        refuses(&[(7, 5), (6, 9)], 11, 14);
-        refuses(&[(7, 5), (8, 6)], 11, 15);
+        refuses(&[(1_000_001, 0)], 3, 13);
+        refuses(&[(0, 1_000_001)], 3, 14);
+        refuses(&[(0, 5), (1, 1_000_001)], 3, 16);
+        refuses(&[(1_000_000, 5), (1_000_001, 5)], 3, 15);
+        refuses(&[(1_000_000, 5), (1_000_000, 5)], 11, 15);
+        refuses(&[(7, 5), (7, 5)], 11, 15);
+        refuses(&[(7, 5), (6, 9)], 11, 15);
+        refuses(&[(7, 5), (8, 6)], 11, 16);
         // Beside the pair before it, not beside others.
-        refuses(&[(1, 9), (5, 8), (3, 7)], 11, 16);
-        refuses(&[(1, 9), (2, 5), (3, 6)], 11, 17);
+        refuses(&[(1, 9), (5, 8), (3, 7)], 11, 17);
+        refuses(&[(1, 9), (2, 5), (3, 6)], 11, 18);
         // The first fault ends the reading.
-        refuses(&[(7, 5), (7, 1_000_001)], 11, 14);
-        refuses(&[(7, 5), (8, 6), (8, 5)], 11, 15);
+        refuses(&[(7, 5), (7, 1_000_001)], 11, 15);
+        refuses(&[(7, 5), (8, 6), (8, 5)], 11, 16);
         // Each row begins anew.
         let anew = curved([&[(900, 5), (901, 0)], &[(1, 9), (2, 8)], &[(1, 9)]]);
         assert!(read_table(anew.as_bytes()).is_ok());
         let second = curved([&[(1, 9), (2, 8)], &[(9, 9), (9, 8)], &[]]);
-        assert_eq!(planned(second.as_bytes()), refused(11, 26));
+        assert_eq!(planned(second.as_bytes()), refused(11, 28));
         let third = curved([&[], &[(1, 9)], &[(1, 1), (2, 1), (3, 2)]]);
-        assert_eq!(planned(third.as_bytes()), refused(11, 35));
+        assert_eq!(planned(third.as_bytes()), refused(11, 38));
     }
 
     #[test]
@@ -1618,13 +2072,13 @@ mod tests {
         // E is 1 and each jitter at most 15, so that each order is stable.
         assert_eq!(tasks_of(plan.clone()), tasks_of(planned(table.as_bytes())));
         assert_eq!(reviewed(format!("{text}{ranks}").as_bytes()), plan);
-        assert_eq!(reviewed(text.as_bytes()), refused(1, 388));
+        assert_eq!(reviewed(text.as_bytes()), refused(1, 404));
         let last = "points=8\n".len() + text.rfind("points=8\n").unwrap();
         let spoiled = text[..last].to_string() + &text[last..].replace("delay=31", "delay=30");
-        assert_eq!(planned(spoiled.as_bytes()), refused(11, 386));
+        assert_eq!(planned(spoiled.as_bytes()), refused(11, 402));
         // The longest rows there are still leave room in what the program takes.
-        let row = "task=65535\nperiod=1000000\nworst=1000000\nbest=1000000\nalpha=100000\n\
-            beta=200000000000\nhold=1000000\npoints=8\n";
+        let row = "task=65535\nperiod=1000000\ndeadline=1000000\nworst=1000000\nbest=1000000\n\
+            alpha=100000\nbeta=200000000000\nhold=1000000\npoints=8\n";
         let of_a_task =
             row.len() + 8 * "delay=1000000\nallow=1000000\n".len() + "rank=65535\n".len();
         let longest = "board=65535\ntasks=16\nswitch=1000\n".len() + MOST_TASKS * of_a_task;
@@ -1646,7 +2100,7 @@ mod tests {
         let (bent, none) = (curved(curves), curved([&[], &[], &[(25, 9)]]));
         let wrong = curved([&[], &[(1, 1), (1, 1)], &[]]);
         let plan = PLAN.replace("margin=2000", "margin=0");
-        let answers = [PLAN.to_string(), plan, refusal_says(8, 0), refusal_says(11, 22)];
+        let answers = [PLAN.to_string(), plan, refusal_says(8, 0), refusal_says(11, 24)];
         let text = [TABLE, &bent, &none, &wrong, TABLE, &bent].concat();
         assert_eq!(crane_says(&text), answers.concat() + &answers[0] + &answers[1]);
     }
@@ -1724,7 +2178,7 @@ mod tests {
         let unended = TABLE.strip_suffix('\n').unwrap();
         for between in ["", "\r", "\0", " ", "\u{b}", "\u{c}", "\u{2028}"] {
             let melted = format!("{unended}{between}{TABLE}");
-            assert_eq!(crane_says(&melted), refusal_says(2, 27));
+            assert_eq!(crane_says(&melted), refusal_says(2, 30));
         }
     }
 
@@ -1733,7 +2187,7 @@ mod tests {
         for line in ["board", "board7", "Board=7", " board=7", "\rboard=7", "board =7", "boards=7"]
         {
             let text = format!("{TABLE}{line}\n{TABLE}");
-            assert_eq!(crane_says(&text), refusal_says(1, 28) + PLAN);
+            assert_eq!(crane_says(&text), refusal_says(1, 31) + PLAN);
         }
     }
 
@@ -1749,7 +2203,7 @@ mod tests {
         assert_eq!(crane_says(&format!("{TABLE}board=")), format!("{PLAN}{}", refusal_says(1, 1)));
         assert_eq!(crane_says("\nboard="), refusal_says(1, 1).repeat(2));
         for end in ["b", "boa", "board"] {
-            assert_eq!(crane_says(&format!("{TABLE}{end}")), refusal_says(1, 28));
+            assert_eq!(crane_says(&format!("{TABLE}{end}")), refusal_says(1, 31));
         }
     }
 
@@ -1767,7 +2221,7 @@ mod tests {
         assert_eq!(craned(format!("{}board=", crane("", 32)).as_bytes()), refused(10, 0));
         assert_eq!(
             crane_says(&format!("{}boa", crane("", 32))),
-            PLAN.repeat(31) + &refusal_says(1, 28)
+            PLAN.repeat(31) + &refusal_says(1, 31)
         );
     }
 
@@ -1776,7 +2230,7 @@ mod tests {
         let broken = changed(&[("worst=2", "worst=19")]);
         assert_eq!(
             crane_says(&format!("{TABLE}{broken}{TABLE}")),
-            format!("{PLAN}{}{PLAN}", refusal_says(4, 14))
+            format!("{PLAN}{}{PLAN}", refusal_says(4, 16))
         );
         let unstable = changed(&[("57000", "54999")]);
         let twice = changed(&[("task=12", "task=11")]);
@@ -1870,7 +2324,7 @@ mod tests {
     /// A table of so many loops, each of one tick, and the rank lines of the tasks from the last.
     fn loops(tasks: u64) -> (String, String) {
         let row = |task| {
-            let times = "period=100\nworst=1\nbest=1\n";
+            let times = "period=100\ndeadline=100\nworst=1\nbest=1\n";
             format!("task={task}\n{times}alpha=1000\nbeta=100000\nhold=0\npoints=0\n")
         };
         let rows: String = (1..=tasks).map(row).collect();
@@ -1897,10 +2351,10 @@ mod tests {
             assert_eq!(crane, PLAN.to_owned() + &refusal_says(3, 2));
         }
         let (table, ranks) = loops(16);
-        assert_eq!(planned(format!("{table}rank=1\n").as_bytes()), refused(1, 132));
-        assert_eq!(reviewed(format!("{table}{ranks}rank=1\n").as_bytes()), refused(1, 148));
+        assert_eq!(planned(format!("{table}rank=1\n").as_bytes()), refused(1, 148));
+        assert_eq!(reviewed(format!("{table}{ranks}rank=1\n").as_bytes()), refused(1, 164));
         let twice = table.replace("task=16\n", "task=1\n");
-        assert_eq!(planned(twice.as_bytes()), refused(5, 124));
+        assert_eq!(planned(twice.as_bytes()), refused(5, 139));
     }
 
     /// Every text of six parts, each part something that a cut depends on.

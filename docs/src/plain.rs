@@ -8,7 +8,9 @@
 //! The points of all rows are one list beside the rows, which is looked at only for a row that has
 //! some, and is empty where no row has any.
 
-use crate::model::{self, Answer, Point, Refusal, MOST_PIECES, MOST_POINTS, MOST_TASKS};
+use crate::model::{self, Answer, Point, Refusal};
+use crate::model::{MOST_FINISH, MOST_PIECES, MOST_POINTS, MOST_TASKS};
+use std::collections::VecDeque;
 
 /// The bytes of a plan's three first lines at the most, and of a rank's.
 const HEAD_ROOM: usize = 28;
@@ -23,6 +25,7 @@ const NONE: u8 = 254;
 pub struct Row {
     task: u64,
     period: u64,
+    deadline: u64,
     worst: u64,
     best: u64,
     alpha: u64,
@@ -45,10 +48,10 @@ pub fn table_of(table: &model::Table) -> Table {
     let mut row = |row: &model::Row| {
         let first = points.len() as u32;
         points.extend_from_slice(&row.curve);
-        let model::Row { task, period, worst, best, alpha, beta, hold, .. } = *row;
+        let model::Row { task, period, deadline, worst, best, alpha, beta, hold, .. } = *row;
         let worst = worst + table.switch;
         let points = row.curve.len() as u32;
-        Row { task, period, worst, best, alpha, beta, hold, first, points }
+        Row { task, period, deadline, worst, best, alpha, beta, hold, first, points }
     };
     let rows = table.rows.iter().map(&mut row).collect();
     Table { board: table.board, rows, points }
@@ -109,6 +112,7 @@ impl Reader<'_> {
         let task = self.number(b"task=", 1, 65_535)?;
         self.refuse_if(before.iter().any(|row| row.task == task), 5)?;
         let period = self.number(b"period=", 1, 1_000_000)?;
+        let deadline = self.number(b"deadline=", 1, 1_000_000)?;
         let worst = self.number(b"worst=", 1, 1_000_000)?;
         self.refuse_if(worst + switch > period, 4)?;
         let best = self.number(b"best=", 1, 1_000_000)?;
@@ -119,7 +123,8 @@ impl Reader<'_> {
         self.refuse_if(hold > worst, 4)?;
         let first = points.len() as u32;
         let points = self.curve(points)?;
-        Ok(Row { task, period, worst: worst + switch, best, alpha, beta, hold, first, points })
+        let worst = worst + switch;
+        Ok(Row { task, period, deadline, worst, best, alpha, beta, hold, first, points })
     }
 
     fn table(&mut self) -> Result<Table, Refusal> {
@@ -174,23 +179,44 @@ fn digits(bytes: &[u8]) -> Option<u64> {
 
 // ---- Figures ----------------------------------------------------------------------------
 
-/// What the figures have cost so far, whatever the machine: the terms that were added up, beside
-/// those of first values, and the values that the search of a latest response has tried.
-#[derive(Clone, Copy, Default)]
+/// What the search of an order has cost so far, whatever the machine: the sets of rows that it looked
+/// at, the rows that it tested below a set, the jobs of their busy intervals, the values that it tried
+/// for when these are done, and the terms that were added up, beside those of first values.
+#[derive(Clone, Copy, Debug, Default)]
 pub struct Work {
-    pub terms: u64,
+    pub sets: u64,
+    pub tests: u64,
+    pub jobs: u64,
     pub values: u64,
+    pub terms: u64,
 }
 
-/// The rows above as columns; their work is counted if `COUNTED`. The search of a latest response
-/// begins with one job of each, or, as it did before request 6, with the task's own time: `SOONER`
-/// says which.
-struct Above<const COUNTED: bool, const SOONER: bool> {
+/// Where the search for the end of a job begins: as it did before request 6, with what the jobs so far
+/// take by themselves; with one job of each task above beside them; or for the first job so, and for
+/// each later one with the end of the job before it and its own time, since no solution lies below.
+pub const OWN_TIMES: u8 = 0;
+pub const ONE_OF_EACH: u8 = 1;
+pub const JOB_AFTER_JOB: u8 = 2;
+
+/// The rows above as columns; their work is counted if `COUNTED`, and `START` says where the search
+/// for the end of a job begins. Past the most terms every row is late, so that the count has an end.
+struct Above<const COUNTED: bool, const START: u8> {
     count: usize,
     period: [u64; MOST_TASKS],
     worst: [u64; MOST_TASKS],
     best: [u64; MOST_TASKS],
     work: Work,
+    most: u64,
+}
+
+/// How many jobs of a task are released in a time from one of its releases on. That is often within
+/// the period, and a test is faster than a division; both are far below 2^31, and a division is faster
+/// there than in 64 bits.
+fn ceil(time: u64, period: u64) -> u64 {
+    if time <= period {
+        return 1;
+    }
+    u64::from((time as u32 + period as u32 - 1) / period as u32)
 }
 
 struct Figures {
@@ -199,14 +225,15 @@ struct Figures {
     margin: i64,
 }
 
-impl<const COUNTED: bool, const SOONER: bool> Above<COUNTED, SOONER> {
-    fn new() -> Self {
+impl<const COUNTED: bool, const START: u8> Above<COUNTED, START> {
+    fn new(most: u64) -> Self {
         Above {
             count: 0,
             period: [1; MOST_TASKS],
             worst: [0; MOST_TASKS],
             best: [0; MOST_TASKS],
             work: Work::default(),
+            most,
         }
     }
 
@@ -237,18 +264,15 @@ impl<const COUNTED: bool, const SOONER: bool> Above<COUNTED, SOONER> {
         }
     }
 
-    fn latest(&mut self, row: &Row, blocked: u64) -> Option<u64> {
-        let own = row.worst + blocked;
-        let mut time = own;
-        if SOONER {
-            time += self.worst[..self.count].iter().sum::<u64>();
-        }
+    /// The smallest time up to the limit that the base and the jobs above in it fill, from a time on
+    /// that is not past it.
+    fn filled(&mut self, mut time: u64, base: u64, limit: u64) -> Option<u64> {
         self.count_a_value();
-        while time <= row.period {
+        while time <= limit {
             self.count_a_sum();
-            let mut next = own;
+            let mut next = base;
             for (period, worst) in self.period[..self.count].iter().zip(&self.worst) {
-                next += time.div_ceil(*period) * worst;
+                next += ceil(time, *period) * worst;
             }
             if next == time {
                 return Some(time);
@@ -259,13 +283,38 @@ impl<const COUNTED: bool, const SOONER: bool> Above<COUNTED, SOONER> {
         None
     }
 
+    /// The longest response of a busy interval, job after job up to one that ends before the next
+    /// release; none if one of them is past its deadline.
+    fn latest(&mut self, row: &Row, blocked: u64) -> Option<u64> {
+        let once =
+            if START == OWN_TIMES { 0 } else { self.worst[..self.count].iter().sum::<u64>() };
+        let (mut base, mut release, mut longest) = (row.worst + blocked, 0, 0);
+        let mut time = base + once;
+        loop {
+            if COUNTED {
+                self.work.jobs += 1;
+                if self.work.terms > self.most {
+                    return None;
+                }
+            }
+            let end = self.filled(time, base, MOST_FINISH.min(release + row.deadline))?;
+            longest = longest.max(end - release);
+            release += row.period;
+            if end <= release {
+                return Some(longest);
+            }
+            base += row.worst;
+            time = if START == JOB_AFTER_JOB { end + row.worst } else { base + once };
+        }
+    }
+
     fn earliest(&mut self, row: &Row, latest: u64) -> u64 {
         let mut time = latest;
         loop {
             self.count_a_sum();
             let mut next = row.best;
             for (period, best) in self.period[..self.count].iter().zip(&self.best) {
-                next += (time.div_ceil(*period) - 1) * best;
+                next += (ceil(time, *period) - 1) * best;
             }
             if next == time {
                 return time;
@@ -309,14 +358,14 @@ fn blocking_time<'a>(below: impl Iterator<Item = &'a Row>) -> u64 {
 
 // ---- The search -------------------------------------------------------------------------
 
-struct Search<'a, const COUNTED: bool, const SOONER: bool> {
+struct Search<'a, const COUNTED: bool, const START: u8> {
     rows: &'a [Row],
     points: &'a [Point],
     lowest: Vec<u8>,
-    above: Above<COUNTED, SOONER>,
+    above: Above<COUNTED, START>,
 }
 
-impl<const COUNTED: bool, const SOONER: bool> Search<'_, COUNTED, SOONER> {
+impl<const COUNTED: bool, const START: u8> Search<'_, COUNTED, START> {
     /// Whether a set has an order, with the largest hold outside it.
     fn has_order(&mut self, set: usize, largest: u64) -> bool {
         if self.lowest[set] == UNKNOWN {
@@ -326,6 +375,9 @@ impl<const COUNTED: bool, const SOONER: bool> Search<'_, COUNTED, SOONER> {
     }
 
     fn find_lowest(&mut self, set: usize, largest: u64) -> u8 {
+        if COUNTED {
+            self.above.work.sets += 1;
+        }
         let blocked = largest.saturating_sub(1);
         for index in 0..self.rows.len() {
             let rest = set & !(1 << index);
@@ -339,6 +391,9 @@ impl<const COUNTED: bool, const SOONER: bool> Search<'_, COUNTED, SOONER> {
     }
 
     fn is_stable(&mut self, index: usize, rest: usize, blocked: u64) -> bool {
+        if COUNTED {
+            self.above.work.tests += 1;
+        }
         self.above.fill(self.rows, rest);
         let figures = self.above.figures(&self.rows[index], blocked, self.points);
         figures.is_some_and(|figures| figures.margin >= 0)
@@ -356,14 +411,15 @@ impl<const COUNTED: bool, const SOONER: bool> Search<'_, COUNTED, SOONER> {
     }
 }
 
-/// The order of the plan, highest rank first, and the work done to find it (0 unless `COUNTED`); the
-/// rows have the switch in their worst times.
-pub fn chosen<const COUNTED: bool, const SOONER: bool>(
+/// The order of the plan, highest rank first, and the work done to find it (0 unless `COUNTED`), or
+/// no order and a work of more than `most` terms; the rows have the switch in their worst times.
+pub fn chosen<const COUNTED: bool, const START: u8>(
     Table { rows, points, .. }: &Table,
+    most: u64,
 ) -> (Option<Vec<usize>>, Work) {
     let mut lowest = vec![UNKNOWN; 1 << rows.len()];
     lowest[0] = 0;
-    let mut search = Search { rows, points, lowest, above: Above::<COUNTED, SOONER>::new() };
+    let mut search = Search { rows, points, lowest, above: Above::<COUNTED, START>::new(most) };
     let found = search.has_order((1 << rows.len()) - 1, 0);
     (found.then(|| search.order()), search.above.work)
 }
@@ -386,7 +442,7 @@ fn push_line(text: &mut Vec<u8>, key: &[u8], mut number: u64) {
     text.push(b'\n');
 }
 
-fn plan_text<const SOONER: bool>(
+fn plan_text<const START: u8>(
     Table { board, rows, points }: &Table,
     order: &[usize],
 ) -> Result<Vec<u8>, Refusal> {
@@ -394,7 +450,7 @@ fn plan_text<const SOONER: bool>(
     push_line(&mut text, b"plan=", 1);
     push_line(&mut text, b"board=", *board);
     push_line(&mut text, b"tasks=", rows.len() as u64);
-    let mut above = Above::<false, SOONER>::new();
+    let mut above = Above::<false, START>::new(u64::MAX);
     for (at, &index) in order.iter().enumerate() {
         let (row, rank) = (&rows[index], at as u64 + 1);
         let blocked = blocking_time(order[at + 1..].iter().map(|&index| &rows[index]));
@@ -412,12 +468,13 @@ fn plan_text<const SOONER: bool>(
     Ok(text)
 }
 
-fn planned<const SOONER: bool>(text: &[u8]) -> Result<Vec<u8>, Refusal> {
+fn planned<const START: u8>(text: &[u8]) -> Result<Vec<u8>, Refusal> {
     let mut reader = Reader::new(text);
     let table = reader.table()?;
     reader.end()?;
-    let order = chosen::<false, SOONER>(&table).0.ok_or(Refusal { number: 8, place: 0 })?;
-    plan_text::<SOONER>(&table, &order)
+    let order =
+        chosen::<false, START>(&table, u64::MAX).0.ok_or(Refusal { number: 8, place: 0 })?;
+    plan_text::<START>(&table, &order)
 }
 
 fn reviewed(text: &[u8]) -> Result<Vec<u8>, Refusal> {
@@ -425,7 +482,7 @@ fn reviewed(text: &[u8]) -> Result<Vec<u8>, Refusal> {
     let table = reader.table()?;
     let order = reader.ranks(&table.rows)?;
     reader.end()?;
-    plan_text::<true>(&table, &order)
+    plan_text::<JOB_AFTER_JOB>(&table, &order)
 }
 
 fn deliver(plan: Result<Vec<u8>, Refusal>, buffer: &mut [u8]) -> Answer {
@@ -443,14 +500,20 @@ fn deliver(plan: Result<Vec<u8>, Refusal>, buffer: &mut [u8]) -> Answer {
 }
 
 pub fn plan(text: &[u8], buffer: &mut [u8]) -> Answer {
-    deliver(planned::<true>(text), buffer)
+    deliver(planned::<JOB_AFTER_JOB>(text), buffer)
 }
 
 /// The same with the search of a latest response as the library had it before request 6, for `bench`
 /// alone.
 #[allow(dead_code)]
 pub fn plan_before(text: &[u8], buffer: &mut [u8]) -> Answer {
-    deliver(planned::<false>(text), buffer)
+    deliver(planned::<OWN_TIMES>(text), buffer)
+}
+
+/// The same with the search begun anew for each job of a busy interval, for `bench` alone.
+#[allow(dead_code)]
+pub fn plan_anew(text: &[u8], buffer: &mut [u8]) -> Answer {
+    deliver(planned::<ONE_OF_EACH>(text), buffer)
 }
 
 pub fn review(text: &[u8], buffer: &mut [u8]) -> Answer {
@@ -513,15 +576,15 @@ pub fn crane(text: &[u8], buffer: &mut [u8]) -> Answer {
 
 // ---- The board to watch -----------------------------------------------------------------
 
-/// A rank of a board on which no task is late, so that it has one unfinished job at the most.
+/// A rank of a board: its next release, and of its unfinished jobs, the oldest first, the release and
+/// the ticks that are left.
 struct Rank {
     task: u64,
     period: u64,
     least: u64,
     most: u64,
     next: u64,
-    release: u64,
-    left: u64,
+    jobs: VecDeque<(u64, u64)>,
 }
 
 impl Reader<'_> {
@@ -533,7 +596,7 @@ impl Reader<'_> {
         }
         let rank = |&index: &usize| {
             let Row { task, period, worst: most, best: least, .. } = rows[index];
-            Rank { task, period, least, most, next: first[index], release: 0, left: 0 }
+            Rank { task, period, least, most, next: first[index], jobs: VecDeque::new() }
         };
         Ok(order.iter().map(rank).collect())
     }
@@ -559,22 +622,23 @@ fn run(ranks: &mut [Rank], lengths: &[u64], ticks: u64) -> Vec<u8> {
     let (mut text, mut lengths, mut now) = (Vec::new(), lengths.iter(), 0);
     while now < ticks {
         for rank in ranks.iter_mut().filter(|rank| rank.next == now) {
-            rank.left = *lengths.next().unwrap_or(&rank.most);
-            rank.release = now;
+            rank.jobs.push_back((now, *lengths.next().unwrap_or(&rank.most)));
             rank.next += rank.period;
         }
         let end = ranks.iter().fold(ticks, |end, rank| end.min(rank.next));
-        let Some(rank) = ranks.iter_mut().find(|rank| rank.left > 0) else {
+        let Some(rank) = ranks.iter_mut().find(|rank| !rank.jobs.is_empty()) else {
             now = end;
             continue;
         };
-        let had = rank.left.min(end - now);
+        let (release, left) = &mut rank.jobs[0];
+        let had = (*left).min(end - now);
         now += had;
-        rank.left -= had;
-        if rank.left == 0 {
+        *left -= had;
+        if *left == 0 {
             push_line(&mut text, b"task=", rank.task);
-            push_line(&mut text, b"release=", rank.release);
+            push_line(&mut text, b"release=", *release);
             push_line(&mut text, b"finish=", now);
+            rank.jobs.pop_front();
         }
     }
     text
@@ -589,7 +653,7 @@ fn watched(text: &[u8]) -> Result<Vec<u8>, Refusal> {
     let lengths = reader.lengths(&ranks)?;
     reader.end()?;
     // For its refusal of a late task.
-    plan_text::<true>(&table, &order)?;
+    plan_text::<JOB_AFTER_JOB>(&table, &order)?;
     Ok(run(&mut ranks, &lengths, ticks))
 }
 

@@ -1,9 +1,11 @@
 //! Random tables of tasks: several families of periods, loads up to the whole processor, switches
-//! and holds of many kinds, betas that stand exactly on a margin of 0 or one beside it, and curves
-//! that pass close by a row's earliest response and jitter.
+//! and holds of many kinds, deadlines from below the period to far past it, many just at a row's
+//! latest response or one beside it, betas that stand exactly on a margin of 0 or one beside it, and
+//! curves that pass close by a row's earliest response and jitter.
 
 use crate::dice::Dice;
-use crate::model::{self, Figures, Point, Row, Table, MOST_ALLOW, MOST_DELAY, MOST_POINTS};
+use crate::model::{self, Figures, Point, Row, Table};
+use crate::model::{MOST_ALLOW, MOST_DELAY, MOST_POINTS};
 
 const MOST_TICKS: u64 = 1_000_000;
 const MOST_BETA: u64 = 200_000_000_000;
@@ -42,6 +44,12 @@ const CROSSING_DRAWS: usize = 20;
 
 /// How often a curve is drawn until a row is stable by it.
 const CURVE_DRAWS: usize = 10;
+
+/// How often an order is drawn until no task in it is late whatever its deadline.
+const ORDER_DRAWS: usize = 4;
+
+/// Tables with more tasks than this seldom have loads that are brought close to 1.
+const MANY_TASKS: usize = 6;
 
 /// Periods of a family, the short ones longer by `more` ticks so that the switches find room.
 fn periods(dice: &mut Dice, family: Family, count: usize, more: u64) -> Vec<u64> {
@@ -162,9 +170,8 @@ fn some_order(dice: &mut Dice, table: &Table) -> Vec<usize> {
     order
 }
 
-/// Betas at the boundaries of one order, which is then stable unless a task in it is late.
-fn set_betas_by_order(dice: &mut Dice, table: &mut Table) {
-    let order = some_order(dice, table);
+/// Betas at the boundaries of an order, which is then stable unless a task in it is late.
+fn set_betas_by_order(dice: &mut Dice, table: &mut Table, order: &[usize]) {
     let copies = table.rows.clone();
     let ranked: Vec<&Row> = order.iter().map(|&index| &copies[index]).collect();
     for (rank, &index) in order.iter().enumerate() {
@@ -334,12 +341,11 @@ pub fn set_a_curve(dice: &mut Dice, table: &mut Table, order: &[usize], rank: us
     };
 }
 
-/// Curves in one row, in some or in all, near to what the rows have in one order, which three times
+/// Curves in one row, in some or in all, near to what the rows have in an order, which three times
 /// in four is stable by them; or, where betas are no limit, such that these are none either.
-fn set_curves(dice: &mut Dice, table: &mut Table, loose: bool) {
+fn set_curves(dice: &mut Dice, table: &mut Table, order: &[usize], loose: bool) {
     let (kind, only) = (dice.below(4), dice.below(table.rows.len()));
     let fits = !dice.once_in(4);
-    let order = some_order(dice, table);
     for rank in 0..order.len() {
         let index = order[rank];
         let chosen = match kind {
@@ -352,7 +358,7 @@ fn set_curves(dice: &mut Dice, table: &mut Table, loose: bool) {
         } else if chosen && !fits && dice.once_in(10) {
             table.rows[index].curve = any_curve(dice);
         } else if chosen {
-            set_a_curve(dice, table, &order, rank, fits);
+            set_a_curve(dice, table, order, rank, fits);
         }
     }
 }
@@ -365,6 +371,177 @@ pub fn curved(dice: &mut Dice, family: Family, count: usize) -> Table {
     let (order, fits) = (some_order(dice, &table), !dice.once_in(4));
     (0..count).for_each(|rank| set_a_curve(dice, &mut table, &order, rank, fits));
     table
+}
+
+// ---- Deadlines --------------------------------------------------------------------------
+
+/// The processor's load by so many parts of it.
+const PARTS: u64 = 1_000_000_000_000;
+
+/// A longer job of some row, so that the load comes as close to 1 as that row's ticks allow, and
+/// busy intervals get long; a row that has no room is left as it is.
+fn fill_the_load(dice: &mut Dice, table: &mut Table) {
+    let (index, switch) = (dice.below(table.rows.len()), table.switch);
+    let load = |row: &Row| ((row.worst + switch) * PARTS).div_ceil(row.period);
+    let all: u64 = table.rows.iter().map(load).sum();
+    let row = &mut table.rows[index];
+    let free = PARTS.saturating_sub(all - load(row));
+    let cost = (u128::from(free) * u128::from(row.period) / u128::from(PARTS)) as u64;
+    if cost > row.worst + switch {
+        row.worst = cost - switch;
+        row.best = best(dice, row.worst);
+    }
+}
+
+/// An order, as often that of the periods or its reverse, in which short periods overrun, as any.
+fn overrunning_order(dice: &mut Dice, table: &Table) -> Vec<usize> {
+    let mut order: Vec<usize> = (0..table.rows.len()).collect();
+    dice.shuffle(&mut order);
+    match dice.below(3) {
+        0 => order.sort_by_key(|&index| table.rows[index].period),
+        1 => order.sort_by_key(|&index| std::cmp::Reverse(table.rows[index].period)),
+        _ => {}
+    }
+    order
+}
+
+/// The boundary of a row in an order.
+fn boundary_in(table: &Table, order: &[usize], rank: usize) -> Option<u64> {
+    let ranked: Vec<&Row> = order.iter().map(|&index| &table.rows[index]).collect();
+    boundary(table.switch, ranked[rank], &ranked[..rank], &ranked[rank + 1..])
+}
+
+/// The latest response of a row in an order whatever its deadline; none if it has none up to the
+/// longest.
+pub fn latest_in(table: &Table, order: &[usize], rank: usize) -> Option<u64> {
+    let ranked: Vec<&Row> = order.iter().map(|&index| &table.rows[index]).collect();
+    let (above, below) = (&ranked[..rank], &ranked[rank + 1..]);
+    model::latest(table.switch, &Row { deadline: MOST_TICKS, ..ranked[rank].clone() }, above, below)
+}
+
+/// A deadline for a latest response: the response itself most of the time, or past it.
+fn deadline_past(dice: &mut Dice, row: &Row, latest: u64) -> u64 {
+    let more = match dice.below(8) {
+        0 => 1,
+        1 => dice.any_size(1_000),
+        2 => row.period.saturating_sub(latest),
+        3 => row.period * dice.between(1, 4),
+        4 => dice.any_size(MOST_TICKS),
+        _ => 0,
+    };
+    (latest + more).min(MOST_TICKS)
+}
+
+/// Deadlines that the rows have no trouble with in an order, but that one row may have one tick too
+/// few; a row that is late there whatever its deadline has any.
+fn set_deadlines_by_order(dice: &mut Dice, table: &mut Table, order: &[usize]) {
+    let (short, only) = (dice.once_in(4), dice.below(order.len()));
+    for (rank, &index) in order.iter().enumerate() {
+        let latest = latest_in(table, order, rank);
+        let row = &table.rows[index];
+        table.rows[index].deadline = match latest {
+            Some(latest) if short && rank == only => latest.max(2) - 1,
+            Some(latest) => deadline_past(dice, row, latest),
+            None if dice.once_in(2) => row.period,
+            None => dice.any_size(MOST_TICKS),
+        };
+    }
+}
+
+/// A deadline from 1 to the period: seldom below the worst time, where the row is late everywhere.
+fn short_deadline(dice: &mut Dice, row: &Row) -> u64 {
+    match dice.below(12) {
+        0 => dice.between(1, row.worst),
+        1 => 1,
+        2 => row.worst,
+        3..=5 => row.period - dice.any_size(row.period.min(10)) + 1,
+        _ => dice.between(row.worst, row.period),
+    }
+}
+
+/// Deadlines of a table's rows: all far off, some periods, below the period in some rows, mixed, or
+/// near to what the rows need in an order.
+fn set_deadlines(dice: &mut Dice, table: &mut Table, order: &[usize]) {
+    let (kind, far) = (dice.below(12), dice.pick(&[MOST_TICKS, MOST_TICKS - 1]));
+    for row in &mut table.rows {
+        row.deadline = match kind {
+            0 => far,
+            1 => row.period * dice.between(1, 5),
+            2 if dice.once_in(2) => row.period,
+            2 => short_deadline(dice, row),
+            3 => match dice.below(4) {
+                0 => row.period,
+                1 => short_deadline(dice, row),
+                2 => dice.any_size(MOST_TICKS),
+                _ => row.period * dice.between(1, 5),
+            },
+            _ => row.deadline,
+        }
+        .min(MOST_TICKS);
+    }
+    if kind > 3 {
+        set_deadlines_by_order(dice, table, order);
+    }
+}
+
+/// One of a few orders in which no task is late whatever its deadline, if there is one.
+fn order_in_time(dice: &mut Dice, table: &Table) -> Vec<usize> {
+    let mut order = overrunning_order(dice, table);
+    let late =
+        |order: &[usize]| (0..order.len()).any(|rank| latest_in(table, order, rank).is_none());
+    for _ in 0..ORDER_DRAWS {
+        if !late(&order) {
+            break;
+        }
+        order = overrunning_order(dice, table);
+    }
+    order
+}
+
+/// A task that may go lowest, past its period, and should not: by period it is above one that gains
+/// by it and is just stable so. It is the first of the table, where the rule tries it first. The answer
+/// is the order by period; none where no task gains.
+fn set_a_trap(table: &mut Table) -> Option<Vec<usize>> {
+    let mut order: Vec<usize> = (0..table.rows.len()).collect();
+    order.sort_by_key(|&index| table.rows[index].period);
+    let (_, gone) = gain_in(table, &order)?;
+    table.rows.swap(0, order[gone]);
+    let other = order.iter().position(|&index| index == 0)?;
+    order.swap(gone, other);
+    let last = order.len() - 1;
+    let lowest = [&order[..gone], &order[gone + 1..], &[0]].concat();
+    let latest = latest_in(table, &lowest, last)?;
+    let before = boundary_in(table, &order, gone);
+    table.rows[0].deadline = latest.max(table.rows[0].period);
+    let beta = before.max(boundary_in(table, &lowest, last))?;
+    for rank in 0..order.len() {
+        let boundary = boundary_in(table, &order, rank).unwrap_or(MOST_BETA);
+        table.rows[order[rank]].beta = if rank == gone { beta } else { boundary }.min(MOST_BETA);
+    }
+    Some(order)
+}
+
+/// Gives a table deadlines and, where betas are a limit, new betas for them; the answer is an order
+/// in which most of its tasks are in time. The more tasks it has the more sets of them there are to
+/// be tried, so that it has long busy intervals less often.
+fn put_deadlines(dice: &mut Dice, table: &mut Table, loose: bool) -> Vec<usize> {
+    if !loose && dice.once_in(4) {
+        if let Some(order) = set_a_trap(table) {
+            return order;
+        }
+    }
+    let fills =
+        if table.rows.len() > MANY_TASKS { dice.once_in(20) as u64 } else { dice.between(0, 2) };
+    (0..fills).for_each(|_| fill_the_load(dice, table));
+    let order = order_in_time(dice, table);
+    set_deadlines(dice, table, &order);
+    if !loose && dice.once_in(8) {
+        set_betas(dice, table);
+    } else if !loose {
+        set_betas_by_order(dice, table, &order);
+        lower_a_beta(dice, table);
+    }
+    order
 }
 
 // ---- Whole tables -----------------------------------------------------------------------
@@ -400,6 +577,7 @@ fn loose_table(dice: &mut Dice, family: Family, count: usize, switch: Switch) ->
     let row = |((task, period), worst)| Row {
         task,
         period,
+        deadline: period,
         worst,
         best: best(dice, worst),
         alpha: alpha(dice),
@@ -412,8 +590,15 @@ fn loose_table(dice: &mut Dice, family: Family, count: usize, switch: Switch) ->
 
 /// Whether, by period, some task has a larger margin than without one of the tasks above it.
 fn some_task_gains(table: &Table) -> bool {
-    let mut ranked: Vec<&Row> = table.rows.iter().collect();
-    ranked.sort_by_key(|row| row.period);
+    let mut order: Vec<usize> = (0..table.rows.len()).collect();
+    order.sort_by_key(|&index| table.rows[index].period);
+    gain_in(table, &order).is_some()
+}
+
+/// The first rank of an order whose task has a larger margin than without that of a rank above it, and
+/// the first such rank above it.
+fn gain_in(table: &Table, order: &[usize]) -> Option<(usize, usize)> {
+    let ranked: Vec<&Row> = order.iter().map(|&index| &table.rows[index]).collect();
     let gains = |rank: usize, gone: usize| {
         let fewer = [&ranked[..gone], &ranked[gone + 1..rank]].concat();
         let below = &ranked[rank + 1..];
@@ -423,17 +608,25 @@ fn some_task_gains(table: &Table) -> bool {
             without.is_some_and(|without| cost < without)
         })
     };
-    (1..ranked.len()).any(|rank| (0..rank).any(|gone| gains(rank, gone)))
+    let pairs = (1..ranked.len()).flat_map(|rank| (0..rank).map(move |gone| (rank, gone)));
+    pairs.into_iter().find(|&(rank, gone)| gains(rank, gone))
 }
 
 fn set_betas(dice: &mut Dice, table: &mut Table) {
     match dice.below(8) {
         0 => table.rows.iter_mut().for_each(|row| row.beta = dice.any_size(MOST_BETA)),
         1 | 2 => set_betas_by_sets(dice, table),
-        _ => set_betas_by_order(dice, table),
+        _ => {
+            let order = some_order(dice, table);
+            set_betas_by_order(dice, table, &order);
+        }
     }
+    lower_a_beta(dice, table);
+}
+
+/// One time in four a beta that is one beside a boundary, often too few for any order.
+fn lower_a_beta(dice: &mut Dice, table: &mut Table) {
     if dice.once_in(4) {
-        // One beside a boundary, often too few for any order.
         let index = dice.below(table.rows.len());
         let row = &mut table.rows[index];
         row.beta = row.beta.saturating_sub(1);
@@ -499,6 +692,14 @@ pub fn switching(dice: &mut Dice, family: Family, count: usize, loose: bool) -> 
     table
 }
 
+/// A table of document 01 with deadlines, for `bench` alone.
+#[allow(dead_code)]
+pub fn deadlined(dice: &mut Dice, family: Family, count: usize) -> Table {
+    let mut table = drawn(dice, family, count, NO_SWITCH);
+    put_deadlines(dice, &mut table, false);
+    table
+}
+
 /// A few tasks under a switch, one of them with hundreds of jobs in the time of another's.
 pub fn crowded(dice: &mut Dice, count: usize) -> Table {
     let switch = dice.pick(&[1, 2, 10, 100, MOST_SWITCH - 1, MOST_SWITCH]);
@@ -510,31 +711,40 @@ pub fn crowded(dice: &mut Dice, count: usize) -> Table {
     row.worst = dice.between(1, 3);
     row.period = (row.worst + switch) * dice.between(2, 4) / 2 + dice.between(1, 3);
     for row in &mut table.rows {
+        row.deadline = row.period;
         row.best = best(dice, row.worst);
     }
     set_betas(dice, &mut table);
-    if dice.once_in(2) {
-        set_curves(dice, &mut table, false);
-    }
+    finish(dice, &mut table, false);
     table
 }
 
-/// A table of any board, with a switch in five of eight and with curves in half.
+/// Deadlines other than the periods in half of the tables, and curves in half.
+fn finish(dice: &mut Dice, table: &mut Table, loose: bool) {
+    let order = match dice.once_in(2) {
+        true => put_deadlines(dice, table, loose),
+        false => some_order(dice, table),
+    };
+    if dice.once_in(2) {
+        set_curves(dice, table, &order, loose);
+    }
+}
+
+/// A table of any board, with a switch in five of eight, with deadlines in half and with curves in
+/// half.
 pub fn any(dice: &mut Dice, family: Family, count: usize, loose: bool) -> Table {
     let draw = if dice.below(8) < 3 { holding } else { switching };
     let board = dice.any_size(65_535);
     let mut table = Table { board, ..draw(dice, family, count, loose) };
-    if dice.once_in(2) {
-        set_curves(dice, &mut table, loose);
-    }
+    finish(dice, &mut table, loose);
     table
 }
 
 /// The table as text.
 pub fn text(Table { board, switch, rows }: &Table) -> Vec<u8> {
     let mut text = format!("board={board}\ntasks={}\nswitch={switch}\n", rows.len());
-    for Row { task, period, worst, best, alpha, beta, hold, curve } in rows {
-        text += &format!("task={task}\nperiod={period}\nworst={worst}\n");
+    for Row { task, period, deadline, worst, best, alpha, beta, hold, curve } in rows {
+        text += &format!("task={task}\nperiod={period}\ndeadline={deadline}\nworst={worst}\n");
         text += &format!("best={best}\nalpha={alpha}\nbeta={beta}\nhold={hold}\n");
         text += &format!("points={}\n", curve.len());
         for Point { delay, allow } in curve {

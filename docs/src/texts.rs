@@ -11,17 +11,19 @@ const EDGES: &str =
     1000000 1000001 200000000000 200000000001 999999999999 1000000000000 0000000000001 4294967297 \
     18446744073709551617 00 01";
 
-const KEYS: [&str; 21] = [
-    "board", "tasks", "switch", "task", "period", "worst", "best", "alpha", "beta", "hold",
-    "points", "delay", "allow", "rank", "Board", "Switch", "Hold", "Points", "point", "plan", "",
+const KEYS: [&str; 24] = [
+    "board", "tasks", "switch", "task", "period", "deadline", "worst", "best", "alpha", "beta",
+    "hold", "points", "delay", "allow", "rank", "Board", "Switch", "Deadline", "dead", "Hold",
+    "Points", "point", "plan", "",
 ];
 
-const TAILS: [&[u8]; 14] = [
+const TAILS: [&[u8]; 15] = [
     b"\n",
     b"x",
     b"\0",
     b"rank=1\n",
     b"task=1\n",
+    b"deadline=1\n",
     b"hold=0\n",
     b"points=0\n",
     b"delay=0\n",
@@ -96,8 +98,9 @@ fn set_a_number(dice: &mut Dice, lines: &mut [Vec<u8>]) {
     }
 }
 
-/// Puts the number of another line, plus 0 or 1, on some line: that of the line before it, or of
-/// a row before it for a task. The way to worst above period, best above worst and tasks twice.
+/// Puts the number of another line, plus 0 or 1, on some line: that of one of the two lines before
+/// it, or of a row before it for a task. The way to worst above period, best above worst and tasks
+/// twice.
 fn set_a_number_from_another(dice: &mut Dice, lines: &mut [Vec<u8>]) {
     let tasks: Vec<usize> =
         (0..lines.len()).filter(|&at| lines[at].starts_with(b"task=")).collect();
@@ -106,7 +109,7 @@ fn set_a_number_from_another(dice: &mut Dice, lines: &mut [Vec<u8>]) {
         (tasks[later], tasks[dice.below(later)])
     } else {
         let at = dice.below(lines.len());
-        (at, at.saturating_sub(1))
+        (at, at.saturating_sub(1 + dice.below(2)))
     };
     copy_a_number(dice, lines, at, at - from);
 }
@@ -137,11 +140,53 @@ fn damage_a_hold(dice: &mut Dice, lines: &mut Vec<Vec<u8>>) {
         0 => lines[at] = dice.pick(&["hold=1000000\n", "hold=1000001\n"]).into(),
         1..=3 => copy_a_number(dice, lines, at, 4),
         4 => copy_a_number(dice, lines, at, 1),
-        5 => copy_a_number(dice, lines, at, 5),
+        5 => copy_a_number(dice, lines, at, 6),
         6 => lines.swap(at, at.saturating_sub(1)),
         7 => lines.insert(at, lines[at].clone()),
         8 => drop(lines.remove(at)),
         _ => lines.retain(|line| !line.starts_with(b"hold=")),
+    }
+}
+
+/// What stands on the line of a deadline: both sides of its limits, and forms that are none.
+const DEADLINES: &str = "0 1 2 999999 1000000 1000001 1000001 999999999999 1000000000000 00 01 \
+    0000000000001 +1 -1 -0 1. x =1";
+
+/// The line of a deadline: its number, that of the period, of the worst time or of the best, or one
+/// beside these, none of which is a fault; its place, before the period, after the worst time or
+/// anywhere; twice, with another key, or gone, of one row or of all as in a table from before there
+/// were deadlines.
+pub fn damage_a_deadline(dice: &mut Dice, lines: &mut Vec<Vec<u8>>) {
+    let deadlines = lines_with(lines, b"deadline=");
+    if deadlines.is_empty() {
+        return;
+    }
+    let at = dice.pick(&deadlines);
+    let forms: Vec<&str> = DEADLINES.split(' ').collect();
+    match dice.below(16) {
+        0..=3 => lines[at] = joined(b"deadline", dice.pick(&forms).as_bytes()),
+        4 => lines[at] = joined(b"deadline", dice.pick(&BLANKS)),
+        5 => copy_a_number(dice, lines, at, 1),
+        6 | 7 => {
+            let from = (at + 1 + dice.below(2)).min(lines.len() - 1);
+            let number = number_on(lines, from).unwrap_or(1).saturating_sub(dice.between(0, 1));
+            lines[at] = joined(b"deadline", number.to_string().as_bytes());
+        }
+        8 => lines.swap(at, at.saturating_sub(1)),
+        9 if at + 1 < lines.len() => lines.swap(at, at + 1),
+        10 => lines.insert(at, lines[at].clone()),
+        11 => drop(lines.remove(at)),
+        12 => lines.retain(|line| !line.starts_with(b"deadline=")),
+        13 => {
+            let number = number_on(lines, at).unwrap_or(1);
+            let key = dice.pick(&["Deadline", "dead", "deadlines", " deadline", "period", "worst"]);
+            lines[at] = joined(key.as_bytes(), number.to_string().as_bytes());
+        }
+        14 => drop(lines[at].pop()),
+        _ => {
+            let line = lines.remove(at);
+            lines.insert(dice.below(lines.len() + 1), line);
+        }
     }
 }
 
@@ -244,16 +289,16 @@ fn set_beside_the_switch(dice: &mut Dice, lines: &mut [Vec<u8>], at: usize) {
         return;
     }
     let row = dice.pick(&rows);
-    let numbers = [at, row, row + 1].map(|at| number_on(lines, at));
+    let numbers = [at, row, row + 2].map(|at| number_on(lines, at));
     let [Some(switch), Some(period), Some(worst)] = numbers else {
         return;
     };
     let one = dice.between(0, 1);
     let over = worst.saturating_add(dice.pick(&[0, 1, switch, switch.saturating_add(1)]));
     let (back, key, number) = match dice.below(4) {
-        0 | 1 => (1, "worst", period.saturating_sub(switch).saturating_add(one)),
-        2 => (2, "best", over),
-        _ => (5, "hold", over),
+        0 | 1 => (2, "worst", period.saturating_sub(switch).saturating_add(one)),
+        2 => (3, "best", over),
+        _ => (6, "hold", over),
     };
     if let Some(line) = lines.get_mut(row + back) {
         *line = format!("{key}={number}\n").into_bytes();
@@ -393,7 +438,7 @@ fn remove_a_byte(dice: &mut Dice, text: &mut Vec<u8>) {
 
 /// Damages the text in one way.
 pub fn damage(dice: &mut Dice, text: &mut Vec<u8>) {
-    match dice.below(23) {
+    match dice.below(26) {
         0 => text.truncate(dice.below(text.len() + 1)),
         1 | 2 => change_a_byte(dice, text),
         3 => insert_a_byte(dice, text),
@@ -412,6 +457,7 @@ pub fn damage(dice: &mut Dice, text: &mut Vec<u8>) {
         15 => with_lines(text, |lines| damage_a_hold(dice, lines)),
         16 | 17 => with_lines(text, |lines| damage_the_switch(dice, lines)),
         18..=21 => with_lines(text, |lines| damage_a_curve(dice, lines)),
+        22..=24 => with_lines(text, |lines| damage_a_deadline(dice, lines)),
         _ => text.extend_from_slice(dice.pick(&TAILS)),
     }
 }

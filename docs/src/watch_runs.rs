@@ -14,10 +14,12 @@ const MANY_TEXTS: u64 = 5_000;
 
 /// The lines of a text by what is expected there: refusals are counted for each. The last are the
 /// lengths, with what stands after them.
-const LINES: [&str; 10] =
-    ["table", "hold", "points", "delay", "allow", "rank", "release", "ticks", "lengths", "length"];
-const DELAY: usize = 3;
-const ALLOW: usize = 4;
+const LINES: [&str; 11] = [
+    "table", "deadline", "hold", "points", "delay", "allow", "rank", "release", "ticks", "lengths",
+    "length",
+];
+const DELAY: usize = 4;
+const ALLOW: usize = 5;
 
 /// The number on a line that has been accepted, else 0.
 fn number_on(lines: &[&[u8]], line: usize) -> usize {
@@ -34,14 +36,15 @@ fn kind_of_line(text: &[u8], line: usize) -> usize {
     }
     let (tasks, mut taken) = (number_on(&lines, 2), 3);
     for _ in 0..tasks {
-        // The line of the points is the eighth of a row, and each of them has two.
+        // The line of the points is the ninth of a row, and each of them has two.
         match line - taken {
-            1..=6 => return 0,
-            7 => return 1,
+            3 => return 1,
+            1..=7 => return 0,
             8 => return 2,
+            9 => return 3,
             _ => {}
         }
-        taken += 8;
+        taken += 9;
         let points = number_on(&lines, taken);
         if line <= taken + 2 * points {
             return if (line - taken) % 2 == 1 { DELAY } else { ALLOW };
@@ -49,11 +52,11 @@ fn kind_of_line(text: &[u8], line: usize) -> usize {
         taken += 2 * points;
     }
     match line - taken {
-        past if past <= tasks => 5,
-        past if past <= 2 * tasks => 6,
-        past if past == 2 * tasks + 1 => 7,
-        past if past == 2 * tasks + 2 => 8,
-        _ => 9,
+        past if past <= tasks => 6,
+        past if past <= 2 * tasks => 7,
+        past if past == 2 * tasks + 1 => 8,
+        past if past == 2 * tasks + 2 => 9,
+        _ => 10,
     }
 }
 
@@ -66,6 +69,9 @@ struct Report {
     /// Runs of a board with points in some row.
     curved: u64,
     jobs: u64,
+    /// Jobs that finished after the next release of their task, and runs with such jobs.
+    overran: u64,
+    overrunning: u64,
     /// Runs in which no job finishes.
     empty: u64,
     /// Runs of one tick, and of as many as there can be.
@@ -96,6 +102,9 @@ impl Report {
         let jobs = watches::first_jobs(&watch.tasks(), watch.lengths.len());
         let printed = output.iter().filter(|&&byte| byte == b'\n').count() as u64 / 3;
         self.jobs += printed;
+        let overran = overran(watch, output);
+        self.overran += overran;
+        self.overrunning += (overran > 0) as u64;
         self.curved += watch.table.rows.iter().any(|row| !row.curve.is_empty()) as u64;
         self.empty += (printed == 0) as u64;
         self.shortest += (watch.ticks == 1) as u64;
@@ -116,6 +125,8 @@ impl Report {
         println!("    11, at a delay and at an allow: {:?}", self.unsorted);
         print!("  {jobs} jobs printed; runs of 1 tick: {shortest}, of {MOST_TICKS}: {longest}");
         println!(", with points in some row: {}", self.curved);
+        print!("  {} jobs finished after the next release of their task, ", self.overran);
+        println!("in {} runs", self.overrunning);
         print!("  runs in which no job finishes: {empty}, with more than {WATCH_ROOM} bytes of ");
         println!("lines: {}", self.too_long);
         print!(
@@ -136,12 +147,24 @@ impl Report {
             return Err(format!("NOT MET: number {number} of the board to watch\n"));
         }
         let runs = [empty, shortest, longest, unlisted, listed, past, together, too_long];
-        let unmet = runs.contains(&&0) || self.unsorted.contains(&0) || self.curved == 0;
+        let unmet = runs.contains(&&0) || self.unsorted.contains(&0);
+        let unmet = unmet || self.curved == 0 || self.overran == 0;
         if unmet || self.refused.as_flattened().contains(&0) {
             return Err("NOT MET: a kind of run or of line that is counted above\n".to_string());
         }
         Ok(())
     }
+}
+
+/// How many of the jobs that are printed finished after the next release of their task.
+fn overran(watch: &Watch, output: &[u8]) -> u64 {
+    let lines: Vec<&[u8]> = output.split(|&byte| byte == b'\n').collect();
+    let period = |task: u64| watch.table.rows.iter().find(|row| row.task == task);
+    let late = |job: &&[&[u8]]| {
+        let [task, release, finish] = [1, 2, 3].map(|line| number_on(job, line) as u64);
+        period(task).is_some_and(|row| finish > release + row.period)
+    };
+    lines.chunks_exact(3).filter(late).count() as u64
 }
 
 /// The buffer lengths to try a text with: two, or now and then all up to past the output.

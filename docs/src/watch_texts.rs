@@ -2,7 +2,7 @@
 //! lists of lengths shorter and longer than the run, and damage to each of the new lines.
 
 use crate::dice::Dice;
-use crate::model::{Table, MOST_TASKS};
+use crate::model::{self, Table, MOST_TASKS};
 use crate::tables::{self, Family, FAMILIES, SHORT_FAMILIES};
 use crate::texts;
 use crate::watches::{self, Finished, Task, Watch};
@@ -12,7 +12,8 @@ use crate::watches::{MOST_LENGTHS, MOST_RELEASE, MOST_TICKS, WATCH_ROOM, WATCH_T
 const SHORT_RUN: u64 = 4_000;
 
 /// The lines that are damaged most, each with numbers on both sides of its limits.
-const LINES: [(&[u8], &[u64]); 9] = [
+const LINES: [(&[u8], &[u64]); 10] = [
+    (b"deadline=", &[0, 1, 2, 999_999, 1_000_000, 1_000_001, 1_000_001]),
     (b"hold=", &[0, 1, 1, 1, 2, 1_000_000, 1_000_001]),
     (b"points=", &[0, 1, 2, 7, 8, 9]),
     (b"delay=", &[0, 1, 999_999, 1_000_000, 1_000_001, 1_000_001]),
@@ -45,7 +46,8 @@ const FORMS: [&[u8]; 17] = [
     b"\xc2\xb2",
 ];
 
-const KEYS: [&[u8]; 13] = [
+const KEYS: [&[u8]; 14] = [
+    b"deadline",
     b"release",
     b"ticks",
     b"lengths",
@@ -93,14 +95,20 @@ fn table(dice: &mut Dice) -> Table {
     table
 }
 
-/// By period, which is in time most often, or any order.
+/// Any order, or three times in four one in time if that by period is, its reverse or one of a few
+/// others.
 fn order(dice: &mut Dice, table: &Table) -> Vec<usize> {
-    let mut order: Vec<usize> = (0..table.rows.len()).collect();
-    dice.shuffle(&mut order);
-    if !dice.once_in(4) {
-        order.sort_by_key(|&index| table.rows[index].period);
+    let mut any: Vec<usize> = (0..table.rows.len()).collect();
+    let mut by_period = any.clone();
+    by_period.sort_by_key(|&index| table.rows[index].period);
+    dice.shuffle(&mut any);
+    if dice.once_in(4) {
+        return any;
     }
-    order
+    let mut orders = vec![any, by_period.iter().rev().copied().collect()];
+    orders.insert(dice.below(3), by_period);
+    let in_time = |order: &&Vec<usize>| model::figures_of_order(table, order).is_ok();
+    orders.iter().find(in_time).unwrap_or(&orders[0]).clone()
 }
 
 /// First releases: all on one tick, at once or on a later one, on few ticks, some at the limits or
@@ -205,6 +213,7 @@ fn hasten(table: &mut Table) {
         row.period = row.period.min(100);
         row.worst = row.worst.min((row.period / count).saturating_sub(table.switch).max(1));
         row.best = row.best.min(row.worst);
+        row.deadline = row.deadline.max(row.period);
     }
 }
 
@@ -274,7 +283,8 @@ fn spoil_a_length(dice: &mut Dice, watch: &mut Watch) {
     }
 }
 
-/// Does something to a line of the new keys, of the ranks, of the holds or of the curves.
+/// Does something to a line of the new keys, of the ranks, of the deadlines, of the holds or of the
+/// curves.
 fn damage_a_line(dice: &mut Dice, lines: &mut Vec<Vec<u8>>) {
     let (key, limits) = dice.pick(&LINES);
     let places: Vec<usize> = (0..lines.len()).filter(|&at| lines[at].starts_with(key)).collect();
@@ -312,11 +322,12 @@ fn stretched(dice: &mut Dice) -> Vec<u8> {
 }
 
 fn damage(dice: &mut Dice, text: &mut Vec<u8>) {
-    match dice.below(14) {
+    match dice.below(15) {
         0..=6 => texts::with_lines(text, |lines| damage_a_line(dice, lines)),
         7 => text.extend_from_slice(dice.pick(&TAILS)),
         8 => text.truncate(dice.below(text.len() + 1)),
         9 => texts::with_lines(text, |lines| texts::damage_a_curve(dice, lines)),
+        10 => texts::with_lines(text, |lines| texts::damage_a_deadline(dice, lines)),
         _ => texts::damage(dice, text),
     }
 }

@@ -210,9 +210,12 @@ mod tests {
 
     /// Document 01's example with its plan's order, all loops released at tick 0.
     const HEAD: &str = "board=7\ntasks=3\nswitch=0\n\
-        task=11\nperiod=24\nworst=6\nbest=6\nalpha=1000\nbeta=8000\nhold=0\npoints=0\n\
-        task=12\nperiod=18\nworst=2\nbest=2\nalpha=1000\nbeta=8000\nhold=0\npoints=0\n\
-        task=13\nperiod=200\nworst=19\nbest=17\nalpha=3000\nbeta=57000\nhold=0\npoints=0\n\
+        task=11\nperiod=24\ndeadline=24\nworst=6\nbest=6\n\
+        alpha=1000\nbeta=8000\nhold=0\npoints=0\n\
+        task=12\nperiod=18\ndeadline=18\nworst=2\nbest=2\n\
+        alpha=1000\nbeta=8000\nhold=0\npoints=0\n\
+        task=13\nperiod=200\ndeadline=200\nworst=19\nbest=17\n\
+        alpha=3000\nbeta=57000\nhold=0\npoints=0\n\
         rank=12\nrank=11\nrank=13\nrelease=0\nrelease=0\nrelease=0\n";
 
     /// Two loops under a switch of 1: a job of 5 lasts 2 to 4 ticks, one of 6 lasts 1 or 2. In
@@ -228,8 +231,8 @@ mod tests {
     ///
     /// where a point stands at the last tick of a job: it finishes at the tick after it.
     const TWO: &str = "board=1\ntasks=2\nswitch=1\n\
-        task=5\nperiod=10\nworst=3\nbest=2\nalpha=1000\nbeta=0\nhold=0\npoints=0\n\
-        task=6\nperiod=4\nworst=1\nbest=1\nalpha=1000\nbeta=0\nhold=0\npoints=0\n\
+        task=5\nperiod=10\ndeadline=10\nworst=3\nbest=2\nalpha=1000\nbeta=0\nhold=0\npoints=0\n\
+        task=6\nperiod=4\ndeadline=4\nworst=1\nbest=1\nalpha=1000\nbeta=0\nhold=0\npoints=0\n\
         rank=6\nrank=5\nrelease=1\nrelease=3\n";
 
     const TWO_ENDS: [(u64, u64, u64); 9] = [
@@ -310,23 +313,23 @@ mod tests {
     #[test]
     fn jobs_of_one_tick_take_lengths_in_rank_order() {
         // At tick 11 the first length is of task 6, which is the later in the table.
-        assert_eq!(says(&watch(TWO, 27, &[4, 2, 1, 3, 2])), refused(3, 29));
-        assert_eq!(says(&watch(TWO, 27, &[4, 2, 1, 2, 5])), refused(3, 30));
-        assert_eq!(says(&watch(TWO, 27, &[4, 2, 1, 2, 1])), refused(3, 30));
-        assert_eq!(says(&watch(HEAD, 35, &[6, 2, 17])), refused(3, 36));
+        assert_eq!(says(&watch(TWO, 27, &[4, 2, 1, 3, 2])), refused(3, 31));
+        assert_eq!(says(&watch(TWO, 27, &[4, 2, 1, 2, 5])), refused(3, 32));
+        assert_eq!(says(&watch(TWO, 27, &[4, 2, 1, 2, 1])), refused(3, 32));
+        assert_eq!(says(&watch(HEAD, 35, &[6, 2, 17])), refused(3, 39));
         // In another order of ranks 11 comes first.
         let other = changed(HEAD, "rank=12\nrank=11\n", "rank=11\nrank=12\n");
         let jobs = [(11, 0, 6), (12, 0, 8), (12, 18, 20), (11, 24, 30), (13, 0, 33)];
         assert_eq!(says(&watch(&other, 35, &[6, 2, 17])), prints(&jobs));
-        assert_eq!(says(&watch(&other, 35, &[2, 6, 17])), refused(3, 36));
+        assert_eq!(says(&watch(&other, 35, &[2, 6, 17])), refused(3, 39));
     }
 
     #[test]
     fn lengths_go_to_jobs_past_the_last_tick_too() {
         // The eighth is of 5 at tick 21, and the run has one tick, which is idle.
         assert_eq!(says(&watch(TWO, 1, &[4, 2, 1, 2, 3, 2, 2, 4])), prints(&[]));
-        assert_eq!(says(&watch(TWO, 1, &[4, 2, 1, 2, 3, 2, 2, 5])), refused(3, 33));
-        assert_eq!(says(&watch(TWO, 1, &[4, 2, 1, 2, 3, 2, 3, 4])), refused(3, 32));
+        assert_eq!(says(&watch(TWO, 1, &[4, 2, 1, 2, 3, 2, 2, 5])), refused(3, 35));
+        assert_eq!(says(&watch(TWO, 1, &[4, 2, 1, 2, 3, 2, 3, 4])), refused(3, 34));
         // A loop that begins late has none before: a thousand jobs of 5 come first, and at the tick
         // 1,000,000 both are released.
         let late = changed(TWO, "release=1\nrelease=3", "release=0\nrelease=1000000");
@@ -335,17 +338,17 @@ mod tests {
         lengths.extend([2, 4, 4, 4]);
         assert!(says(&watch(&late, 1, &lengths)).is_ok());
         lengths[1_000] = 4;
-        assert_eq!(says(&watch(&late, 1, &lengths)), refused(3, 1_026));
+        assert_eq!(says(&watch(&late, 1, &lengths)), refused(3, 1_028));
         lengths[999] = 1;
-        assert_eq!(says(&watch(&late, 1, &lengths)), refused(3, 1_025));
+        assert_eq!(says(&watch(&late, 1, &lengths)), refused(3, 1_027));
     }
 
     #[test]
     fn a_first_release_at_or_past_the_last_tick() {
         let one = |release: u64, ticks: u64| {
             let start = format!(
-                "board=1\ntasks=1\nswitch=0\ntask=9\nperiod=50\nworst=1\nbest=1\nalpha=1000\n\
-                beta=0\nhold=0\npoints=0\nrank=9\nrelease={release}\n"
+                "board=1\ntasks=1\nswitch=0\ntask=9\nperiod=50\ndeadline=50\nworst=1\nbest=1\n\
+                alpha=1000\nbeta=0\nhold=0\npoints=0\nrank=9\nrelease={release}\n"
             );
             says(&watch(&start, ticks, &[]))
         };
@@ -356,9 +359,9 @@ mod tests {
         assert_eq!(one(999_999, 1_000_000), prints(&[(9, 999_999, 1_000_000)]));
         assert_eq!(one(999_999, 999_999), prints(&[]));
         assert_eq!(one(1_000_000, 1_000_000), prints(&[]));
-        assert_eq!(one(1_000_001, 1_000_000), refused(3, 13));
-        assert_eq!(one(0, 1_000_001), refused(3, 14));
-        assert_eq!(one(0, 0), refused(3, 14));
+        assert_eq!(one(1_000_001, 1_000_000), refused(3, 14));
+        assert_eq!(one(0, 1_000_001), refused(3, 15));
+        assert_eq!(one(0, 0), refused(3, 15));
     }
 
     #[test]
@@ -384,63 +387,212 @@ mod tests {
         assert!(plain.is_ok());
         assert_eq!(says(&watch(&text, 35, &[2, 6, 17])), plain);
         // Two lines more before a length of 12, and four before one of 13.
-        assert_eq!(says(&watch(&text, 35, &[2, 6, 16])), refused(3, 38 + 6));
+        assert_eq!(says(&watch(&text, 35, &[2, 6, 16])), refused(3, 41 + 6));
         let refuses = |first: &str, last: &str, number, place| {
             let text = watch(&with_curves(first, last), 35, &[]);
             assert_eq!(says(&text), refused(number, place), "{first} {last}");
         };
-        refuses("", two, 1, 11);
-        refuses("points=9\n", two, 3, 11);
-        refuses("points=x\n", two, 2, 11);
-        refuses("points=1\ndelay=1\n", two, 1, 13);
-        refuses("points=1\ndelay=1000001\nallow=1\n", two, 3, 12);
-        refuses("points=1\ndelay=1\nallow=1000001\n", two, 3, 13);
-        refuses(one, "points=2\ndelay=3\nallow=0\ndelay=3\nallow=0\n", 11, 32);
-        refuses(one, "points=2\ndelay=3\nallow=0\ndelay=4\nallow=1\n", 11, 33);
-        refuses(one, "points=2\ndelay=3\nallow=0\n", 1, 32);
-        refuses(one, "points=0\ndelay=3\nallow=0\n", 1, 30);
+        refuses("", two, 1, 12);
+        refuses("points=9\n", two, 3, 12);
+        refuses("points=x\n", two, 2, 12);
+        refuses("points=1\ndelay=1\n", two, 1, 14);
+        refuses("points=1\ndelay=1000001\nallow=1\n", two, 3, 13);
+        refuses("points=1\ndelay=1\nallow=1000001\n", two, 3, 14);
+        refuses(one, "points=2\ndelay=3\nallow=0\ndelay=3\nallow=0\n", 11, 35);
+        refuses(one, "points=2\ndelay=3\nallow=0\ndelay=4\nallow=1\n", 11, 36);
+        refuses(one, "points=2\ndelay=3\nallow=0\n", 1, 35);
+        refuses(one, "points=0\ndelay=3\nallow=0\n", 1, 33);
         // A hold above 0 is said before them, a late task after them.
         let held = changed(&watch(&text, 35, &[]), "57000\nhold=0", "57000\nhold=1");
-        assert_eq!(says(&held), refused(3, 28));
+        assert_eq!(says(&held), refused(3, 31));
         let late = changed(&text, "rank=12\nrank=11\nrank=13\n", "rank=11\nrank=13\nrank=12\n");
         assert_eq!(says(&watch(&late, 35, &[])), refused(7, 3));
     }
 
-    /// A table without holds and a loose order of it, at random.
+    /// Two axis loops and a heater that may be done half a period after its next release.
+    const HEATER: &str = "board=1\ntasks=3\nswitch=0\n\
+        task=91\nperiod=40\ndeadline=40\nworst=8\nbest=8\n\
+        alpha=1000\nbeta=0\nhold=0\npoints=0\n\
+        task=92\nperiod=70\ndeadline=70\nworst=14\nbest=14\n\
+        alpha=1000\nbeta=0\nhold=0\npoints=0\n\
+        task=93\nperiod=100\ndeadline=150\nworst=58\nbest=50\n\
+        alpha=1000\nbeta=0\nhold=0\npoints=0\n\
+        rank=91\nrank=92\nrank=93\nrelease=0\nrelease=0\nrelease=0\n";
+
+    /// 91 has ticks 0 to 7 and so on every 40, 92 has 8 to 21, then 70 to 79 and 88 to 91, and 140 to
+    /// 153. That leaves 22 to 39, 48 to 69 and 92 to 109 for the first job of 93, which are 58, while its
+    /// second is released at 100, and for that 110 to 119, 128 to 139, 154 to 159 and 168 to 197.
+    #[test]
+    fn a_job_is_done_after_the_next_release_and_the_older_goes_first() {
+        let mut jobs = vec![
+            (91, 0, 8),
+            (92, 0, 22),
+            (91, 40, 48),
+            (91, 80, 88),
+            (92, 70, 92),
+            (93, 0, 110),
+            (91, 120, 128),
+            (92, 140, 154),
+            (91, 160, 168),
+            (93, 100, 198),
+        ];
+        for (ticks, count) in [(100, 5), (109, 5), (110, 6), (197, 9), (198, 10)] {
+            assert_eq!(says(&watch(HEATER, ticks, &[])), prints(&jobs[..count]), "{ticks} ticks");
+        }
+        // The seventh length is of the second job of 93, released at 100: eight ticks less.
+        jobs[9] = (93, 100, 190);
+        assert_eq!(says(&watch(HEATER, 190, &[8, 14, 58, 8, 14, 8, 50])), prints(&jobs));
+        assert_eq!(says(&watch(HEATER, 189, &[8, 14, 58, 8, 14, 8, 50])), prints(&jobs[..9]));
+        assert_eq!(says(&watch(HEATER, 190, &[8, 14, 58, 8, 14, 8, 49])), refused(3, 45));
+        // The first ten ticks shorter: it is done at the release of the second.
+        jobs[5] = (93, 0, 102);
+        let sooner = says(&watch(HEATER, 110, &[8, 14, 50]));
+        assert_eq!(sooner, prints(&jobs[..6]));
+    }
+
+    #[test]
+    fn late_is_past_the_deadline() {
+        let by = |deadline: u64| {
+            let start = changed(HEATER, "deadline=150", &format!("deadline={deadline}"));
+            says(&watch(&start, 8, &[]))
+        };
+        for deadline in [110, 111, 150, 1_000_000] {
+            assert_eq!(by(deadline), prints(&[(91, 0, 8)]), "{deadline}");
+        }
+        for deadline in [1, 57, 58, 100, 109] {
+            assert_eq!(by(deadline), refused(7, 3), "{deadline}");
+        }
+        // Short of the period too, of 12 in the example.
+        let short = |deadline: u64| {
+            let start = changed(HEAD, "deadline=18", &format!("deadline={deadline}"));
+            says(&watch(&start, 2, &[]))
+        };
+        assert_eq!(short(2), prints(&[(12, 0, 2)]));
+        assert_eq!(short(1), refused(7, 1));
+    }
+
+    /// Jobs of 4 ticks every 10 below one of 50 every 100: six of them wait at tick 50, and only the
+    /// tenth, released at 90, begins at once.
+    #[test]
+    fn many_jobs_of_a_task_wait_for_each_other() {
+        let start = |deadline: u64| {
+            format!(
+                "board=1\ntasks=2\nswitch=0\ntask=1\nperiod=100\ndeadline=50\nworst=50\nbest=50\n\
+                alpha=1000\nbeta=0\nhold=0\npoints=0\ntask=2\nperiod=10\ndeadline={deadline}\n\
+                worst=4\nbest=1\nalpha=1000\nbeta=0\nhold=0\npoints=0\n\
+                rank=1\nrank=2\nrelease=0\nrelease=0\n"
+            )
+        };
+        let finishes = [54, 58, 62, 66, 70, 74, 78, 82, 86, 94];
+        let mut jobs = vec![(1, 0, 50)];
+        jobs.extend(finishes.into_iter().enumerate().map(|(q, finish)| (2, 10 * q as u64, finish)));
+        assert_eq!(says(&watch(&start(54), 94, &[])), prints(&jobs));
+        assert_eq!(says(&watch(&start(54), 93, &[])), prints(&jobs[..10]));
+        assert_eq!(says(&watch(&start(53), 94, &[])), refused(7, 2));
+        // Lengths go to them by release: the first five take 1, 2, 3, 4 and 1.
+        let finishes = [51, 53, 56, 60, 61, 65, 69, 74, 84, 94];
+        jobs.truncate(1);
+        jobs.extend(finishes.into_iter().enumerate().map(|(q, finish)| (2, 10 * q as u64, finish)));
+        assert_eq!(says(&watch(&start(54), 94, &[50, 1, 2, 3, 4, 1])), prints(&jobs));
+    }
+
+    /// A table without holds and an order of it, at random, one time in three by period, and one
+    /// time the other way round.
     fn any_watch(dice: &mut Dice) -> Watch {
         let (family, count) = (dice.pick(&tables::SHORT_FAMILIES), 1 + dice.below(5));
         let mut table = tables::any(dice, family, count, true);
         table.rows.iter_mut().for_each(|row| row.hold = 0);
         let mut order: Vec<usize> = (0..count).collect();
-        order.sort_by_key(|&index| table.rows[index].period);
+        dice.shuffle(&mut order);
+        match dice.below(3) {
+            0 => order.sort_by_key(|&index| table.rows[index].period),
+            1 => order.sort_by_key(|&index| std::cmp::Reverse(table.rows[index].period)),
+            _ => {}
+        }
         let first = table.rows.iter().map(|row| dice.below(row.period as usize) as u64).collect();
         Watch { table, order, first, ticks: dice.between(1, 3_000), lengths: Vec::new() }
     }
 
-    /// Request 11's run and demand 3: released at once and at their longest, the first jobs take
-    /// the latest responses; released at chance ticks no job takes more.
+    /// Chance lengths of the first jobs.
+    fn set_lengths(dice: &mut Dice, watch: &mut Watch) {
+        let tasks = watch.tasks();
+        let jobs = first_jobs(&tasks, dice.below(200));
+        let mut length = |job: &Release| {
+            let Task { least, most, .. } = tasks[job.rank];
+            dice.between(least, most)
+        };
+        watch.lengths = jobs.iter().map(&mut length).collect();
+    }
+
+    /// Demand 3: released at chance ticks and of chance lengths no job takes more than its task's
+    /// `worst`, and none takes less than its `best` that is released a deadline of its own, or more,
+    /// after the first releases above.
     #[test]
-    fn responses_are_those_of_the_figures() {
-        let (mut dice, mut runs) = (Dice::new(1), 0);
-        while runs < 300 {
+    fn responses_are_within_the_figures() {
+        let (mut dice, mut runs, mut held, mut overran) = (Dice::new(1), 0, 0, 0);
+        while runs < 600 {
             let mut watch = any_watch(&mut dice);
             let Ok(figures) = model::figures_of_order(&watch.table, &watch.order) else {
                 continue;
             };
             runs += 1;
+            set_lengths(&mut dice, &mut watch);
             let tasks = watch.tasks();
             for job in watch.finished() {
                 let rank = tasks.iter().position(|task| task.number == job.task).unwrap();
-                assert!(job.finish - job.release <= figures[rank].worst, "{watch:?}");
-            }
-            watch.first.fill(0);
-            watch.ticks = figures.iter().map(|figures| figures.worst).max().unwrap();
-            let finished = watch.finished();
-            for (task, figures) in tasks.iter().zip(figures) {
-                let first = finished.iter().find(|job| job.task == task.number).unwrap();
-                assert_eq!((first.release, first.finish), (0, figures.worst), "{watch:?}");
+                let response = job.finish - job.release;
+                assert!(response <= figures[rank].worst, "{watch:?}");
+                overran += (response > tasks[rank].period) as u32;
+                let above = tasks[..rank].iter().map(|task| task.first).max();
+                let deadline = watch.table.rows[watch.order[rank]].deadline;
+                if above.is_none_or(|first| job.release >= first + deadline) {
+                    assert!(figures[rank].best <= response, "{watch:?}");
+                    held += 1;
+                }
             }
         }
+        assert!(held > 10_000 && overran > 500, "{held} held, {overran} overran");
+    }
+
+    /// Request 11's run, with all released at once and all jobs at their longest: job q of a task in
+    /// its busy interval is done at w(q), so that one of them takes exactly W, and the first where the
+    /// deadline is not past the period.
+    #[test]
+    fn the_latest_responses_happen() {
+        let (mut dice, mut runs, mut later) = (Dice::new(2), 0, 0);
+        while runs < 600 {
+            let mut watch = any_watch(&mut dice);
+            let Ok(figures) = model::figures_of_order(&watch.table, &watch.order) else {
+                continue;
+            };
+            let ranked: Vec<&Row> = watch.order.iter().map(|&row| &watch.table.rows[row]).collect();
+            let finishes = |rank: usize| {
+                let (above, below) = (&ranked[..rank], &ranked[rank + 1..]);
+                model::finishes(watch.table.switch, ranked[rank], above, below).unwrap()
+            };
+            let finishes: Vec<Vec<u64>> = (0..ranked.len()).map(finishes).collect();
+            let deadlines: Vec<u64> = ranked.iter().map(|row| row.deadline).collect();
+            let ticks = *finishes.iter().flatten().max().unwrap();
+            if ticks > 20_000 {
+                continue;
+            }
+            runs += 1;
+            (watch.ticks, watch.first) = (ticks, vec![0; deadlines.len()]);
+            let finished = watch.finished();
+            for (rank, task) in watch.tasks().iter().enumerate() {
+                let jobs = finished.iter().filter(|job| job.task == task.number);
+                let ends: Vec<u64> = jobs.map(|job| job.finish).collect();
+                assert!(ends.starts_with(&finishes[rank]), "{watch:?}");
+                let response = |(q, end): (usize, &u64)| end - q as u64 * task.period;
+                let longest = ends.iter().enumerate().map(response).max();
+                assert_eq!(longest, Some(figures[rank].worst), "{watch:?}");
+                if deadlines[rank] <= task.period {
+                    assert_eq!(ends[0], figures[rank].worst, "{watch:?}");
+                }
+                later += (ends[0] < figures[rank].worst) as u32;
+            }
+        }
+        assert!(later > 20, "{later} tasks have their longest response later");
     }
 
     // ---- Refusals -----------------------------------------------------------------------
@@ -449,7 +601,7 @@ mod tests {
     fn a_hold_above_0_is_out_of_its_range() {
         let text = watch(HEAD, 35, &[]);
         let rows =
-            [("8000\nhold=0\npoints=0\ntask=12", 10), ("8000\nhold=0\npoints=0\ntask=13", 18)];
+            [("8000\nhold=0\npoints=0\ntask=12", 11), ("8000\nhold=0\npoints=0\ntask=13", 20)];
         for (row, line) in rows {
             // 7 is also above the worst time of both rows.
             for (hold, number) in [("1", 3), ("7", 3), ("1000001", 3), ("01", 2), ("", 2)] {
@@ -459,7 +611,7 @@ mod tests {
             assert_eq!(says(&changed(&text, row, &row.replace("hold=0\n", ""))), refused(1, line));
         }
         let last = changed(&text, "57000\nhold=0", "57000\nhold=1");
-        assert_eq!(says(&last), refused(3, 26));
+        assert_eq!(says(&last), refused(3, 29));
     }
 
     #[test]
@@ -472,30 +624,35 @@ mod tests {
         refuses("board=7", "board=07", 2, 1);
         refuses("tasks=3", "tasks=17", 3, 2);
         refuses("switch=0", "switch=1001", 3, 3);
-        refuses("worst=2\n", "worst=19\n", 4, 14);
-        refuses("best=2\n", "best=3\n", 4, 15);
-        refuses("task=12", "task=11", 5, 12);
-        refuses("rank=11", "rank=12", 6, 29);
-        refuses("rank=12", "rank=14", 6, 28);
-        refuses("rank=12", "rank=0", 3, 28);
-        refuses("rank=12\n", "", 1, 30);
+        refuses("deadline=24", "deadline=0", 3, 6);
+        refuses("deadline=18", "deadline=1000001", 3, 15);
+        refuses("deadline=200", "deadline=0200", 2, 24);
+        refuses("deadline=200", "deadline", 1, 24);
+        refuses("deadline=18\n", "", 1, 15);
+        refuses("worst=2\n", "worst=19\n", 4, 16);
+        refuses("best=2\n", "best=3\n", 4, 17);
+        refuses("task=12", "task=11", 5, 13);
+        refuses("rank=11", "rank=12", 6, 32);
+        refuses("rank=12", "rank=14", 6, 31);
+        refuses("rank=12", "rank=0", 3, 31);
+        refuses("rank=12\n", "", 1, 33);
         // A plan's text and a review's end too soon.
         let table = text.find("rank=").unwrap();
-        assert_eq!(says(&text[..table]), refused(1, 28));
+        assert_eq!(says(&text[..table]), refused(1, 31));
         let ranked = text.find("release=").unwrap();
-        assert_eq!(says(&text[..ranked]), refused(1, 31));
+        assert_eq!(says(&text[..ranked]), refused(1, 34));
     }
 
     #[test]
     fn each_new_line_at_its_place() {
         let text = watch(HEAD, 35, &[2, 6, 17]);
         let lines: Vec<&str> = text.split_inclusive('\n').collect();
-        assert_eq!(lines.len(), 38);
+        assert_eq!(lines.len(), 41);
         let with = |place: usize, line: &str| {
             let (before, after) = (&lines[..place - 1], &lines[place..]);
             says(&[&before.concat(), line, &after.concat()].concat())
         };
-        for place in 31..=38 {
+        for place in 34..=41 {
             let (key, number) = lines[place - 1].trim_end().split_once('=').unwrap();
             for form in ["", "00", "+1", "-1", "-0", " 1", "1 ", "1\r", "x", "1000000000000"] {
                 assert_eq!(with(place, &format!("{key}={form}\n")), refused(2, place as u64));
@@ -514,15 +671,15 @@ mod tests {
             assert_eq!(says(cut.strip_suffix('\n').unwrap()), refused(1, place as u64));
         }
         // Gone, the line after it is met in its place; doubled, itself in the place of the next.
-        for (place, missing, doubled) in [(31, 33, 34), (33, 33, 34), (34, 34, 35), (35, 35, 36)] {
+        for (place, missing, doubled) in [(34, 36, 37), (36, 36, 37), (37, 37, 38), (38, 38, 39)] {
             assert_eq!(with(place, ""), refused(1, missing));
             assert_eq!(with(place, &lines[place - 1].repeat(2)), refused(1, doubled));
         }
         // Of the lengths the one of 12 is gone, and then one is met by a job that cannot last it.
-        assert_eq!(with(36, ""), refused(3, 36));
-        assert_eq!(with(38, ""), refused(1, 38));
-        assert_eq!(with(36, "length=2\nlength=2\n"), refused(3, 37));
-        assert_eq!(with(38, "length=17\nlength=17\n"), refused(1, 39));
+        assert_eq!(with(39, ""), refused(3, 39));
+        assert_eq!(with(41, ""), refused(1, 41));
+        assert_eq!(with(39, "length=2\nlength=2\n"), refused(3, 40));
+        assert_eq!(with(41, "length=17\nlength=17\n"), refused(1, 42));
     }
 
     #[test]
@@ -535,17 +692,17 @@ mod tests {
             assert!(says(&changed(&text, from, to)).is_ok(), "{to}");
         };
         let last = "release=0\nticks=35";
-        refuses(last, "release=1000001\nticks=35", 3, 33);
-        refuses("ticks=35", "ticks=0", 3, 34);
-        refuses("ticks=35", "ticks=1000001", 3, 34);
+        refuses(last, "release=1000001\nticks=35", 3, 36);
+        refuses("ticks=35", "ticks=0", 3, 37);
+        refuses("ticks=35", "ticks=1000001", 3, 37);
         accepts("ticks=35", "ticks=1");
         accepts("ticks=35", "ticks=1000000");
         // From best to worst + switch, of 13: 17 to 19.
-        refuses("length=17", "length=16", 3, 38);
+        refuses("length=17", "length=16", 3, 41);
         accepts("length=17", "length=19");
-        refuses("length=17", "length=20", 3, 38);
-        refuses("length=6", "length=5", 3, 37);
-        refuses("length=6", "length=7", 3, 37);
+        refuses("length=17", "length=20", 3, 41);
+        refuses("length=6", "length=5", 3, 40);
+        refuses("length=6", "length=7", 3, 40);
         // The switch is no part of the least.
         let switched = changed(&text, "switch=0", "switch=1");
         assert!(says(&switched).is_ok());
@@ -560,14 +717,14 @@ mod tests {
         let lengths = [2; 2_049];
         let text = watch(TWO, 10, &lengths[..2_048]);
         assert!(says(&text).is_ok());
-        assert_eq!(says(&watch(TWO, 10, &lengths)), refused(3, 25));
-        assert_eq!(says(&(text.clone() + "length=2\n")), refused(1, 2_074));
-        assert_eq!(says(text.strip_suffix("length=2\n").unwrap()), refused(1, 2_073));
-        assert_eq!(says(&changed(&text, "lengths=2048", "lengths=0")), refused(1, 26));
-        assert_eq!(says(&changed(&text, "lengths=2048", "lengths=2047")), refused(1, 2_073));
+        assert_eq!(says(&watch(TWO, 10, &lengths)), refused(3, 27));
+        assert_eq!(says(&(text.clone() + "length=2\n")), refused(1, 2_076));
+        assert_eq!(says(text.strip_suffix("length=2\n").unwrap()), refused(1, 2_075));
+        assert_eq!(says(&changed(&text, "lengths=2048", "lengths=0")), refused(1, 28));
+        assert_eq!(says(&changed(&text, "lengths=2048", "lengths=2047")), refused(1, 2_075));
         assert_eq!(
             says(&changed(&watch(TWO, 10, &[]), "lengths=0", "lengths=2049")),
-            refused(3, 25)
+            refused(3, 27)
         );
     }
 
@@ -586,9 +743,9 @@ mod tests {
         let late = changed(HEAD, "rank=12\nrank=11\nrank=13\n", "rank=11\nrank=13\nrank=12\n");
         assert_eq!(says(&watch(&late, 35, &[])), refused(7, 3));
         assert_eq!(says(&watch(&late, 1, &[6, 19, 2])), refused(7, 3));
-        assert_eq!(says(&watch(&late, 1, &[6, 20, 2])), refused(3, 37));
-        assert_eq!(says(&watch(&late, 0, &[])), refused(3, 34));
-        assert_eq!(says(&(watch(&late, 35, &[]) + "x")), refused(1, 36));
+        assert_eq!(says(&watch(&late, 1, &[6, 20, 2])), refused(3, 40));
+        assert_eq!(says(&watch(&late, 0, &[])), refused(3, 37));
+        assert_eq!(says(&(watch(&late, 35, &[]) + "x")), refused(1, 39));
         // The first from the top: below 13 the others are late too.
         let first = changed(HEAD, "rank=12\nrank=11\nrank=13\n", "rank=13\nrank=12\nrank=11\n");
         assert_eq!(says(&watch(&first, 35, &[])), refused(7, 2));
@@ -621,14 +778,14 @@ mod tests {
         assert_eq!(after(&watch(HEAD, 1, &[]), 3), ((0, 0, 0), vec![200; 3]));
         let late = changed(&text, "rank=12\nrank=11\nrank=13\n", "rank=11\nrank=13\nrank=12\n");
         assert_eq!(after(&late, 0), ((7, 3, 0), Vec::new()));
-        assert_eq!(after(&(text + "\n"), 5), ((1, 36, 0), vec![200; 5]));
+        assert_eq!(after(&(text + "\n"), 5), ((1, 39, 0), vec![200; 5]));
     }
 
     /// One loop of one tick, its number and the tick of its first release as given.
     fn alone(task: u64, release: u64, ticks: u64) -> String {
         let start = format!(
-            "board=1\ntasks=1\nswitch=0\ntask={task}\nperiod=400\nworst=1\nbest=1\nalpha=1000\n\
-            beta=0\nhold=0\npoints=0\nrank={task}\nrelease={release}\n"
+            "board=1\ntasks=1\nswitch=0\ntask={task}\nperiod=400\ndeadline=400\nworst=1\nbest=1\n\
+            alpha=1000\nbeta=0\nhold=0\npoints=0\nrank={task}\nrelease={release}\n"
         );
         watch(&start, ticks, &[])
     }
@@ -668,15 +825,15 @@ mod tests {
         while long.len() < WATCH_TAKES - 1 {
             long.push('1');
         }
-        assert_eq!(program(&format!("{long}\n")), b"plan=0\nrefusal=2\nline=35\n");
-        assert_eq!(program(&format!("{long}1\n")), b"plan=0\nrefusal=1\nline=35\n");
+        assert_eq!(program(&format!("{long}\n")), b"plan=0\nrefusal=2\nline=38\n");
+        assert_eq!(program(&format!("{long}1\n")), b"plan=0\nrefusal=1\nline=38\n");
     }
 
     /// The longest sound text, sixteen rows of the longest numbers and all lengths, is taken whole.
     #[test]
     fn the_longest_text_is_shorter_than_what_the_program_takes() {
-        let row = "task=65535\nperiod=1000000\nworst=1000000\nbest=1000000\nalpha=100000\n\
-            beta=200000000000\nhold=0\npoints=8\n";
+        let row = "task=65535\nperiod=1000000\ndeadline=1000000\nworst=1000000\nbest=1000000\n\
+            alpha=100000\nbeta=200000000000\nhold=0\npoints=8\n";
         let points = 8 * "delay=1000000\nallow=1000000\n".len();
         let of_a_task = row.len() + points + "rank=65535\nrelease=1000000\n".len();
         let once = "board=65535\ntasks=16\nswitch=1000\nticks=1000000\nlengths=2048\n".len();
