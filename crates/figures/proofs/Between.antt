@@ -24,6 +24,8 @@ use Rattle.analysis.proofs.Found.{map_long}
 use Rattle.responses.specs.Figures.{Answered, rows_above, rows_below, max_others, figures_under, no_figures, figures_of}
 use Rattle.responses.specs.Figures as F
 use Rattle.responses.specs.Claims.{FiguresSay, RowFigures}
+use Rattle.responses.proofs.Finishes.{ends, within_period}
+use Rattle.responses.proofs.Deadlines.{own_deadline}
 use Rattle.responses.proofs.Conditions.{by_condition}
 use Rattle.responses.proofs.Responses.{limits_times, figured}
 use Rattle.responses.proofs.Switches.{by_numbers, switch_grows}
@@ -151,6 +153,9 @@ module _ (ns : List ℕ) (n i : ℕ) where
   say x is = record {
     answer = is;
     by_formulas = λ h. let k = limits_times t above below h in figured t above below k.0 k.1;
+    ends = λ h. let k = limits_times t above below h in ends t above below k.0 k.1;
+    own_deadline = λ h d. own_deadline t above below d (limits_times t above below h).0;
+    within_period = λ h same. within_period t above below (limits_times t above below h).0 same;
     by_condition = λ h. by_condition t above below (own h);
     by_numbers = by_numbers t above below;
     switch_grows = λ h s mine others.

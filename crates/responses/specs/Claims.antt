@@ -306,6 +306,10 @@ pub record FiguresSay (t : Row) (above below : List Row) (x : Answered) : Type 0
   pub answer : x ≡ figures_of t above below
   -- demand 2, of these very rows, each with its own switch
   pub by_formulas : in_limits t above below ≡ true → Figured t above below
+  -- its busy interval ends, a deadline counts for nothing but late, and with the period as deadline one job decides
+  pub ends : in_limits t above below ≡ true → Ends t above below
+  pub own_deadline : in_limits t above below ≡ true → (d : ℕ) → DeadlineCounts t above below d
+  pub within_period : in_limits t above below ≡ true → t.deadline ≡ t.period → AsRequest4 t above below
   pub by_condition : in_limits t above below ≡ true → ByCondition t above below
   pub by_numbers : ByNumbers t above below
   -- under a greater switch no W falls and no E changes
