@@ -205,7 +205,10 @@ deadlines_so =
     also late_over (queued 53) (long_above ∷ []) refl
     also over (with_curve (point 40 78 ∷ []) (row22 118)) (row21 ∷ []) (refl, refl, refl, refl, refl)
     also over (with_curve (point 40 77 ∷ []) (row22 118)) (row21 ∷ []) (refl, refl, refl, refl, refl)
-    also refl also refl
     also refl also refl also refl also refl also refl also refl also refl also refl
+    also over (row 2 6 19 1 1 20000 361000 0 0)
+    (row 1 12 12 5 5 20000 5000 0 0 ∷ row 3 27 27 8 7 20000 174000 0 0 ∷ []) (refl, refl, refl, refl, refl)
+    also late_over (row 1 12 12 5 5 20000 5000 0 0)
+    (row 2 6 19 1 1 20000 361000 0 0 ∷ row 3 27 27 8 7 20000 174000 0 0 ∷ []) refl
     also refl also refl also refl also refl also refl also refl also refl also refl
-    also refl also refl also refl also tt
+    also refl also refl also refl also refl also refl also tt

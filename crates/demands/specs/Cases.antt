@@ -437,6 +437,7 @@ of_deadlines =
     -- blocked once and not once for each job: over a hold of 5 each job is 4 ticks later
     ∷ busy (row22 118) (row21 ∷ []) (holding13 5 ∷ []) (118 ∷ 206 ∷ 320 ∷ 408 ∷ 522 ∷ 610 ∷ 698 ∷ [])
     ∷ between (row22 1000000) (row21 ∷ []) (holding13 5 ∷ []) 40 122 82 (pos 878000)
+    -- so a deadline of 122 is kept there, and one of 121 is not
     ∷ between (row22 122) (row21 ∷ []) (holding13 5 ∷ []) 40 122 82 (pos 878000)
     ∷ late_between (row22 121) (row21 ∷ []) (holding13 5 ∷ [])
     -- each job of its own takes the switch, and each above
@@ -471,6 +472,9 @@ of_deadlines =
     ∷ reviewer (overrun "deadline=61" ++ lined ("rank=22" ∷ "rank=21" ∷ [])) (refused_at "refusal=7" "line=1")
     -- a choice is taken back: with 19 the first row that fits lowest is task 2, with a W of 19 and a margin of 0, and then
     -- tasks 1 and 3 have no order; with 18 it is late there, and task 3 is the first that fits
+    ∷ figures (row 2 6 19 1 1 20000 361000 0 0)
+    (row 1 12 12 5 5 20000 5000 0 0 ∷ row 3 27 27 8 7 20000 174000 0 0 ∷ []) 1 19 18 (pos 0)
+    ∷ late (row 1 12 12 5 5 20000 5000 0 0) (row 2 6 19 1 1 20000 361000 0 0 ∷ row 3 27 27 8 7 20000 174000 0 0 ∷ [])
     ∷ plan (taken_back "deadline=19") taken_back_plan
     ∷ plan (taken_back "deadline=18") taken_back_plan
     -- the line: both sides of its limits, no number, missing, doubled, before its place and behind it
