@@ -17,7 +17,7 @@ use Rattle.boards.specs.Claims.{LastsInRange, AfterFirstReleases, NoneLate}
 use Rattle.boards.specs.Runs.{board_goes_to}
 use Rattle.boards.specs.Witnesses.{with_holds, example_order, held_order, switched_order, at_once, lasting}
 use Rattle.boards.specs.Witnesses.{never, NeedsByNumbers, RunsMet, HoldsCount, SwitchCounts}
-use Rattle.boards.specs.Witnesses.{overrun_order, first_releases, OverrunsCount}
+use Rattle.boards.specs.Witnesses.{due_order, overrun_order, first_releases, OverrunsCount}
 
 -- of three ranks, each
 each : (P : ℕ → Type 0) → P 0 → P 1 → P 2 → (i : ℕ) → i < 3 → P i
@@ -143,6 +143,21 @@ switch_counts = record {
 }
 
 -- ---- past the next release
+-- with a deadline below the period
+held_due : AfterFirstReleases due_order (first_releases (0 ∷ 0 ∷ 47 ∷ [])) 2 47
+held_due zero l = omega arith
+held_due (suc zero) l = omega arith
+held_due (suc (suc j)) l = omega arith
+
+lasts_due : LastsInRange due_order (lasting (2 ∷ 6 ∷ 17 ∷ []))
+lasts_due = lasts_by due_order need
+    (λ i k l. each (λ i. ((row_at due_order i).best ≤ need i k)
+    × (need i k ≤ (row_at due_order i).worst + (row_at due_order i).switch))
+    (omega arith, omega arith) (omega arith, omega arith) (omega arith, omega arith) i l)
+  where
+    need : ℕ → ℕ → ℕ
+    need = lasting (2 ∷ 6 ∷ 17 ∷ [])
+
 either : (P : ℕ → Type 0) → P 0 → P 1 → (i : ℕ) → i < 2 → P i
 either P a b zero l = a
 either P a b (suc zero) l = b
@@ -163,6 +178,12 @@ held_over (suc j) l = absurd (omega arith)
 pub overruns_count : OverrunsCount
 unfolding smallest largest jobs_in longest_response latest_within cost blocking
 overruns_count = record {
+  due_none_late = each (InTime due_order) refl refl refl;
+  due_held = held_due;
+  due_earliest = refl;
+  due_lasts = lasts_due;
+  due_reached = refl;
+  held_by_deadline = λ order offset i r h. h;
   none_late = either (InTime overrun_order) refl refl;
   lasts_latest = lasts_over 62 (omega arith, omega arith);
   jobs_are = refl;

@@ -135,7 +135,24 @@ first_releases ticks i = get_or ticks i 0
 abbrev pub finish_at : List Row → ℕ → ℕ → ℕ
 finish_at order i q = finish_of (row_at order i) (rows_above order i) (rows_below order i) q
 
+-- the lowest task of document 01's example, with its latest response as its deadline
+abbrev pub due_order : List Row
+due_order =
+    row 12 18 18 2 2 1000 8000 0 0 ∷ row 11 24 24 6 6 1000 8000 0 0 ∷ row 13 200 35 19 17 3000 57000 0 0 ∷ []
+
 pub record OverrunsCount : Type 0 where
+  -- its first job, of tick 47, is held to its earliest response, though no period of its own has gone by since the first
+  -- releases above, and takes it
+  pub due_none_late : NoneLate due_order
+  pub due_held : AfterFirstReleases due_order (first_releases (0 ∷ 0 ∷ 47 ∷ [])) 2 47
+  pub due_earliest : earliest_at due_order 2 ≡ 25
+  pub due_lasts : LastsInRange due_order (lasting (2 ∷ 6 ∷ 17 ∷ []))
+  pub due_reached : Finishes due_order (first_releases (0 ∷ 0 ∷ 47 ∷ [])) (lasting (2 ∷ 6 ∷ 17 ∷ [])) never 2 47 72
+  -- of any order, no more is asked of a job that is held to it
+  pub held_by_deadline :
+      (order : List Row) (offset : ℕ → ℕ) (i r : ℕ)
+      → ((j : ℕ) → j < i → offset j + (row_at order i).deadline ≤ r)
+      → AfterFirstReleases order offset i r
   pub none_late : NoneLate overrun_order
   pub lasts_latest : LastsInRange overrun_order (lasting (26 ∷ 62 ∷ []))
   -- the busy interval of the lower task has seven jobs; its latest response is 118, that of the fifth, where the first

@@ -24,7 +24,8 @@ use Rattle.plans.specs.Plans.{rank_text, head_text, plan_text, refusal_text}
 use Rattle.plans.specs.Outcomes.{fitted, if_in_time}
 use Rattle.demands.specs.Calls.{on_table, if_ordered}
 use Rattle.demands.specs.Cases.{HasFigures, AllSo, row11, row12, row13, starred, unstarred, of_tasks, of_holds}
-use Rattle.demands.specs.Cases.{of_switch, curved13, of_curves, of_curve_texts, row21, row22, of_deadlines}
+use Rattle.demands.specs.Cases.{of_switch, curved13, of_curves, of_curve_texts, row21, row22, queued, long_above}
+use Rattle.demands.specs.Cases.{of_deadlines}
 
 -- the rows below count by their blocking time, which is that of none
 none_blocks : (below : List Row) → NoneHolds below → blocking below ≡ blocking []
@@ -176,8 +177,8 @@ curve_texts_so =
 
 pub deadlines_so : AllSo of_deadlines
 unfolding digits decimal signed key_line number_of line_at form_at read_for read_table cost blocking smallest largest
-    jobs_in longest_response latest_within over_set rank_text head_text plan_text refusal_text fitted if_in_time on_table
-    if_ordered
+    jobs_in longest_response latest_within permitted curve_margin over_set rank_text head_text plan_text refusal_text
+    fitted if_in_time on_table if_ordered
 deadlines_so =
     refl
     also over (row22 118) (row21 ∷ []) (refl, refl, refl, refl, refl)
@@ -188,6 +189,8 @@ deadlines_so =
     also refl
     also refl
     also (refl, refl, refl, refl, refl)
+    also (refl, refl, refl, refl, refl)
+    also refl
     also refl
     also over (row 22 100 1000000 60 40 1000 1000000 0 1) (row 21 70 70 25 25 1000 26000 0 1 ∷ [])
     (refl, refl, refl, refl, refl)
@@ -197,6 +200,15 @@ deadlines_so =
     also late_over (row22 61) [] refl
     also late_over (row22 1) [] refl
     also over (row22 118) (with_deadline 1 row21 ∷ []) (refl, refl, refl, refl, refl)
+    also refl
+    also over (queued 54) (long_above ∷ []) (refl, refl, refl, refl, refl)
+    also late_over (queued 53) (long_above ∷ []) refl
+    also over (with_curve (point 40 78 ∷ []) (row22 118)) (row21 ∷ []) (refl, refl, refl, refl, refl)
+    also over (with_curve (point 40 77 ∷ []) (row22 118)) (row21 ∷ []) (refl, refl, refl, refl, refl)
     also refl also refl also refl also refl also refl also refl also refl also refl
+    also over (row 2 6 19 1 1 20000 361000 0 0)
+    (row 1 12 12 5 5 20000 5000 0 0 ∷ row 3 27 27 8 7 20000 174000 0 0 ∷ []) (refl, refl, refl, refl, refl)
+    also late_over (row 1 12 12 5 5 20000 5000 0 0)
+    (row 2 6 19 1 1 20000 361000 0 0 ∷ row 3 27 27 8 7 20000 174000 0 0 ∷ []) refl
     also refl also refl also refl also refl also refl also refl also refl also refl
-    also refl also refl also refl also tt
+    also refl also refl also refl also refl also refl also tt

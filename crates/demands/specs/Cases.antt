@@ -17,13 +17,14 @@ use Rattle.plans.specs.Outcomes.{writes, refuses}
 use Rattle.demands.specs.Calls.{planned, planner_prints, reviewer_prints}
 
 -- a row under rows above it, over any rows that hold nothing, and its E, W, jitter and margin; a late row; a row
--- between rows above it and below it; such a row and the w(q) of its busy interval in sequence; a table's rows and
--- the tasks of its order; a text and its whole plan; a text and its refusal; a text and what the planner's or the
--- reviewer's program prints
+-- between rows above it and below it; such a row that is late; such a row and the w(q) of its busy interval in sequence;
+-- a table's rows and the tasks of its order; a text and its whole plan; a text and its refusal; a text and what the
+-- planner's or the reviewer's program prints
 pub data Case : Type 0 where
   figures : Row → List Row → ℕ → ℕ → ℕ → ℤ → Case
   late : Row → List Row → Case
   between : Row → List Row → List Row → ℕ → ℕ → ℕ → ℤ → Case
+  late_between : Row → List Row → List Row → Case
   busy : Row → List Row → List Row → List ℕ → Case
   order : List Row → List ℕ → Case
   plan : List ℕ → List ℕ → Case
@@ -52,6 +53,7 @@ first_of (suc n) w = w 0 ∷ first_of n (λ q. w (suc q))
 abbrev pub IsSo : Case → Type 0
 IsSo (figures t above e w j m) = (below : List Row) → NoneHolds below → HasFigures t above below e w j m
 IsSo (between t above below e w j m) = HasFigures t above below e w j m
+IsSo (late_between t above below) = is_late t above below ≡ true
 IsSo (busy t above below ws) =
     let w = finish_of t above below in
     first_of (jobs_in w t.period) w ≡ ws
@@ -395,6 +397,31 @@ abbrev pub alone_plan : List ℕ
 alone_plan = lined (
     "plan=1" ∷ "board=7" ∷ "tasks=1" ∷ "rank=1" ∷ "task=1" ∷ "best=10" ∷ "worst=10" ∷ "jitter=0" ∷ "margin=0" ∷ [])
 
+-- three tasks, with the line of the second's deadline
+abbrev pub taken_back : String → List ℕ
+taken_back deadline = lined (
+    "board=7" ∷ "tasks=3" ∷ "switch=0"
+    ∷ "task=1" ∷ "period=12" ∷ "deadline=12" ∷ "worst=5" ∷ "best=5" ∷ "alpha=20000" ∷ "beta=5000" ∷ "hold=0" ∷ "points=0"
+    ∷ "task=2" ∷ "period=6" ∷ deadline ∷ "worst=1" ∷ "best=1" ∷ "alpha=20000" ∷ "beta=361000" ∷ "hold=0" ∷ "points=0"
+    ∷ "task=3" ∷ "period=27" ∷ "deadline=27" ∷ "worst=8" ∷ "best=7" ∷ "alpha=20000" ∷ "beta=174000" ∷ "hold=0"
+    ∷ "points=0"
+    ∷ [])
+
+abbrev pub taken_back_plan : List ℕ
+taken_back_plan = lined (
+    "plan=1" ∷ "board=7" ∷ "tasks=3"
+    ∷ "rank=1" ∷ "task=1" ∷ "best=5" ∷ "worst=5" ∷ "jitter=0" ∷ "margin=0"
+    ∷ "rank=2" ∷ "task=2" ∷ "best=1" ∷ "worst=6" ∷ "jitter=5" ∷ "margin=260000"
+    ∷ "rank=3" ∷ "task=3" ∷ "best=14" ∷ "worst=22" ∷ "jitter=8" ∷ "margin=0"
+    ∷ [])
+
+-- a row that needs 4 ticks of each 10, and one above it that takes 50 of each 100
+abbrev pub queued : ℕ → Row
+queued deadline = row 23 10 deadline 4 4 1000 1000000 0 0
+
+abbrev pub long_above : Row
+long_above = row 24 100 100 50 50 1000 1000000 0 0
+
 abbrev pub of_deadlines : List Case
 of_deadlines =
     -- the responses of the seven jobs are 114, 102, 116, 104, 118, 106 and 94: W is that of the fifth, within a
@@ -410,6 +437,9 @@ of_deadlines =
     -- blocked once and not once for each job: over a hold of 5 each job is 4 ticks later
     ∷ busy (row22 118) (row21 ∷ []) (holding13 5 ∷ []) (118 ∷ 206 ∷ 320 ∷ 408 ∷ 522 ∷ 610 ∷ 698 ∷ [])
     ∷ between (row22 1000000) (row21 ∷ []) (holding13 5 ∷ []) 40 122 82 (pos 878000)
+    -- so a deadline of 122 is kept there, and one of 121 is not
+    ∷ between (row22 122) (row21 ∷ []) (holding13 5 ∷ []) 40 122 82 (pos 878000)
+    ∷ late_between (row22 121) (row21 ∷ []) (holding13 5 ∷ [])
     -- each job of its own takes the switch, and each above
     ∷ busy (row 22 100 118 61 40 1000 1000000 0 1) (row 21 70 70 25 25 1000 26000 0 1 ∷ []) []
     (114 ∷ 202 ∷ 316 ∷ 404 ∷ 518 ∷ 606 ∷ 694 ∷ [])
@@ -423,6 +453,13 @@ of_deadlines =
     ∷ late (row22 61) []
     ∷ late (row22 1) []
     ∷ figures (row22 118) (with_deadline 1 row21 ∷ []) 40 118 78 (pos 882000)
+    -- nine jobs in the busy interval, of which the first six wait at once, and W is that of the first
+    ∷ busy (queued 54) (long_above ∷ []) [] (54 ∷ 58 ∷ 62 ∷ 66 ∷ 70 ∷ 74 ∷ 78 ∷ 82 ∷ 86 ∷ [])
+    ∷ figures (queued 54) (long_above ∷ []) 4 54 50 (pos 946000)
+    ∷ late (queued 53) (long_above ∷ [])
+    -- a curve judges the jitter of an overrun: it permits just that, and a tick less
+    ∷ figures (with_curve (point 40 78 ∷ []) (row22 118)) (row21 ∷ []) 40 118 78 (pos 0)
+    ∷ figures (with_curve (point 40 77 ∷ []) (row22 118)) (row21 ∷ []) 40 118 78 (negsuc 999)
     -- texts: with a deadline of 118 there is an order, with 117 and with the period there is none
     ∷ plan (overrun "deadline=118") overrun_plan
     ∷ refusal (overrun "deadline=117") 8 0
@@ -433,6 +470,13 @@ of_deadlines =
     ∷ refusal (overrun "deadline=61") 8 0
     ∷ reviewer (overrun "deadline=61" ++ lined ("rank=21" ∷ "rank=22" ∷ [])) (refused_at "refusal=7" "line=2")
     ∷ reviewer (overrun "deadline=61" ++ lined ("rank=22" ∷ "rank=21" ∷ [])) (refused_at "refusal=7" "line=1")
+    -- a choice is taken back: with 19 the first row that fits lowest is task 2, with a W of 19 and a margin of 0, and then
+    -- tasks 1 and 3 have no order; with 18 it is late there, and task 3 is the first that fits
+    ∷ figures (row 2 6 19 1 1 20000 361000 0 0)
+    (row 1 12 12 5 5 20000 5000 0 0 ∷ row 3 27 27 8 7 20000 174000 0 0 ∷ []) 1 19 18 (pos 0)
+    ∷ late (row 1 12 12 5 5 20000 5000 0 0) (row 2 6 19 1 1 20000 361000 0 0 ∷ row 3 27 27 8 7 20000 174000 0 0 ∷ [])
+    ∷ plan (taken_back "deadline=19") taken_back_plan
+    ∷ plan (taken_back "deadline=18") taken_back_plan
     -- the line: both sides of its limits, no number, missing, doubled, before its place and behind it
     ∷ plan (due_alone ("period=10" ∷ "deadline=10" ∷ [])) alone_plan
     ∷ plan (due_alone ("period=10" ∷ "deadline=1000000" ∷ [])) alone_plan
