@@ -5,22 +5,22 @@ use mathlib.Core.Path.{◌≡◌, sym, ap, ◌∙◌}
 use mathlib.Core.Bool.{Bool}
 use mathlib.Core.Logic.{◌⊎◌, inl, inr}
 use mathlib.Core.List.{List}
-use Prim.Native.Nat.{ℕ, suc, ◌+◌, ◌-◌, ◌*◌, ◌≤◌, ◌<◌}
-use native.Mathlib.Nat.{le_refl, mul-le-mul_left}
+use Prim.Native.Nat.{ℕ, zero, suc, ◌+◌, ◌-◌, ◌*◌, ◌≤◌, ◌<◌}
+use native.Mathlib.Nat.{le_refl, le_antisymm, mul-le-mul_left}
 use native.Mathlib.Omega.{arith}
 use borrow.Author.Tests.{le-leb, lt-leb}
 use Rattle.basics.specs.Basics.{pick, larger}
 use Rattle.basics.proofs.Tests.{le-or-lt}
-use Rattle.basics.proofs.Numbers.{larger_left}
+use Rattle.basics.proofs.Numbers.{larger_left, larger_right, larger_most}
 use Rattle.rows.specs.Rows.{max_ticks}
 use Rattle.responses.specs.declared.Load.{Load}
 use Rattle.responses.specs.Interference.{interference, least_fixed}
 use Rattle.responses.specs.BusyIntervals.{longest, latest_within}
 use Rattle.responses.proofs.Sums.{interference_mono}
-use Rattle.responses.proofs.FixedPoints.{fixed_below, demand_mono, least_fixed_lem, least_least}
+use Rattle.responses.proofs.FixedPoints.{fixed_below, demand_mono, least_fixed_lem, least_least, least_is}
 use Rattle.responses.proofs.BusyIntervals.{Counts, latest_here, late_here}
 use Rattle.fixed_points.specs.inside.Values.{Searching}
-use Rattle.busy_intervals.specs.inside.Finishes.{finishes, limit_for, InLimits}
+use Rattle.busy_intervals.specs.inside.Finishes.{finishes, limit_for, InLimits, Stretch}
 
 -- ---- limits
 pub limit_within : (due : ℕ) → due ≤ max_ticks → limit_for due ≡ due
@@ -33,6 +33,12 @@ pub limit_max : (due : ℕ) → limit_for due ≤ max_ticks
 limit_max due = elim (le-or-lt due max_ticks) [
   | inl h ↦ omega (arith, limit_within due h)
   | inr h ↦ omega (arith, limit_past due h)
+]
+
+limit_least : (due x : ℕ) → x ≤ due → x ≤ max_ticks → x ≤ limit_for due
+limit_least due x h k = elim (le-or-lt due max_ticks) [
+  | inl l ↦ omega (arith, limit_within due l)
+  | inr l ↦ omega (arith, limit_past due l)
 ]
 
 limit_due : (due : ℕ) → limit_for due ≤ due
@@ -145,13 +151,15 @@ module _ (cost blocked period deadline : ℕ) (ls : List Load) (t : InLimits cos
     more : base + cost ≡ suc (suc q) * cost + blocked
     more = omega (arith, b.base_is)
 
+    solved : finish ≡ base + interference 0 finish ls
+    solved =
+        let f = fixed q (b.in_time q (le_refl q)).0 in
+        b.finish_is ∙ f.0 ∙ sym (ap (λ (x : ℕ). x + interference 0 (w q) ls) b.base_is)
+        ∙ ap (λ (x : ℕ). base + interference 0 x ls) (sym b.finish_is)
+
     -- no solution lies below the last and a cost
     pub from_last : (limit : ℕ) → limit ≤ max_ticks → Searching (base + cost) limit ls (finish + cost)
     from_last limit l =
-        let f = fixed q (b.in_time q (le_refl q)).0 in
-        let solved : finish ≡ base + interference 0 finish ls =
-        b.finish_is ∙ f.0 ∙ sym (ap (λ (x : ℕ). x + interference 0 (w q) ls) b.base_is)
-        ∙ ap (λ (x : ℕ). base + interference 0 x ls) (sym b.finish_is) in
         record {
           some = omega (arith, t.cost_some);
           rises = omega (arith, solved, interference_mono 0 finish (finish + cost) ls (omega arith));
@@ -238,3 +246,59 @@ module _ (cost blocked period deadline : ℕ) (ls : List Load) (t : InLimits cos
         b.longest_is
         ∙ sym (latest_here w period period_some counts deadline q b.goes_on b.in_time
         (omega (arith, ends, b.finish_is, b.next_is)))
+
+  -- ---- the jobs of a stretch, behind job q: each is found a cost later, none takes longer
+  module _ (q base finish most next : ℕ) (b : Behind cost blocked period deadline ls q base finish most next) where
+    -- where the first k are behind too, one more
+    module _ (k : ℕ) (at : Behind cost blocked period deadline ls (q + k) (base + k * cost) (finish + k * cost) most (next + k * period))
+        (s : Stretch cost period ls finish next (suc k)) where
+      abbrev found : ℕ
+      found = finish + k * cost + cost
+
+      abbrev last_tick : ℕ
+      last_tick = next + k * period + deadline
+
+      due_in_time : found ≤ last_tick
+      due_in_time =
+          omega (arith, (at.in_time (q + k) (le_refl (q + k))).1, at.finish_is, at.next_is, t.cost_period)
+
+      later_is : found ≡ least_fixed (base + k * cost + cost) (limit_for last_tick) ls
+      later_is =
+          let most_ticks : found ≤ max_ticks = omega (arith, s.fits) in
+          let same = s.same found (omega arith) (omega arith) in
+          let here = solved q base finish most next b in
+          let search = from_last (q + k) (base + k * cost) (finish + k * cost) most (next + k * period) at (limit_for last_tick)
+          (limit_max last_tick) in
+          least_is (base + k * cost + cost) (limit_for last_tick) ls found (omega (arith, t.cost_some))
+          (omega (arith, same, here)) (limit_least last_tick found due_in_time most_ticks) search.none_below
+
+      no_longer : larger most (found - (next + k * period)) ≡ most
+      no_longer =
+          let last = larger_right (longest w period (q + k)) (w (q + k) - (q + k) * period) in
+          let less : found - (next + k * period) ≤ most =
+          omega (arith, at.longest_is, last, at.finish_is, at.next_is, t.cost_period) in
+          le_antisymm (larger_most most (found - (next + k * period)) most (le_refl most) less)
+          (larger_left most (found - (next + k * period)))
+
+      one_more : Behind cost blocked period deadline ls (suc (q + k)) (base + k * cost + cost) found most (next + k * period + period)
+      one_more =
+          rw no_longer at (next_job (q + k) (base + k * cost) (finish + k * cost) most (next + k * period) at
+          (s.goes_on k (omega arith)) found later_is (omega (arith, t.cost_some)))
+
+    pub stretch : (k : ℕ) → Stretch cost period ls finish next k
+        → Behind cost blocked period deadline ls (q + k) (base + k * cost) (finish + k * cost) most (next + k * period)
+    stretch zero s =
+        let z : (x : ℕ) → x + 0 * cost ≡ x = λ x. omega arith in
+        let y : next + 0 * period ≡ next = omega arith in
+        let n : q + 0 ≡ q = omega arith in
+        rw (n, z base, z finish, y) b
+    stretch (suc k) s =
+        let before = stretch k (record {
+          fits = omega (arith, s.fits);
+          same = λ y h l. s.same y h (omega (arith, l));
+          goes_on = λ j l. s.goes_on j (omega (arith, l));
+        }) in
+        let n : q + suc k ≡ suc (q + k) = omega arith in
+        let z : (x : ℕ) → x + suc k * cost ≡ x + k * cost + cost = λ x. omega arith in
+        let y : next + suc k * period ≡ next + k * period + period = omega arith in
+        rw (n, z base, z finish, y) (one_more k before s)

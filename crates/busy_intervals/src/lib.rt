@@ -6,10 +6,10 @@ ghost use Rattle.rows.specs.Rows.{max_ticks};
 ghost use Rattle.responses.specs.Interference.{least_fixed};
 ghost use Rattle.responses.specs.BusyIntervals.{latest_within};
 ghost use Rattle.fixed_points.specs.inside.Values.{found};
-ghost use Rattle.busy_intervals.specs.inside.Finishes.{finishes, limit_for, InLimits};
+ghost use Rattle.busy_intervals.specs.inside.Finishes.{finishes, limit_for, InLimits, Stretch};
 
 use basics::larger;
-use fixed_points::{Tasks, least_fixed, least_from};
+use fixed_points::{Tasks, ceil, least_fixed, least_from, steady_until};
 use rows::Row;
 
 // What the search takes of a task: what a job of it takes at most, the ticks for which rows below block it, its period and
@@ -35,6 +35,34 @@ fn limit_for(due: u64) -> u64
     }
 }
 
+// A job of the interval: where its search began, where it is done, and when the next is released.
+#[derive(Clone, Copy)]
+struct Job {
+    begun: u64,
+    finish: u64,
+    next: u64,
+}
+
+// How many jobs follow without a pause and without a release above, where none was released in this job's time either:
+// each is done a cost after the one before, and takes no longer than that. So they need no search, and change no W.
+fn jobs_behind(job: Job, task: Times, above: Tasks) -> u64
+    requires { (1 ≤ job.finish) × (job.finish ≤ max_ticks) }
+    ensures { Stretch task.cost task.period above.entry.loads.now job.finish job.next result }
+{
+    if job.begun != job.finish {
+        return 0;
+    }
+    if job.finish <= job.next {
+        return 0;
+    }
+    let room = (steady_until(job.finish, above) - job.finish) / task.cost;
+    let gained = task.period - task.cost;
+    if gained == 0 {
+        return room;
+    }
+    room.min(ceil(job.finish - job.next, gained))
+}
+
 // The response of the interval's first job, if that is in time.
 pub fn first_response(task: Times, above: Tasks) -> Option<u64>
     ensures { result ≡ found (least_fixed (task.cost + task.blocked) task.deadline above.entry.loads.now) }
@@ -57,9 +85,19 @@ pub fn latest_from(first: u64, task: Times, above: Tasks) -> Option<u64>
     while next < finish {
         base += task.cost;
         let limit = limit_for(next + task.deadline);
-        finish = least_from(finish + task.cost, base, limit, above)?;
+        let begun = finish + task.cost;
+        finish = least_from(begun, base, limit, above)?;
         longest = larger(longest, finish - next);
         next += task.period;
+        let job = Job {
+            begun,
+            finish,
+            next,
+        };
+        let jobs = jobs_behind(job, task, above);
+        base += jobs * task.cost;
+        finish += jobs * task.cost;
+        next += jobs * task.period;
     }
     Some(longest)
 }

@@ -6,9 +6,11 @@ ghost use Rattle.std.specs.Prelude.{◌≡◌, ◌+◌, ◌≤◌};
 ghost use Rattle.rows.specs.Rows.{max_ticks};
 ghost use Rattle.responses.specs.Interference.{ceiling, interference, least_fixed, largest_fixed};
 ghost use Rattle.fixed_points.specs.inside.Loads.{base_max, Loads};
+ghost use Rattle.fixed_points.specs.inside.Steady.{Steady};
 ghost use Rattle.fixed_points.specs.inside.Values.{first_value, next_value, found, Searching, TriesFrom, Tries};
 
 use responses::Load;
+use rows::Row;
 
 // Some tasks above a row, by what they take of a window: few enough that no sum overflows, and each with its cost within
 // its period.
@@ -20,7 +22,7 @@ pub struct Tasks<'a> {
 
 // x / p rounded up. A window is often within the period, and a test is faster than a division; x + p is far below 2^32,
 // and division is faster there than in 64 bits, so that `as` loses nothing.
-fn ceil(x: u64, p: u64) -> u64
+pub fn ceil(x: u64, p: u64) -> u64
     requires { (1 ≤ x) × (x ≤ max_ticks) × (1 ≤ p) × (p ≤ max_ticks) }
     ensures { result ≡ ceiling x p }
 {
@@ -40,6 +42,18 @@ pub fn interference(window: u64, spared: u64, tasks: Tasks) -> u64
         sum += (ceil(window, task.period) - spared) * task.cost;
     }
     sum
+}
+
+// Up to which window no task is released more often than in this one: up to the next release of any.
+pub fn steady_until(window: u64, tasks: Tasks) -> u64
+    requires { (1 ≤ window) × (window ≤ max_ticks) }
+    ensures { Steady window tasks.entry.loads.now result }
+{
+    let mut until = Row::TICKS_MAX;
+    for task in tasks.loads {
+        until = until.min(ceil(window, task.period) * task.period);
+    }
+    until
 }
 
 // Where the search of W ends: its last value, and the steps that led to it from the first.

@@ -1,5 +1,5 @@
 -- Each turn finds the next job or shows the task late; the loop ends behind the last.
-use Rattle.std.proofs.Common.{◌≡◌, ℕ, suc, ◌+◌, ◌-◌, ◌≤◌, ◌<◌, List, ap, ◌∙◌, arith}
+use Rattle.std.proofs.Common.{◌≡◌, ℕ, zero, suc, ◌*◌, ◌+◌, ◌-◌, ◌≤◌, ◌<◌, List, ap, ◌∙◌, arith}
 use Rattle.std.specs.Prelude.{Some}
 use Rattle.basics.specs.Basics.{larger}
 use Rattle.rows.specs.Rows.{max_ticks}
@@ -7,9 +7,9 @@ use Rattle.responses.specs.declared.Load.{Load}
 use Rattle.responses.specs.Interference.{least_fixed}
 use Rattle.fixed_points.specs.inside.Values.{found}
 use Rattle.fixed_points.proofs.Values.{some_found, found_some, none_found}
-use Rattle.busy_intervals.specs.inside.Finishes.{limit_for, InLimits}
+use Rattle.busy_intervals.specs.inside.Finishes.{limit_for, InLimits, Stretch}
 use Rattle.busy_intervals.proofs.Jobs.{Behind, first_job, small, from_last, next_late}
-use Rattle.busy_intervals.proofs.Jobs.{next_job, later, last_job}
+use Rattle.busy_intervals.proofs.Jobs.{next_job, later, stretch, last_job}
 use Rattle.busy_intervals.proofs.latest_from.Goals as goal
 
 pub loop-next-init : goal.loop-next-init
@@ -57,8 +57,8 @@ overflow_add-next c =
     x.invariant in
     record { fits = omega (arith, s, c.loop-next-test.true, t.in_limits.deadline_max) }
 
-pub overflow_add-finish : goal.overflow_add-finish
-overflow_add-finish c =
+pub overflow_add-begun : goal.overflow_add-begun
+overflow_add-begun c =
     let t = c.args.task in
     let x = c.loop-next in
     let s = turn_small t.cost t.blocked t.period t.deadline c.args.above.loads.now t.in_limits x.base x.finish x.longest x.next
@@ -107,29 +107,70 @@ overflow_add-next-in-loop-next c =
     x.invariant in
     record { fits = omega (arith, s, c.loop-next-test.true, t.in_limits.period_max) }
 
+pub jobs_behind-jobs-requires : goal.jobs_behind-jobs-requires
+jobs_behind-jobs-requires c =
+    let t = c.args.task in
+    let x = c.loop-next in
+    let b = behind t.cost t.blocked t.period t.deadline c.args.above.loads.now t.in_limits x.base x.finish x.longest x.next
+    x.invariant (omega (arith, c.loop-next-test.true)) c.limit_for-limit.result c.limit_for-limit.ensures.limit
+    c.in_ok-finish.finish c.in_ok-finish.ensures in
+    let s = small t.cost t.blocked t.period t.deadline c.args.above.loads.now t.in_limits (suc x.invariant.0) _ _ _ _ b in
+    (s.2, s.0)
+
+pub overflow_add-base-in-loop-next-2 : goal.overflow_add-base-in-loop-next-2
+overflow_add-base-in-loop-next-2 c =
+    let t = c.args.task in
+    let x = c.loop-next in
+    let s = turn_small t.cost t.blocked t.period t.deadline c.args.above.loads.now t.in_limits x.base x.finish x.longest x.next
+    x.invariant in
+    record {
+      fits = omega (arith, s, t.in_limits.cost_period, t.in_limits.period_max, c.jobs_behind-jobs.ensures.fits);
+    }
+
+-- the last of them is released before the most ticks have passed
+released : (cost period : ℕ) (ls : List Load) (finish next jobs : ℕ) → Stretch cost period ls finish next jobs
+    → next ≤ max_ticks + period → next + jobs * period ≤ max_ticks + period
+released cost period ls finish next zero s h = omega arith
+released cost period ls finish next (suc k) s h = omega (arith, s.goes_on k (omega arith), s.fits)
+
+pub overflow_add-next-in-loop-next-2 : goal.overflow_add-next-in-loop-next-2
+overflow_add-next-in-loop-next-2 c =
+    let t = c.args.task in
+    let x = c.loop-next in
+    let s = turn_small t.cost t.blocked t.period t.deadline c.args.above.loads.now t.in_limits x.base x.finish x.longest x.next
+    x.invariant in
+    let early : x.next + t.period ≤ max_ticks + t.period = omega (arith, s, c.loop-next-test.true) in
+    record {
+      fits = omega (
+        arith,
+        released t.cost t.period c.args.above.loads.now c.in_ok-finish.finish (x.next + t.period) c.jobs_behind-jobs.result
+            c.jobs_behind-jobs.ensures early,
+        t.in_limits.period_max,
+      );
+    }
+
 pub loop-next-smaller : goal.loop-next-smaller
 loop-next-smaller c =
     let t = c.args.task in
     let x = c.loop-next in
     let ls = c.args.above.loads.now in
     let f = further t.cost t.blocked t.period t.deadline ls t.in_limits x.base x.finish x.longest x.next
-    x.invariant (omega (arith, c.loop-next-test.true)) c.limit_for-limit.result c.limit_for-limit.ensures.limit c.in_ok-finish.finish
-    c.in_ok-finish.ensures in
-    let b = behind t.cost t.blocked t.period t.deadline ls t.in_limits x.base x.finish x.longest x.next
-    x.invariant (omega (arith, c.loop-next-test.true)) c.limit_for-limit.result c.limit_for-limit.ensures.limit c.in_ok-finish.finish
-    c.in_ok-finish.ensures in
-    let s = small t.cost t.blocked t.period t.deadline ls t.in_limits (suc x.invariant.0) _ _ _ _ b in
-    omega (arith, f.0, s.0)
+    x.invariant (omega (arith, c.loop-next-test.true)) c.limit_for-limit.result c.limit_for-limit.ensures.limit
+    c.in_ok-finish.finish c.in_ok-finish.ensures in
+    omega (arith, f.0, c.jobs_behind-jobs.ensures.fits)
 
 pub loop-next-preserved : goal.loop-next-preserved
 loop-next-preserved c =
     let t = c.args.task in
-    let x = c.loop-next in (
-      suc x.invariant.0,
+    let x = c.loop-next in
+    let ls = c.args.above.loads.now in
+    let b = behind t.cost t.blocked t.period t.deadline ls t.in_limits x.base x.finish x.longest x.next
+    x.invariant (omega (arith, c.loop-next-test.true)) c.limit_for-limit.result c.limit_for-limit.ensures.limit
+    c.in_ok-finish.finish c.in_ok-finish.ensures in (
+      suc x.invariant.0 + c.jobs_behind-jobs.result,
       rw c.larger-longest.ensures
-          (behind t.cost t.blocked t.period t.deadline c.args.above.loads.now t.in_limits x.base x.finish x.longest x.next
-          x.invariant (omega (arith, c.loop-next-test.true)) c.limit_for-limit.result c.limit_for-limit.ensures.limit c.in_ok-finish.finish
-          c.in_ok-finish.ensures),
+          (stretch t.cost t.blocked t.period t.deadline ls t.in_limits (suc x.invariant.0) _ _ _ _ b c.jobs_behind-jobs.result
+          c.jobs_behind-jobs.ensures),
     )
 
 pub returns : goal.returns
