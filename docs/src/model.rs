@@ -1611,6 +1611,40 @@ mod tests {
         .is_ok());
     }
 
+    /// The stored example: two axis loops, 91 and 92, and the heater, 93. Below three jobs of 91 and two
+    /// of 92 its W is 58 + 3 × 8 + 2 × 14 = 110, ten past its period; the second job takes 116 + 5 × 8 +
+    /// 3 × 14 − 100 = 98. E is 50 + 6. Above either of the others it would make that one late, so that by
+    /// its period there is no order.
+    #[test]
+    fn the_stored_heater_is_planned_by_its_deadline_alone() {
+        let patient = include_str!("../../examples/slow-heater.table");
+        let short = include_str!("../../examples/slow-heater-short.table");
+        assert_eq!(patient.replacen("deadline=150", "deadline=100", 1), short);
+        assert_eq!(planned(short.as_bytes()), refused(8, 0));
+        let plan = include_bytes!("../../examples/slow-heater.plan").to_vec();
+        assert_eq!(planned(patient.as_bytes()), Ok(plan));
+        let table = read_table(patient.as_bytes()).unwrap();
+        let [first, second, heater] = [0, 1, 2].map(|index| &table.rows[index]);
+        assert_eq!(busy(0, heater, &[first, second], &[]), Some((vec![110, 198], 56, 110)));
+        for deadline in [110, 149, 151, FAR] {
+            let other = patient.replacen("deadline=150", &format!("deadline={deadline}"), 1);
+            assert_eq!(planned(other.as_bytes()), planned(patient.as_bytes()), "{deadline}");
+        }
+        let other = patient.replacen("deadline=150", "deadline=109", 1);
+        assert_eq!(planned(other.as_bytes()), refused(8, 0));
+        // By its period only: 92 below it needs 14 + 58 and more, and 91 more than 58.
+        let review = |ranks: [u64; 3]| {
+            let ranks = ranks.map(|rank| format!("rank={rank}\n")).concat();
+            reviewed(format!("{short}{ranks}").as_bytes())
+        };
+        assert_eq!(review([91, 92, 93]), refused(7, 3));
+        assert_eq!(review([92, 91, 93]), refused(7, 3));
+        assert_eq!(review([91, 93, 92]), refused(7, 3));
+        assert_eq!(review([92, 93, 91]), refused(7, 3));
+        assert_eq!(review([93, 92, 91]), refused(7, 2));
+        assert_eq!(review([93, 91, 92]), refused(7, 2));
+    }
+
     // ---- Curves -------------------------------------------------------------------------
 
     type Pairs<'a> = &'a [(u64, u64)];

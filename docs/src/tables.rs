@@ -574,16 +574,9 @@ fn loose_table(dice: &mut Dice, family: Family, count: usize, switch: Switch) ->
     let worsts = worsts(dice, switch.ticks, &periods);
     let tasks = task_numbers(dice, count);
     let columns = tasks.into_iter().zip(periods).zip(worsts);
-    let row = |((task, period), worst)| Row {
-        task,
-        period,
-        deadline: period,
-        worst,
-        best: best(dice, worst),
-        alpha: alpha(dice),
-        beta: MOST_BETA,
-        hold: 0,
-        curve: Vec::new(),
+    let row = |((task, period), worst)| {
+        let (best, alpha) = (best(dice, worst), alpha(dice));
+        Row { task, alpha, ..row(period, worst, best, 0) }
     };
     Table { board: 1, switch: switch.ticks, rows: columns.map(row).collect() }
 }
@@ -719,6 +712,45 @@ pub fn crowded(dice: &mut Dice, count: usize) -> Table {
     table
 }
 
+/// A task that has all of the processor but a tick of each period, and below it one whose stretch
+/// begins a busy interval of it that ends at the millionth tick or beside it; its response is never
+/// past its deadline. With no job above, job q is done at (q + 1) × (period − 1) and what blocks, which is
+/// the next release where q + 1 is just what blocks.
+fn million(dice: &mut Dice, count: usize) -> Table {
+    let (end, switch) = (MOST_TICKS + dice.between(0, 3) - 1, dice.between(0, 1));
+    let mut periods: Vec<u64> = (4..2_000).filter(|&period| end.is_multiple_of(period)).collect();
+    dice.shuffle(&mut periods);
+    let period = periods.first().copied().unwrap_or(end);
+    let blocked = end / period;
+    let worst = period - 1 - switch;
+    let mut rows = vec![
+        row(period, worst, dice.between(1, worst), 0),
+        row(MOST_TICKS, blocked + 1, 1, (blocked + 1).min(MOST_TICKS - switch)),
+    ];
+    rows.extend((2..count).map(|_| row(MOST_TICKS, 1, 1, dice.between(0, 1))));
+    for (row, task) in rows.iter_mut().zip(task_numbers(dice, count)) {
+        row.task = task;
+        row.deadline = dice.pick(&[MOST_TICKS, MOST_TICKS - 1]);
+    }
+    dice.shuffle(&mut rows);
+    Table { board: 1, switch, rows }
+}
+
+/// A row that no line troubles.
+fn row(period: u64, worst: u64, best: u64, hold: u64) -> Row {
+    Row {
+        task: 1,
+        period,
+        deadline: period,
+        worst,
+        best,
+        alpha: 1_000,
+        beta: MOST_BETA,
+        hold,
+        curve: Vec::new(),
+    }
+}
+
 /// Deadlines other than the periods in half of the tables, and curves in half.
 fn finish(dice: &mut Dice, table: &mut Table, loose: bool) {
     let order = match dice.once_in(2) {
@@ -731,8 +763,11 @@ fn finish(dice: &mut Dice, table: &mut Table, loose: bool) {
 }
 
 /// A table of any board, with a switch in five of eight, with deadlines in half and with curves in
-/// half.
+/// half; one in eighty has a busy interval of a million ticks or beside.
 pub fn any(dice: &mut Dice, family: Family, count: usize, loose: bool) -> Table {
+    if count > 1 && dice.once_in(80) {
+        return million(dice, count);
+    }
     let draw = if dice.below(8) < 3 { holding } else { switching };
     let board = dice.any_size(65_535);
     let mut table = Table { board, ..draw(dice, family, count, loose) };

@@ -841,7 +841,19 @@ mod tests {
         assert!(longest < WATCH_TAKES, "{longest}");
     }
 
-    // ---- The stored example -------------------------------------------------------------
+    // ---- The stored examples ------------------------------------------------------------
+
+    /// Its table is that of the plan, and its jobs are those of `HEATER`, whose rows have other bests.
+    #[test]
+    fn the_heater_overruns_into_its_next_release() {
+        let text = include_str!("../../examples/slow-heater.watch");
+        let table = include_str!("../../examples/slow-heater.table");
+        let run =
+            "rank=91\nrank=92\nrank=93\nrelease=0\nrelease=0\nrelease=0\nticks=200\nlengths=0\n";
+        assert_eq!(text, format!("{table}{run}"));
+        assert_eq!(says(text), says(&watch(HEATER, 200, &[])));
+        assert_eq!(says(text), Ok(include_bytes!("../../examples/slow-heater.jobs").to_vec()));
+    }
 
     /// Jobs of 71, 72 and 73 last at most 6,000, 8,000 and 9,000 ticks. The releases of each round
     /// come 10,000 ticks closer to each other than those of the round before, and at 810,000 all
