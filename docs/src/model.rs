@@ -744,7 +744,7 @@ mod tests {
     fn a_program_takes_no_more_than_its_bytes() {
         let mut input = TABLE.as_bytes().to_vec();
         input.resize(TABLE_TAKES, b'x');
-        assert_eq!(printed(planned, TABLE_TAKES, &input), b"plan=0\nrefusal=1\nline=28\n");
+        assert_eq!(printed(planned, TABLE_TAKES, &input), b"plan=0\nrefusal=1\nline=31\n");
         // A first line cut off by the limit has no line feed.
         let long = [&[b'x'; TABLE_TAKES], TABLE.as_bytes()].concat();
         assert_eq!(printed(planned, TABLE_TAKES, &long), b"plan=0\nrefusal=1\nline=1\n");
@@ -2268,7 +2268,7 @@ mod tests {
         );
         let unstable = changed(&[("57000", "54999")]);
         let twice = changed(&[("task=12", "task=11")]);
-        let pieces = [(unstable, 8, 0), (twice, 5, 12), (format!("{TABLE}rank=11\n"), 1, 28)];
+        let pieces = [(unstable, 8, 0), (twice, 5, 13), (format!("{TABLE}rank=11\n"), 1, 31)];
         for (piece, number, place) in pieces {
             let answer = refusal_says(number, place);
             assert_eq!(crane_says(&format!("{piece}{TABLE}")), format!("{answer}{PLAN}"));

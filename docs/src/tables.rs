@@ -763,9 +763,9 @@ fn finish(dice: &mut Dice, table: &mut Table, loose: bool) {
 }
 
 /// A table of any board, with a switch in five of eight, with deadlines in half and with curves in
-/// half; one in eighty has a busy interval of a million ticks or beside.
+/// half; of those with few tasks one in forty has a busy interval of a million ticks or beside.
 pub fn any(dice: &mut Dice, family: Family, count: usize, loose: bool) -> Table {
-    if count > 1 && dice.once_in(80) {
+    if (2..=4).contains(&count) && dice.once_in(40) {
         return million(dice, count);
     }
     let draw = if dice.below(8) < 3 { holding } else { switching };
