@@ -48,8 +48,11 @@ const CURVE_DRAWS: usize = 10;
 /// How often an order is drawn until no task in it is late whatever its deadline.
 const ORDER_DRAWS: usize = 4;
 
-/// Tables with more tasks than this seldom have loads that are brought close to 1.
+/// Tables with more tasks than this have sets of them by the thousand, each to be tried. They have no
+/// busy intervals of thousands of jobs, and so no deadlines where their load is above this, in parts
+/// of a hundred.
 const MANY_TASKS: usize = 6;
+const MOST_LOAD: u64 = 95;
 
 /// Periods of a family, the short ones longer by `more` ticks so that the switches find room.
 fn periods(dice: &mut Dice, family: Family, count: usize, more: u64) -> Vec<u64> {
@@ -378,14 +381,20 @@ pub fn curved(dice: &mut Dice, family: Family, count: usize) -> Table {
 /// The processor's load by so many parts of it.
 const PARTS: u64 = 1_000_000_000_000;
 
+fn load_of(switch: u64, row: &Row) -> u64 {
+    ((row.worst + switch) * PARTS).div_ceil(row.period)
+}
+
+fn load(table: &Table) -> u64 {
+    table.rows.iter().map(|row| load_of(table.switch, row)).sum()
+}
+
 /// A longer job of some row, so that the load comes as close to 1 as that row's ticks allow, and
 /// busy intervals get long; a row that has no room is left as it is.
 fn fill_the_load(dice: &mut Dice, table: &mut Table) {
-    let (index, switch) = (dice.below(table.rows.len()), table.switch);
-    let load = |row: &Row| ((row.worst + switch) * PARTS).div_ceil(row.period);
-    let all: u64 = table.rows.iter().map(load).sum();
+    let (index, switch, all) = (dice.below(table.rows.len()), table.switch, load(table));
     let row = &mut table.rows[index];
-    let free = PARTS.saturating_sub(all - load(row));
+    let free = PARTS.saturating_sub(all - load_of(switch, row));
     let cost = (u128::from(free) * u128::from(row.period) / u128::from(PARTS)) as u64;
     if cost > row.worst + switch {
         row.worst = cost - switch;
@@ -522,17 +531,18 @@ fn set_a_trap(table: &mut Table) -> Option<Vec<usize>> {
 }
 
 /// Gives a table deadlines and, where betas are a limit, new betas for them; the answer is an order
-/// in which most of its tasks are in time. The more tasks it has the more sets of them there are to
-/// be tried, so that it has long busy intervals less often.
+/// in which most of its tasks are in time.
 fn put_deadlines(dice: &mut Dice, table: &mut Table, loose: bool) -> Vec<usize> {
     if !loose && dice.once_in(4) {
         if let Some(order) = set_a_trap(table) {
             return order;
         }
     }
-    let fills =
-        if table.rows.len() > MANY_TASKS { dice.once_in(20) as u64 } else { dice.between(0, 2) };
-    (0..fills).for_each(|_| fill_the_load(dice, table));
+    if table.rows.len() <= MANY_TASKS {
+        (0..dice.below(3)).for_each(|_| fill_the_load(dice, table));
+    } else if load(table) > PARTS / 100 * MOST_LOAD {
+        return some_order(dice, table);
+    }
     let order = order_in_time(dice, table);
     set_deadlines(dice, table, &order);
     if !loose && dice.once_in(8) {
