@@ -47,7 +47,10 @@ pub fn read_table(text: &[u8], ranked: bool, numbers: &mut [u64]) -> Result<usiz
 {
     let mut at = Progress::start(ranked);
     while at.stand.part != Part::End {
-        at = next_line(text, at, numbers)?;
+        at = match next_line(text, at, numbers) {
+            Ok(next) => next,
+            Err(refusal) => return Err(refusal),
+        };
     }
     end_at(at.cursor(text))?;
     Ok(at.stand.count)

@@ -38,8 +38,8 @@ fn unless(faulty: bool, fault: Fault, number: Number, line: u32) -> Result<Numbe
     Ok(number)
 }
 
-// Here and in `next_line` a `match` hands a refusal on, and not `?`: the places of what `?` hands on are filled with zeros
-// at every line, a fifth more instructions in all.
+// Here, in `next_line` and in `read_table` a `match` hands a refusal on, and not `?`: the places of what `?` hands on are
+// filled with zeros at every line, a fifth more instructions in all.
 
 // The line of a point, of its delay or of its allow by turns: its number is held against the one two lines before it, if
 // there is one.

@@ -1,6 +1,7 @@
 -- The digits at the front of a text: they have no line feed, so the first line begins with them; and it is a number
 -- only where it is nothing else.
-use Rattle.std.proofs.Common.{◌≡◌, ℕ, zero, suc, ◌+◌, ◌-◌, ◌*◌, ◌%◌, ◌^◌, ◌<◌, ◌≤◌, Bool, true, false, List, [], ◌∷◌, ◌++◌, length, get_or, take, drop, sym, refl, ap, ◌∙◌, inl, inr, append-nil, arith, length-append, length-take-le, get_or-take, take-suc, ne_eqb, le-leb}
+use Rattle.std.proofs.Common.{◌≡◌, ℕ, zero, suc, ◌+◌, ◌-◌, ◌*◌, ◌%◌, ◌^◌, ◌<◌, ◌≤◌, Bool, true, false, List, [], ◌∷◌, ◌++◌, length, get_or, take, drop, sym, refl, ap, ◌∙◌, inl, inr, append-nil, arith, length-append, length-take-le, get_or-take, take-suc, ne_eqb, le-leb, eqb, eqb-true}
+use Rattle.std.proofs.lemmas.Bool.{eqb-false}
 use Rattle.std.proofs.lemmas.List.{nil_from_length}
 use native.Mathlib.Nat.{pow-le-pow_right}
 use borrow.Author.Tests.{lt-leb}
@@ -12,7 +13,6 @@ use Rattle.text.specs.declared.Front.{Front}
 use Rattle.text.specs.Lines.{max_digits, line_of, digits_from, well_formed, number_of}
 use Rattle.text.specs.inside.Fronts.{Passed, Fronts}
 use Rattle.text.proofs.Scans.{line_ends, line_goes_on, number_empty, number_long, number_leads, number_starts}
-use Rattle.text.proofs.Scans.{number_single}
 
 no_number : {A : Type 0} {w : ℕ} → None ≡ Some w → A
 no_number e = absurd (let z : ◌≡◌ {A = ℕ} 0 1 = cc in omega arith)
@@ -84,6 +84,49 @@ passed_next {s = s} {i = i} {v = v} p d w h is l e = record {
       e room ∙ ap (λ (n : ℕ). 10 * n + d) held;
 }
 
+-- ---- what begins a line and may be its number: a feed behind it ends the line, and without one the line is no number
+pub record Begins (s : List ℕ) (size : ℕ) : Type 0 where
+  pub ends_there : size < length s → get_or s size 0 ≡ line_feed → length (line_of s) ≡ size
+  pub no_feed_there : (size < length s → get_or s size 0 ≡ line_feed → ⊥) → length (line_of s) < length s
+      → number_of (line_of s) ≡ None
+
+-- what begins below the digits is none
+pub begins_low : (s : List ℕ) → 0 < length s → get_or s 0 0 < digit_zero → number_of (line_of s) ≡ None
+begins_low s some low = elim (test_of (eqb (get_or s 0 0) line_feed)) [
+  | inl e ↦ number_empty (line_of s) (omega (arith, ap length (line_ends s 0 some (eqb-true _ line_feed e))))
+  | inr n ↦
+      malformed (line_of s)
+      (ap (digits_from 0) (line_goes_on s 0 some (eqb-false _ line_feed n))
+      ∙ rw (not_low (get_or s 0 0) low, digits_from) refl)
+]
+
+-- a lone 0 is the number; more that begins with it is none
+leads : (l : List ℕ) → get_or l 0 0 ≡ digit_zero → 1 < length l → number_of l ≡ None
+leads l e h = elim (le-or-lt (length l) max_digits) [
+  | inl few ↦ number_leads l (omega arith) few e h
+  | inr many ↦ number_long l many
+]
+
+zero_is : number_of (digit_zero ∷ []) ≡ Some 0
+unfolding number_of
+zero_is = refl
+
+module _ (s : List ℕ) (some : 0 < length s) (zero_there : get_or s 0 0 ≡ digit_zero) where
+  zero_line : line_of s ≡ get_or s 0 0 ∷ line_of (drop 1 s)
+  zero_line = line_goes_on s 0 some (λ f. omega (arith, f, zero_there))
+
+  pub zero_begins : Begins s 1
+  zero_begins = record {
+    ends_there = λ h e. omega (arith, ap length zero_line, ap length (line_ends s 1 h e));
+    no_feed_there = λ n ended.
+        let inside : 1 < length s = omega (arith, ap length zero_line, ended) in
+        leads (line_of s) (ap (λ l. get_or l 0 0) zero_line ∙ zero_there)
+        (omega (arith, ap length zero_line, ap length (line_goes_on s 1 inside (n inside))));
+  }
+
+  pub zero_number : 1 < length s → get_or s 1 0 ≡ line_feed → number_of (line_of s) ≡ Some 0
+  zero_number h e = ap number_of (zero_line ∙ rw (zero_there, line_ends s 1 h e) refl) ∙ zero_is
+
 -- ---- the first line as a number
 module _ {s : List ℕ} {r : Front} (f : Fronts s r) where
   pub front_line : line_of s ≡ take r.size s ++ line_of (drop r.size s)
@@ -98,23 +141,21 @@ module _ {s : List ℕ} {r : Front} (f : Fronts s r) where
       ∙ length-append (take r.size s) (line_of (drop r.size s))
       ∙ ap (λ (n : ℕ). n + length (line_of (drop r.size s))) long
 
-  -- a feed behind the digits ends the line
-  pub ends_there : r.size < length s → get_or s r.size 0 ≡ line_feed → length (line_of s) ≡ r.size
-  ends_there h e = omega (arith, line_long, ap length (line_ends s r.size h e))
-
-  -- a line that goes on behind them is no number
-  pub no_feed_there : (r.size < length s → get_or s r.size 0 ≡ line_feed → ⊥) → length (line_of s) < length s
-      → number_of (line_of s) ≡ None
-  no_feed_there n h =
-      let k = r.size in
-      let inside : k < length s = omega (arith, line_long) in
-      let next = line_goes_on s k inside (n inside) in
-      let w = f.passed.written in
-      malformed (line_of s)
-      (ap (digits_from 0) front_line
-      ∙ digits_append 0 w (take k s) (line_of (drop k s)) f.passed.digits
-      ∙ ap (digits_from w) next
-      ∙ rw (f.stopped inside, digits_from))
+  -- a feed behind the digits ends the line, and a line that goes on behind them is no number
+  pub digits_begin : Begins s r.size
+  digits_begin = record {
+    ends_there = λ h e. omega (arith, line_long, ap length (line_ends s r.size h e));
+    no_feed_there = λ n h.
+        let k = r.size in
+        let inside : k < length s = omega (arith, line_long) in
+        let next = line_goes_on s k inside (n inside) in
+        let w = f.passed.written in
+        malformed (line_of s)
+        (ap (digits_from 0) front_line
+        ∙ digits_append 0 w (take k s) (line_of (drop k s)) f.passed.digits
+        ∙ ap (digits_from w) next
+        ∙ rw (f.stopped inside, digits_from));
+  }
 
   module _ (whole : length (line_of s) ≡ r.size) where
     pub too_long : max_digits < r.size → number_of (line_of s) ≡ None
@@ -126,28 +167,15 @@ module _ {s : List ℕ} {r : Front} (f : Fronts s r) where
         nil_from_length (line_of (drop r.size s)) (omega (arith, whole, line_long)) in
         front_line ∙ ap (λ (l : List ℕ). take r.size s ++ l) none ∙ append-nil (take r.size s)
 
-    pub no_digits : r.size < 1 → number_of (line_of s) ≡ None
-    no_digits h = number_empty (line_of s) (omega (arith, whole))
-
     first-is : 1 ≤ r.size → get_or (line_of s) 0 0 ≡ get_or s 0 0
     first-is h = ap (λ (l : List ℕ). get_or l 0 0) line_is ∙ get_or-take r.size s 0 0 (omega arith)
 
-    pub leading_zero : get_or s 0 0 ≡ digit_zero → 1 < r.size → number_of (line_of s) ≡ None
-    leading_zero e h = elim (le-or-lt r.size max_digits) [
-      | inl few ↦
-          number_leads (line_of s) (omega (arith, whole)) (omega (arith, whole)) (first-is (omega arith) ∙ e)
-          (omega (arith, whole))
-      | inr many ↦ too_long many
-    ]
-
-    pub single_digit : 1 ≤ r.size → r.size ≤ 1 → number_of (line_of s) ≡ Some r.value
-    single_digit h l =
-        number_single (line_of s) (omega (arith, whole)) (omega (arith, whole)) (omega (arith, whole))
-        ∙ ap (digits_from 0) line_is ∙ f.passed.digits ∙ ap Some (sym (f.passed.held (omega arith)))
-
-    pub other_digit : 1 ≤ r.size → r.size ≤ max_digits → (get_or s 0 0 ≡ digit_zero → ⊥)
+    -- of one that begins with a digit above 0, they are its number
+    pub is_number : digit_zero < get_or s 0 0 → r.size < length s → get_or s r.size 0 ≡ line_feed → r.size ≤ max_digits
         → number_of (line_of s) ≡ Some r.value
-    other_digit h few n =
+    is_number above h e few =
+        let none : r.size ≡ 0 → ⊥ = λ z. omega (arith, above, e, ap (λ (i : ℕ). get_or s i 0) z) in
+        let some : 1 ≤ r.size = omega (arith, none) in
         number_starts (line_of s) (omega (arith, whole)) (omega (arith, whole))
-        (λ e. n (sym (first-is h) ∙ e))
-        ∙ ap (digits_from 0) line_is ∙ f.passed.digits ∙ ap Some (sym (f.passed.held (omega arith)))
+        (λ z. omega (arith, above, first-is some, z))
+        ∙ ap (digits_from 0) line_is ∙ f.passed.digits ∙ ap Some (sym (f.passed.held few))

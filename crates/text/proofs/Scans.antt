@@ -1,6 +1,6 @@
 -- Lines, keys and digits, one byte after another: what a loop over a text needs at each turn. What is left to be read
 -- decides what the whole answers, so that one equation is the whole invariant.
-use Rattle.std.proofs.Common.{◌≡◌, ℕ, suc, ◌<◌, ◌≤◌, ◌&&◌, eqb, ltb, List, [], ◌∷◌, length, get_or, drop, refl, ap, inl, inr, arith, drop-cons, le-ltb, lt-ltb, eq-eqb, ne_eqb, le-leb}
+use Rattle.std.proofs.Common.{◌≡◌, ℕ, suc, ◌<◌, ◌≤◌, ◌&&◌, eqb, ltb, List, [], ◌∷◌, length, get_or, drop, refl, ap, inl, inr, arith, drop-cons, lt-ltb, eq-eqb, ne_eqb, le-leb}
 use Prim.Native.Nat.compare
 use borrow.Author.Tests.{lt-leb}
 use Rattle.basics.proofs.Tests.{test_of, true_within}
@@ -55,11 +55,3 @@ module _ (s : List ℕ) (some : 1 ≤ length s) (few : length s ≤ max_digits) 
   unfolding number_of
   number_starts n =
       simp (true_within 1 max_digits (length s) some few, ne_eqb (get_or s 0 0) digit_zero n)
-
-  pub number_single : length s ≤ 1 → number_of s ≡ digits_from 0 s
-  unfolding number_of
-  number_single h =
-      elim (test_of (eqb (get_or s 0 0) digit_zero)) [
-        | inl e ↦ simp (true_within 1 max_digits (length s) some few, e, le-ltb 1 (length s) h)
-        | inr e ↦ simp (true_within 1 max_digits (length s) some few, e)
-      ]

@@ -5,10 +5,10 @@
 // writers.rt: numbers and lines put into a lent buffer.
 mod writers;
 
-ghost use Rattle.std.specs.Prelude.{◌≡◌, false, ◌&&◌, length, ◌==◌, nat_lt, slice_index};
+ghost use Rattle.std.specs.Prelude.{◌≡◌, false, ◌&&◌, ◌<◌, length, ◌==◌, nat_lt, slice_index, Some};
 ghost use Rattle.basics.specs.Basics.{is_in};
-ghost use Rattle.text.specs.Text.{line_feed};
-ghost use Rattle.text.specs.Lines.{line_of, begins, number_of};
+ghost use Rattle.text.specs.Text.{line_feed, digit_zero};
+ghost use Rattle.text.specs.Lines.{begins, ranged};
 ghost use Rattle.text.specs.Lines.{line_at, end_at, fault_number, refused, told, told_end};
 ghost use Rattle.text.specs.inside.Fronts.{Fronts, unread};
 
@@ -113,27 +113,15 @@ fn feed_at(s: &[u8], at: usize) -> bool
     s.get(at).is_some_and(|b| *b == b'\n')
 }
 
-// A line that is its front's digits as a number: one digit is, and up to twelve are if they don't begin with 0.
-fn number_of(s: &[u8], front: Front) -> Option<u64>
-    requires { Fronts s.now front × (length (line_of s.now) ≡ front.size) }
-    ensures { result ≡ number_of (line_of s.now) }
+// Whether a line is a lone 0.
+fn is_zero(s: &[u8]) -> bool
+    requires { 0 < length s.now }
+    ensures { result ≡ (slice_index s.now 0 == digit_zero) && (nat_lt 1 (length s.now) && (slice_index s.now 1 == line_feed)) }
 {
-    let size = front.size;
-    if size < 1 {
-        return None;
-    }
-    if 1 < size {
-        if s[0] == b'0' {
-            return None;
-        }
-        if MAX_DIGITS < size {
-            return None;
-        }
-    }
-    Some(front.value)
+    s[0] == b'0' && feed_at(s, 1)
 }
 
-// Why a line is refused that has no feed behind its digits: it is no number, or it has no end.
+// Why a line is refused that has no number and feed behind it: it is no number, or it has no end.
 fn goes_on(s: &[u8], line: u32) -> LineRefusal
     ensures { refused result ≡ unread s.now line }
 {
@@ -149,8 +137,23 @@ fn goes_on(s: &[u8], line: u32) -> LineRefusal
     }
 }
 
+// A line's number, if it is in its range.
+fn ranged(number: Number, low: u64, high: u64, line: u32) -> Result<Number, LineRefusal>
+    ensures { told result ≡ ranged (Some number.value) low high line number.next }
+{
+    if !within(low, high, number.value) {
+        return Err(LineRefusal {
+            fault: Fault::OutOfRange,
+            line,
+        });
+    }
+    Ok(number)
+}
+
 // The line that begins at a place: a key, a number in its range, and a line feed. What is no longer than the key does
 // not hold it and a feed. As neither key nor digits have a feed, they are passed first, and it is sought only behind them.
+// A number begins with a digit above 0, but for 0 itself, which many lines have: so the first byte says whether the line
+// is a lone 0 or has digits to be passed, of which at most twelve are a number.
 // Inlined, so that a line's key and range are constants where it is read.
 #[inline(always)]
 pub fn line_at(at: Cursor, key: &[u8], low: u64, high: u64) -> Result<Number, LineRefusal>
@@ -173,24 +176,26 @@ pub fn line_at(at: Cursor, key: &[u8], low: u64, high: u64) -> Result<Number, Li
         return Err(missing);
     }
     let tail = &rest[key.len()..];
+    if tail[0] <= b'0' {
+        if !is_zero(tail) {
+            return Err(goes_on(tail, line));
+        }
+        let next = at.offset + key.len() + 2;
+        return ranged(Number { value: 0, next }, low, high, line);
+    }
     let front = digits_at(tail);
     if !feed_at(tail, front.size) {
         return Err(goes_on(tail, line));
     }
-    let Some(value) = number_of(tail, front) else {
+    if MAX_DIGITS < front.size {
         return Err(LineRefusal {
             fault: Fault::Malformed,
             line,
         });
-    };
-    if !within(low, high, value) {
-        return Err(LineRefusal {
-            fault: Fault::OutOfRange,
-            line,
-        });
     }
     let next = at.offset + key.len() + front.size + 1;
-    Ok(Number { value, next })
+    let value = front.value;
+    ranged(Number { value, next }, low, high, line)
 }
 
 // The end of the text, where nothing is expected.

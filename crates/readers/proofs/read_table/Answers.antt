@@ -5,27 +5,25 @@ use Rattle.readers.proofs.Turns.{turn, stop}
 use Rattle.readers.proofs.Tables.{as_refused, whole, more_behind}
 use Rattle.readers.proofs.read_table.Goals as goal
 
-pub returns-in_err-at : goal.returns-in_err-at
-returns-in_err-at c =
+pub returns-in-Err : goal.returns-in-Err
+returns-in-Err c =
     let a = c.args in
-    let p = err_from_is_err_and c.from_residual.result c.from_residual.ensures.1 in
-    rw (p.1, p.2)
-    (as_refused a.ranked a.text.now _
-    (stop a.ranked a.text.now c.loop-at.invariant _ c.next_line.new.numbers c.in_err-at.ensures) _)
+    as_refused a.ranked a.text.now _
+    (stop a.ranked a.text.now c.loop-at.invariant _ c.next_line.new.numbers c.in-Err.ensures) _
 
 pub loop-at-smaller : goal.loop-at-smaller
 loop-at-smaller c =
-    (turn c.args.ranked c.args.text.now c.loop-at.invariant _ c.next_line.new.numbers c.in_ok-at.ensures).1
+    (turn c.args.ranked c.args.text.now c.loop-at.invariant _ c.next_line.new.numbers c.in-Ok.ensures).1
 
 pub loop-at-preserved : goal.loop-at-preserved
 loop-at-preserved c =
-    (turn c.args.ranked c.args.text.now c.loop-at.invariant _ c.next_line.new.numbers c.in_ok-at.ensures).0
+    (turn c.args.ranked c.args.text.now c.loop-at.invariant _ c.next_line.new.numbers c.in-Ok.ensures).0
 
 pub returns-in_err-end_at : goal.returns-in_err-end_at
 returns-in_err-end_at c =
     let a = c.args in
     let e = c.cursor.ensures in
-    let p = err_from_is_err_and c.from_residual-in_err-end_at.result c.from_residual-in_err-end_at.ensures.1 in
+    let p = err_from_is_err_and c.from_residual.result c.from_residual.ensures.1 in
     rw (p.1, p.2)
     (more_behind a.ranked a.text.now c.loop-at.invariant (search rules) _
     (rw (e.text, e.offset, e.line) at c.in_err-end_at.ensures))

@@ -1,6 +1,7 @@
 -- `text::line_at` meets its contract: each return is a law of `line_at`, from the tests that led there.
 use Rattle.std.proofs.Common.{[], length, sym, refl, ◌∙◌, arith, drop_of_length-le}
-use Rattle.text.proofs.Behind.{from_is, digits_only, next_inside, digits_say, unread_so}
+use Rattle.text.proofs.Behind.{from_is, unread_so, zero_says, low_unread, number_says, many_say}
+use Rattle.text.proofs.Fronts.{digits_begin}
 use Rattle.text.proofs.Lines.{key_fits, other_missing, short_missing, unended_missing}
 use Rattle.text.proofs.line_at.Goals as goal
 
@@ -31,51 +32,40 @@ slice_bounds-tail-count c = key_fits _ _ (sym c.starts_with.ensures ∙ c.if-not
 pub slice_bounds-tail-start : goal.slice_bounds-tail-start
 slice_bounds-tail-start c = key_fits _ _ (sym c.starts_with.ensures ∙ c.if-not-starts_with.false)
 
--- behind the key, by its digits and a feed behind them
+-- behind the key, a lone 0, or nothing else that begins so low
+pub returns-then-not-is_zero : goal.returns-then-not-is_zero
+returns-then-not-is_zero c =
+    let a = c.args in
+    c.goes_on.ensures
+    ∙ sym (low_unread a.key.now a.at.text.now a.at.offset c.requires (sym c.starts_with.ensures ∙ c.if-not-starts_with.false)
+    (omega arith) a.low a.high a.at.line c.if-tail-le48.true (sym c.is_zero.ensures ∙ c.if-not-is_zero.true))
+
+pub returns-then-tail-le48 : goal.returns-then-tail-le48
+returns-then-tail-le48 c =
+    let a = c.args in
+    c.ranged.ensures
+    ∙ sym (zero_says a.key.now a.at.text.now a.at.offset c.requires (sym c.starts_with.ensures ∙ c.if-not-starts_with.false)
+    (omega arith) a.low a.high a.at.line (sym c.is_zero.ensures ∙ c.if-not-is_zero.false))
+
+-- or its digits and a feed behind them
 pub returns-then-not-feed_at : goal.returns-then-not-feed_at
 returns-then-not-feed_at c =
     let a = c.args in
-    c.goes_on.ensures
+    c.goes_on-then-not-feed_at.ensures
     ∙ sym (unread_so a.key.now a.at.text.now a.at.offset c.requires (sym c.starts_with.ensures ∙ c.if-not-starts_with.false)
-    c.digits_at-front.ensures a.low a.high a.at.line (sym c.feed_at.ensures ∙ c.if-not-feed_at.true))
+    (digits_begin c.digits_at-front.ensures) a.low a.high a.at.line (sym c.feed_at.ensures ∙ c.if-not-feed_at.true))
 
-pub number_of-requires : goal.number_of-requires
-number_of-requires c =
-    let a = c.args in (
-      c.digits_at-front.ensures,
-      digits_only a.key.now a.at.text.now a.at.offset c.requires (sym c.starts_with.ensures ∙ c.if-not-starts_with.false)
-          c.digits_at-front.ensures (sym c.feed_at.ensures ∙ c.if-not-feed_at.false),
-    )
-
-pub returns-in_default : goal.returns-in_default
-returns-in_default c =
+pub returns-then-front-gt-MAX_DIGITS : goal.returns-then-front-gt-MAX_DIGITS
+returns-then-front-gt-MAX_DIGITS c =
     let a = c.args in
-    sym (digits_say a.key.now a.at.text.now a.at.offset c.requires (sym c.starts_with.ensures ∙ c.if-not-starts_with.false)
-    c.digits_at-front.ensures (sym c.feed_at.ensures ∙ c.if-not-feed_at.false) a.low a.high a.at.line
-    _ (sym c.number_of.ensures ∙ c.in_default.is))
-
-pub returns-then-not-within : goal.returns-then-not-within
-returns-then-not-within c =
-    let a = c.args in
-    let reads =
-    digits_say a.key.now a.at.text.now a.at.offset c.requires (sym c.starts_with.ensures ∙ c.if-not-starts_with.false)
-    c.digits_at-front.ensures (sym c.feed_at.ensures ∙ c.if-not-feed_at.false) a.low a.high a.at.line
-    _ (sym c.number_of.ensures ∙ c.in-Some.is) in
-    sym (rw (sym c.within.ensures ∙ c.if-not-within.true) at reads)
-
-pub overflow_add-next-3 : goal.overflow_add-next-3
-overflow_add-next-3 c =
-    let a = c.args in
-    let fits =
-    next_inside a.key.now a.at.text.now a.at.offset c.requires (sym c.starts_with.ensures ∙ c.if-not-starts_with.false)
-    c.digits_at-front.ensures (sym c.feed_at.ensures ∙ c.if-not-feed_at.false) in
-    omega arith
+    sym (many_say a.key.now a.at.text.now a.at.offset c.requires (sym c.starts_with.ensures ∙ c.if-not-starts_with.false)
+    c.digits_at-front.ensures (omega arith) (sym c.feed_at.ensures ∙ c.if-not-feed_at.false) (omega arith)
+    a.low a.high a.at.line)
 
 pub returns : goal.returns
 returns c =
     let a = c.args in
-    let reads =
-    digits_say a.key.now a.at.text.now a.at.offset c.requires (sym c.starts_with.ensures ∙ c.if-not-starts_with.false)
-    c.digits_at-front.ensures (sym c.feed_at.ensures ∙ c.if-not-feed_at.false) a.low a.high a.at.line
-    _ (sym c.number_of.ensures ∙ c.in-Some.is) in
-    sym (rw (sym c.within.ensures ∙ c.if-not-within.false) at reads)
+    c.ranged-2.ensures
+    ∙ sym (number_says a.key.now a.at.text.now a.at.offset c.requires (sym c.starts_with.ensures ∙ c.if-not-starts_with.false)
+    c.digits_at-front.ensures (omega arith) (sym c.feed_at.ensures ∙ c.if-not-feed_at.false) (omega arith)
+    a.low a.high a.at.line)
