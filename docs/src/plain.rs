@@ -193,7 +193,8 @@ pub struct Work {
 
 /// Where the search for the end of a job begins: as it did before request 6, with what the jobs so far
 /// take by themselves; with one job of each task above beside them; or for the first job so, and for
-/// each later one with the end of the job before it and its own time, since no solution lies below.
+/// each later one with the end of the job before it and its own time, since no solution lies below, or
+/// not at all where nothing is released above.
 pub const OWN_TIMES: u8 = 0;
 pub const ONE_OF_EACH: u8 = 1;
 pub const JOB_AFTER_JOB: u8 = 2;
@@ -283,29 +284,65 @@ impl<const COUNTED: bool, const START: u8> Above<COUNTED, START> {
         None
     }
 
-    /// The longest response of a busy interval, job after job up to one that ends before the next
-    /// release; none if one of them is past its deadline.
-    fn latest(&mut self, row: &Row, blocked: u64) -> Option<u64> {
-        let once =
-            if START == OWN_TIMES { 0 } else { self.worst[..self.count].iter().sum::<u64>() };
-        let (mut base, mut release, mut longest) = (row.worst + blocked, 0, 0);
-        let mut time = base + once;
-        loop {
-            if COUNTED {
-                self.work.jobs += 1;
-                if self.work.terms > self.most {
-                    return None;
-                }
+    /// Where the search begins that knows nothing of an earlier job: the ticks that count once, and what
+    /// `START` has beside them.
+    fn begun_anew(&self, base: u64) -> u64 {
+        let of_each = if START == OWN_TIMES { 0 } else { self.worst[..self.count].iter().sum() };
+        base + of_each
+    }
+
+    /// The end of the jobs of a busy interval whose last is released at a time, if that is not past its
+    /// deadline; the search begins at `begun`.
+    fn end(&mut self, row: &Row, release: u64, begun: u64, base: u64) -> Option<u64> {
+        if COUNTED {
+            self.work.jobs += 1;
+            if self.work.terms > self.most {
+                return None;
             }
-            let end = self.filled(time, base, MOST_FINISH.min(release + row.deadline))?;
+        }
+        self.filled(begun, base, MOST_FINISH.min(release + row.deadline))
+    }
+
+    /// The response of the first job of a busy interval, if that is in time.
+    fn first(&mut self, row: &Row, blocked: u64) -> Option<u64> {
+        let base = row.worst + blocked;
+        self.end(row, 0, self.begun_anew(base), base)
+    }
+
+    /// How many jobs follow one that ends at a time, when the next has been released, each a worst time
+    /// after the one before: until one ends before the next release, or a task above is released.
+    fn jobs_behind(&mut self, row: &Row, end: u64, release: u64) -> u64 {
+        self.count_a_sum();
+        let mut steady = MOST_FINISH;
+        for period in &self.period[..self.count] {
+            steady = steady.min(ceil(end, *period) * period);
+        }
+        let (room, gained) = ((steady - end) / row.worst, row.period - row.worst);
+        if gained == 0 { room } else { room.min((end - release).div_ceil(gained)) }
+    }
+
+    /// The longest response of a busy interval whose first job takes so long: job after job up to one
+    /// that ends before the next release; none if one of them is past its deadline. Where a job needs no
+    /// search, because no task above was released in its time, neither do those behind it; they take
+    /// less, and are passed over.
+    fn latest_from(&mut self, first: u64, row: &Row, blocked: u64) -> Option<u64> {
+        let (mut base, mut release) = (row.worst + blocked, row.period);
+        let (mut end, mut longest) = (first, first);
+        while release < end {
+            base += row.worst;
+            let begun =
+                if START == JOB_AFTER_JOB { end + row.worst } else { self.begun_anew(base) };
+            end = self.end(row, release, begun, base)?;
             longest = longest.max(end - release);
             release += row.period;
-            if end <= release {
-                return Some(longest);
+            if START == JOB_AFTER_JOB && end == begun && release < end {
+                let jobs = self.jobs_behind(row, end, release);
+                base += jobs * row.worst;
+                end += jobs * row.worst;
+                release += jobs * row.period;
             }
-            base += row.worst;
-            time = if START == JOB_AFTER_JOB { end + row.worst } else { base + once };
         }
+        Some(longest)
     }
 
     fn earliest(&mut self, row: &Row, latest: u64) -> u64 {
@@ -323,16 +360,39 @@ impl<const COUNTED: bool, const START: u8> Above<COUNTED, START> {
         }
     }
 
-    /// The figures of a row that the rows below it block for so long, the table's points beside it.
-    fn figures(&mut self, row: &Row, blocked: u64, points: &[Point]) -> Option<Figures> {
-        let worst = self.latest(row, blocked)?;
-        let best = if row.hold < 2 { self.earliest(row, worst) } else { row.best };
+    /// The margin of a row with such responses, the table's points beside it.
+    fn margin(row: &Row, best: u64, worst: u64, points: &[Point]) -> i64 {
         if row.points > 0 {
             let curve = &points[row.first as usize..][..row.points as usize];
-            return Some(Figures { best, worst, margin: curve_margin(curve, best, worst - best) });
+            return curve_margin(curve, best, worst - best);
         }
-        let cost = 1_000 * best + row.alpha * (worst - best);
-        Some(Figures { best, worst, margin: row.beta as i64 - cost as i64 })
+        row.beta as i64 - (1_000 * best + row.alpha * (worst - best)) as i64
+    }
+
+    /// E, by a latest response or by the first job's, since it lies in the time of either.
+    fn best(&mut self, row: &Row, latest: u64) -> u64 {
+        if row.hold < 2 { self.earliest(row, latest) } else { row.best }
+    }
+
+    /// The figures of a row that the rows below it block for so long.
+    fn figures(&mut self, row: &Row, blocked: u64, points: &[Point]) -> Option<Figures> {
+        let first = self.first(row, blocked)?;
+        let worst = self.latest_from(first, row, blocked)?;
+        let best = self.best(row, worst);
+        Some(Figures { best, worst, margin: Self::margin(row, best, worst, points) })
+    }
+
+    /// Whether a row is stable: where it is not by its first job, the others are not searched.
+    fn is_stable(&mut self, row: &Row, blocked: u64, points: &[Point]) -> bool {
+        let Some(first) = self.first(row, blocked) else {
+            return false;
+        };
+        let best = self.best(row, first);
+        if Self::margin(row, best, first, points) < 0 {
+            return false;
+        }
+        let worst = self.latest_from(first, row, blocked);
+        worst.is_some_and(|worst| Self::margin(row, best, worst, points) >= 0)
     }
 }
 
@@ -395,8 +455,7 @@ impl<const COUNTED: bool, const START: u8> Search<'_, COUNTED, START> {
             self.above.work.tests += 1;
         }
         self.above.fill(self.rows, rest);
-        let figures = self.above.figures(&self.rows[index], blocked, self.points);
-        figures.is_some_and(|figures| figures.margin >= 0)
+        self.above.is_stable(&self.rows[index], blocked, self.points)
     }
 
     /// The order, highest rank first, read off the table of sets from the lowest up.
