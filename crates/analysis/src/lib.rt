@@ -11,7 +11,7 @@ ghost use Rattle.responses.specs.Interference.{interference, largest_fixed};
 ghost use Rattle.responses.specs.Figures.{worst_load, best_load, blocking, may_hold, margin_at};
 ghost use Rattle.rows.specs.inside.Numbers.{row_from};
 ghost use Rattle.rows.specs.inside.LentOrders.{rows_in_order};
-ghost use Rattle.analysis.specs.inside.Above.{Fillable, Filled, TimesAre, Under, FiguresIn, StableIn};
+ghost use Rattle.analysis.specs.inside.Above.{Fillable, Filled, TimesAre, Under, FiguresIn, StableSaid, Decided};
 
 use basics::larger;
 use busy_intervals::{Times, first_response, latest_from, latest_response};
@@ -159,16 +159,23 @@ fn times_of(row: &RowNumbers, blocked: u64) -> Times
 
 // Whether a row is stable under some rows, which rows below block for some ticks: what its figures say, and sooner. E is
 // found in the time of the busy interval's first job, and no later job has a smaller response; so where the margin is
-// below 0 by the first, the others are not searched.
-pub fn stable_under(row: &RowNumbers, blocked: u64, above: Above) -> bool
+// below 0 by the first, the others are not searched. Where all jobs are not to be searched, a row that overruns its period
+// with its first job stays open.
+pub fn stable_under(
+    row: &RowNumbers,
+    blocked: u64,
+    above: Above,
+    all_jobs: bool,
+) -> Option<bool>
     requires { Under (row_from row.now) blocked above.worst.now above.best.now }
-    ensures { StableIn (row_from row.now) blocked above.entry.worst.now above.entry.best.now result }
+    ensures says { StableSaid (row_from row.now) blocked above.entry.worst.now above.entry.best.now result }
+    ensures decided { Decided all_jobs result }
 {
     let task = times_of(row, blocked);
     let worst = Tasks { loads: above.worst };
     let best = Tasks { loads: above.best };
     let Some(first) = first_response(task, worst) else {
-        return false;
+        return Some(false);
     };
     let earliest = earliest(row, first, best);
     let responses = Responses {
@@ -176,15 +183,18 @@ pub fn stable_under(row: &RowNumbers, blocked: u64, above: Above) -> bool
         earliest,
     };
     if !is_inside(row, responses) {
-        return false;
+        return Some(false);
+    }
+    if !all_jobs & (task.period < first) {
+        return None;
     }
     let Some(latest) = latest_from(first, task, worst) else {
-        return false;
+        return Some(false);
     };
     if latest == first {
-        return true;
+        return Some(true);
     }
-    is_inside(row, Responses { latest, earliest })
+    Some(is_inside(row, Responses { latest, earliest }))
 }
 
 // All figures of a row under some rows, which rows below block for some ticks.

@@ -9,7 +9,8 @@ ghost use Rattle.rows.specs.inside.Records.{as_rows};
 ghost use Rattle.responses.specs.Figures.{largest_hold, blocking};
 ghost use Rattle.search.specs.inside.Sets.{others, fits, Recorded, LowestFound, Settled};
 ghost use Rattle.orders.specs.Stability.{stable};
-ghost use Rattle.search.specs.inside.Search.{Lent, Gathered, MayGo, Chained, chain_tasks, TableRows, Chooses};
+ghost use Rattle.analysis.specs.inside.Above.{Decided};
+ghost use Rattle.search.specs.inside.Search.{Lent, Gathered, FitsSaid, MayGo, Chained, chain_tasks, TableRows, Chooses};
 
 use analysis::{Above, blocking_time, load_at_best, load_at_worst, stable_under};
 use basics::larger;
@@ -88,11 +89,12 @@ impl<const SETS: usize, const TASKS: usize> Search<'_, SETS, TASKS> {
     }
 
     // Whether row i of set m is stable as its lowest row, under the rest of the set, over rows that block it for some
-    // ticks.
-    fn stable_under(&mut self, m: usize, i: usize, blocked: u64) -> bool
+    // ticks; where all its jobs are not to be searched, it may stay open.
+    fn stable_under(&mut self, m: usize, i: usize, blocked: u64, all_jobs: bool) -> Option<bool>
         requires { (i < length self.old.rows.now) × (m / 2 ^ i % 2 ≡ 1)
             × (blocked ≡ blocking (others m (table_of self.old.rows.now))) }
-        ensures fits { result ≡ fits stable (table_of self.old.rows.now) m i }
+        ensures fits { FitsSaid (table_of self.old.rows.now) m i result }
+        ensures decided { Decided all_jobs result }
         ensures kept { (self.new.rows.now ≡ self.old.rows.now) × (self.new.sets ≡ self.old.sets) }
     {
         let rows = self.rows;
@@ -101,24 +103,39 @@ impl<const SETS: usize, const TASKS: usize> Search<'_, SETS, TASKS> {
             worst: &self.worst[..count],
             best: &self.best[..count],
         };
-        stable_under(&rows[i], blocked, above)
+        stable_under(&rows[i], blocked, above, all_jobs)
     }
 
     // Whether row i may go lowest in set m: it is in the set and stable there, and the rest isn't known to have no
-    // order.
-    fn may_go(&mut self, m: usize, i: usize, blocked: u64) -> bool
+    // order. Open where only its later jobs say whether it is stable: there may be tens of thousands, and where the rest
+    // has no order they do not count.
+    fn may_go(&mut self, m: usize, i: usize, blocked: u64) -> Option<bool>
         requires { (m < 2 ^ length self.old.rows.now) × (i < length self.old.rows.now)
             × (blocked ≡ blocking (others m (table_of self.old.rows.now))) }
         ensures goes { MayGo (table_of self.old.rows.now) m i result }
         ensures kept { (self.new.rows.now ≡ self.old.rows.now) × (self.new.sets ≡ self.old.sets) }
     {
         if (m >> i) % 2 == 0 {
-            return false;
+            return Some(false);
         }
         if self.sets[m - power(i)] == NO_ORDER {
-            return false;
+            return Some(false);
         }
-        self.stable_under(m, i, blocked)
+        self.stable_under(m, i, blocked, false)
+    }
+
+    // Whether row i of set m, which may go lowest, is stable: by its later jobs, where it stayed open.
+    fn fits(&mut self, m: usize, i: usize, blocked: u64, may: Option<bool>) -> bool
+        requires places { (i < length self.old.rows.now) × (m / 2 ^ i % 2 ≡ 1)
+            × (blocked ≡ blocking (others m (table_of self.old.rows.now))) }
+        requires said { FitsSaid (table_of self.old.rows.now) m i may }
+        ensures fits { result ≡ fits stable (table_of self.old.rows.now) m i }
+        ensures kept { (self.new.rows.now ≡ self.old.rows.now) × (self.new.sets ≡ self.old.sets) }
+    {
+        if let Some(stable) = may {
+            return stable;
+        }
+        self.stable_under(m, i, blocked, true).unwrap_or(false)
     }
 
     // The first row of the table that goes lowest in set m. The rows below it are those outside the set, whose largest
@@ -133,10 +150,13 @@ impl<const SETS: usize, const TASKS: usize> Search<'_, SETS, TASKS> {
         let rows = self.rows;
         let blocked = blocking_time(largest);
         for (i, row) in rows.iter().enumerate() {
-            if self.may_go(m, i, blocked) {
+            let may = self.may_go(m, i, blocked);
+            if may.unwrap_or(true) {
                 let outside = larger(row[HOLD], largest);
                 if self.settled(m - power(i), outside) {
-                    return Some(i as u8);
+                    if self.fits(m, i, blocked, may) {
+                        return Some(i as u8);
+                    }
                 }
             }
         }

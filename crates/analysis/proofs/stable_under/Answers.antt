@@ -18,8 +18,8 @@ invariant_of-worst c = record { in_limits = worst_loads c.requires }
 pub invariant_of-best : goal.invariant_of-best
 invariant_of-best c = record { in_limits = best_loads c.requires }
 
-pub returns-in_default : goal.returns-in_default
-returns-in_default c rows below f blocked =
+pub returns-in_default-clause-says : goal.returns-in_default-clause-says
+returns-in_default-clause-says c rows below f blocked =
     let worst = c.args.above.worst.now in
     let t = row_from c.args.row.now in
     let x = c.times_of-task.result in
@@ -42,8 +42,8 @@ invariant_of-responses c =
     let within = here_first c.requires a c.in-Some.ensures c.earliest-earliest.result c.earliest-earliest.ensures in
     record { in_limits = omega (arith, within, first_max c.requires a c.in-Some.ensures); ordered = omega (arith, within) }
 
-pub returns-then-latest-first : goal.returns-then-latest-first
-returns-then-latest-first c rows below f blocked =
+pub returns-then-latest-first-clause-says : goal.returns-then-latest-first-clause-says
+returns-then-latest-first-clause-says c rows below f blocked =
     let t = row_from c.args.row.now in
     let e = c.earliest-earliest.result in
     let inside = sym c.if-not-is_inside.false ∙ c.is_inside.ensures in
@@ -53,14 +53,14 @@ returns-then-latest-first c rows below f blocked =
     c.in-Some-latest_from.ensures
     ∙ stable_same c.requires rows below f blocked
 
-pub returns-then-not-is_inside : goal.returns-then-not-is_inside
-returns-then-not-is_inside c rows below f blocked =
+pub returns-then-not-is_inside-clause-says : goal.returns-then-not-is_inside-clause-says
+returns-then-not-is_inside-clause-says c rows below f blocked =
     outside_first c.requires c.times_of-task.ensures c.in-Some.ensures c.earliest-earliest.result
     c.earliest-earliest.ensures (sym c.is_inside.ensures ∙ c.if-not-is_inside.true)
     ∙ stable_same c.requires rows below f blocked
 
-pub returns-in_default-latest_from : goal.returns-in_default-latest_from
-returns-in_default-latest_from c rows below f blocked =
+pub returns-in_default-latest_from-clause-says : goal.returns-in_default-latest_from-clause-says
+returns-in_default-latest_from-clause-says c rows below f blocked =
     let worst = c.args.above.worst.now in
     let t = row_from c.args.row.now in
     let none = found_none _ _ c.latest_from.ensures c.in_default-latest_from.not-Some in
@@ -73,8 +73,8 @@ invariant_of-is_inside c =
     c.earliest-earliest.ensures _ c.in-Some-latest_from.ensures in
     record { in_limits = l.0; ordered = l.1 }
 
-pub returns : goal.returns
-returns c rows below f blocked =
+pub returns-clause-says : goal.returns-clause-says
+returns-clause-says c rows below f blocked =
     c.is_inside-2.ensures
     ∙ by_margin c.requires c.times_of-task.ensures c.in-Some.ensures c.earliest-earliest.result
     c.earliest-earliest.ensures _ c.in-Some-latest_from.ensures

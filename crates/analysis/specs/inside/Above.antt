@@ -1,5 +1,5 @@
 -- A promise between functions: the loads of some rows, and the figures of a row under them.
-use Rattle.std.specs.Prelude.{◌≡◌, Bool, true, List, ℕ, ◌≤◌, length, map}
+use Rattle.std.specs.Prelude.{◌≡◌, Bool, true, false, Option, Some, None, List, ℕ, ◌≤◌, length, map}
 use Rattle.rows.specs.Rows.{max_ticks, cost, times_in_range, in_range, all_rows}
 use Rattle.rows.specs.Rows.{Row}
 use Rattle.fixed_points.specs.inside.Loads.{loads_max}
@@ -45,3 +45,13 @@ FiguresIn t blocked worst best x =
 abbrev pub StableIn : Row → ℕ → List Load → List Load → Bool → Type 0
 StableIn t blocked worst best b =
     (rows below : List Row) → Filled rows worst best → blocked ≡ blocking below → b ≡ is_stable t rows below
+
+-- what was said of that is so, where something was
+abbrev pub StableSaid : Row → ℕ → List Load → List Load → Option Bool → Type 0
+StableSaid t blocked worst best None = Unit {0}
+StableSaid t blocked worst best (Some b) = StableIn t blocked worst best b
+
+-- something was, where all jobs were to be searched
+abbrev pub Decided : Bool → Option Bool → Type 0
+Decided all None = all ≡ false
+Decided all (Some b) = Unit {0}

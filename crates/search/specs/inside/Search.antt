@@ -1,5 +1,6 @@
 -- A promise between functions: the search finds the order chosen by stability, of rows that are lent.
 use Rattle.std.specs.Prelude.{◌≡◌, Bool, true, false, List, [], ◌∷◌, ◌++◌, ℕ, zero, suc, ◌-◌, ◌/◌, ◌%◌, ◌^◌, ◌≤◌, ◌<◌, take, Option, Some, None, length, get_or}
+use Rattle.std.proofs.Common.{unwrap_or}
 use Rattle.std.proofs.Math.Option as Maths
 use Rattle.std.proofs.Math.Option.{none, some}
 use Rattle.rows.specs.Rows.{max_tasks, in_range, all_rows, tasks_of, distinct_rows}
@@ -29,11 +30,16 @@ pub record Gathered (table : List Row) (m : ℕ) (worst best : List Load) (count
   pub counted : length (members m table) ≡ count
   pub filled : Filled (members m table) (take count worst) (take count best)
 
--- whether row i may go lowest in set m; where it may, whether it does is whether the rest has an order
-pub record MayGo (table : List Row) (m i : ℕ) (r : Bool) : Type 0 where
-  pub in_set : r ≡ true → m / 2 ^ i % 2 ≡ 1
-  pub passes : r ≡ true → fits stable table m i ≡ true
-  pub goes_not : r ≡ false → goes stable table m i ≡ false
+-- what was said of whether row i passes as the lowest of set m is so, where something was
+abbrev pub FitsSaid : List Row → ℕ → ℕ → Option Bool → Type 0
+FitsSaid table m i None = Unit {0}
+FitsSaid table m i (Some b) = b ≡ fits stable table m i
+
+-- whether row i may go lowest in set m; where it may, whether it does is whether it passes and the rest has an order
+pub record MayGo (table : List Row) (m i : ℕ) (r : Option Bool) : Type 0 where
+  pub in_set : unwrap_or r true ≡ true → m / 2 ^ i % 2 ≡ 1
+  pub passes : unwrap_or r true ≡ true → FitsSaid table m i r
+  pub goes_not : unwrap_or r true ≡ false → goes stable table m i ≡ false
 
 -- taking out of set m the row that its byte is, a row in range, out of the rest the row that the
 -- rest's byte is, and so on, leaves no row after k steps

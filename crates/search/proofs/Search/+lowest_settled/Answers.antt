@@ -20,10 +20,11 @@ use Rattle.search.specs.inside.Search.{Lent}
 use Rattle.search.proofs.LentRows.{small, a_set, a_row, recorded_of}
 use Rattle.search.proofs.Sets.{bit_le}
 use Rattle.search.proofs.Outside.{outside_more}
-use Rattle.search.proofs.Scan.{scan, scan_start, scan_no, scan_yes}
-use Rattle.search.proofs.Record.{goes_then, settled_new, settled_old, settled_empty}
+use Rattle.search.proofs.Scan.{scan, scan_start, scan_no, scan_yes, none_of}
+use Rattle.search.proofs.Record.{goes_none, goes_then, goes_unfit, settled_new, settled_old, settled_empty}
 use Rattle.search.proofs.Search.+lowest_settled.Goals as goal
-use Rattle.search.proofs.Search.+lowest_settled.Goals.{lowest-then-may_go+else-settled, lowest-else-may_go}
+use Rattle.search.proofs.Search.+lowest_settled.Goals.{lowest-then-unwrap_or+else-settled, lowest-then-unwrap_or+then-settled+else-fits}
+use Rattle.search.proofs.Search.+lowest_settled.Goals.{lowest-else-unwrap_or}
 
 pub lowest-loop-i-init : goal.lowest-loop-i-init
 lowest-loop-i-init g t c =
@@ -36,8 +37,8 @@ lowest-loop-i-init g t c =
           (a_set x.lent a.m c.requires.1);
     }
 
-pub lowest-may_go-requires : goal.lowest-may_go-requires
-lowest-may_go-requires g t c =
+pub lowest-may_go-may-requires : goal.lowest-may_go-may-requires
+lowest-may_go-may-requires g t c =
     let a = c.args in
     let x = a.self.now in
     rw c.loop-i.invariant.rows_kept (
@@ -58,8 +59,8 @@ lowest-settled-requires-whole g t c =
     let y = c.loop-i in
     let table = table_of x.rows.now in
     let here = c.loop-i-test.true in
-    let may = rw y.invariant.rows_kept at c.may_go.ensures.goes in
-    let its_bit = may.in_set c.if-may_go.true in
+    let may = rw y.invariant.rows_kept at c.may_go-may.ensures.goes in
+    let its_bit = may.in_set (sym c.unwrap_or.ensures ∙ c.if-unwrap_or.true) in
     let less = bit_le a.m y.i its_bit in
     let some = pow_pos y.i in
     let bit = c.power.ensures in
@@ -68,29 +69,52 @@ lowest-settled-requires-whole g t c =
     ∙ ap₂ larger (sym (line_from (get_or x.rows.now y.i []) hold_at (omega arith)) ∙ row) c.requires.2
     ∙ sym (outside_more table a.m y.i (a_row x.lent y.i here) its_bit)
     ∙ ap (λ (k : ℕ). largest_hold (others (a.m - k) table)) (sym bit) in
-    let kept = c.may_go.ensures.kept.0 ∙ y.invariant.rows_kept in
+    let kept = c.may_go-may.ensures.kept.0 ∙ y.invariant.rows_kept in
     λ κs. rw kept (
       omega (arith, bit, less, some, c.decreases),
       (search rules, (search rules, (search rules, (omega (arith, c.requires.1), outside)))),
     )
 
+-- whether it is stable is asked with the record as it is then
+pub lowest-fits-requires : goal.lowest-fits-requires
+lowest-fits-requires g t c =
+    let a = c.args in
+    let x = a.self.now in
+    let y = c.loop-i in
+    let kept = c.settled.ensures.kept ∙ c.may_go-may.ensures.kept.0 ∙ y.invariant.rows_kept in
+    let may = rw y.invariant.rows_kept at c.may_go-may.ensures.goes in
+    let yes = sym c.unwrap_or.ensures ∙ c.if-unwrap_or.true in
+    (
+      search rules,
+      (
+        rw kept (
+          c.loop-i-test.true,
+          may.in_set yes,
+          c.blocking_time-blocked.ensures ∙ ap (λ (h : ℕ). h - 1) c.requires.2
+              ∙ sym (blocking_is (others a.m (table_of x.rows.now))),
+        ),
+        rw kept (may.passes yes),
+      ),
+    )
+
 -- the first row that goes
-pub lowest-returns-then-settled-clause-found : goal.lowest-returns-then-settled-clause-found
-lowest-returns-then-settled-clause-found g t c =
+pub lowest-returns-then-fits-clause-found : goal.lowest-returns-then-fits-clause-found
+lowest-returns-then-fits-clause-found g t c =
     let a = c.args in
     let x = a.self.now in
     let y = c.loop-i in
     let table = table_of x.rows.now in
-    let kept = c.may_go.ensures.kept.0 ∙ y.invariant.rows_kept in
-    let may = rw y.invariant.rows_kept at c.may_go.ensures.goes in
+    let kept = c.may_go-may.ensures.kept.0 ∙ y.invariant.rows_kept in
+    let may = rw y.invariant.rows_kept at c.may_go-may.ensures.goes in
     let u = rw kept at c.settled.ensures.settled in
-    let yes = c.if-may_go.true in
+    let passes = rw (c.settled.ensures.kept ∙ kept) at c.fits.ensures.fits in
     let bit = c.power.ensures in
-    let goes = sym (goes_then stable table a.m y.i (may.in_set yes) (may.passes yes))
+    let goes = sym (goes_then stable table a.m y.i (may.in_set (sym c.unwrap_or.ensures ∙ c.if-unwrap_or.true))
+    (sym passes ∙ c.if-fits.true))
     ∙ ap (λ (k : ℕ). is_some (order_at stable table (a.m - k))) (sym bit)
     ∙ (sym u.found_is ∙ c.if-settled.true) in (
       scan_yes stable by_sets table a.m y.i (a_row x.lent y.i c.loop-i-test.true) y.invariant.so_far goes,
-      subst (λ (k : ℕ). Known stable table c.settled.new.self.sets (a.m - k)) bit u.there,
+      rw c.fits.ensures.kept.1 (subst (λ (k : ℕ). Known stable table c.settled.new.self.sets (a.m - k)) bit u.there),
     )
 
 pub lowest-loop-i-preserved : goal.lowest-loop-i-preserved
@@ -99,25 +123,32 @@ lowest-loop-i-preserved g t c =
     let x = a.self.now in
     let y = c.loop-i in
     let table = table_of x.rows.now in
-    let kept = c.may_go.ensures.kept.0 ∙ y.invariant.rows_kept in
-    let may = rw y.invariant.rows_kept at c.may_go.ensures.goes in
+    let kept = c.may_go-may.ensures.kept.0 ∙ y.invariant.rows_kept in
+    let may = rw y.invariant.rows_kept at c.may_go-may.ensures.goes in
     let row = a_row x.lent y.i c.loop-i-test.true in
     let next : goes stable table a.m y.i ≡ false
     → order_at stable table a.m ≡ scan the_order stable by_sets table a.m (suc y.i) =
     λ no_row. y.invariant.so_far ∙ scan_no stable by_sets table a.m y.i row no_row in
     rw (add-one y.i)
-    (elim c.if-may_go.branch [
-      | lowest-then-may_go+else-settled w ↦
-          let u = rw kept at w.settled.ensures.settled in
-          let goes_is = sym (goes_then stable table a.m y.i (may.in_set w.if-may_go.true) (may.passes w.if-may_go.true))
-          ∙ ap (λ (k : ℕ). is_some (order_at stable table (a.m - k))) (sym w.power.ensures) in
-          record {
-            rows_kept = rw w.self-is (w.settled.ensures.kept ∙ kept);
-            so_far = next (goes_is ∙ sym u.found_is ∙ w.if-settled.false);
-          }
-      | lowest-else-may_go w ↦ record {
+    (elim c.if-unwrap_or.branch [
+      | lowest-then-unwrap_or+else-settled w ↦ record {
+        rows_kept = rw w.self-is (w.settled.ensures.kept ∙ kept);
+        so_far =
+            let u = rw kept at w.settled.ensures.settled in
+            let none = none_of (order_at stable table (a.m - 2 ^ y.i))
+            (ap (λ (k : ℕ). is_some (order_at stable table (a.m - k))) (sym w.power.ensures)
+            ∙ sym u.found_is ∙ w.if-settled.false) in
+            next (sym (goes_none stable table a.m y.i none));
+      }
+      | lowest-then-unwrap_or+then-settled+else-fits w ↦ record {
+        rows_kept = rw w.self-is (w.fits.ensures.kept.0 ∙ w.settled.ensures.kept ∙ kept);
+        so_far =
+            let passes = rw (w.settled.ensures.kept ∙ kept) at w.fits.ensures.fits in
+            next (sym (goes_unfit stable table a.m y.i (sym passes ∙ w.if-fits.false)));
+      }
+      | lowest-else-unwrap_or w ↦ record {
         rows_kept = rw w.self-is kept;
-        so_far = next (may.goes_not w.if-may_go.false);
+        so_far = next (may.goes_not (sym c.unwrap_or.ensures ∙ w.if-unwrap_or.false));
       }
     ])
 

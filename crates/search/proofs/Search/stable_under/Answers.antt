@@ -1,10 +1,15 @@
 -- The loads are those of the rows of the rest of the set.
-use Rattle.std.proofs.Common.{rules, ◌-◌, ◌^◌, arith}
-use Rattle.rows.specs.Rows.{in_range}
+use Rattle.std.proofs.Common.{◌≡◌, ℕ, ◌-◌, ◌^◌, Bool, List, sym, ap, ◌∙◌, arith}
+use Rattle.std.specs.Prelude.{Option, Some, None}
+use Rattle.rows.specs.Rows.{Row, row_at, in_range}
+use Rattle.responses.specs.declared.Load.{Load}
+use Rattle.responses.specs.Figures.{blocking, is_stable}
+use Rattle.analysis.specs.inside.Above.{Filled, StableSaid}
 use Rattle.rows.specs.inside.Lent.{table_of}
 use Rattle.rows.proofs.LentRows.{table_at}
 use Rattle.rows.proofs.Limits.{all_times}
 use Rattle.responses.proofs.Blocking.{blocking_max}
+use Rattle.search.specs.inside.Search.{FitsSaid}
 use Rattle.search.specs.inside.Sets.{members, others}
 use Rattle.search.proofs.LentRows.{ranged}
 use Rattle.search.proofs.Gathering.{some_pass}
@@ -33,12 +38,18 @@ stable_under-requires g c =
       );
     }
 
+-- what is said of the loads is said of the rows
+said : (table : List Row) (m i : ℕ) (t : Row) (blocked : ℕ) (worst best : List Load) (r : Option Bool)
+    → row_at table i ≡ t → Filled (members (m - 2 ^ i) table) worst best → blocked ≡ blocking (others m table)
+    → StableSaid t blocked worst best r → FitsSaid table m i r
+said table m i t blocked worst best None e f b s = s
+said table m i t blocked worst best (Some x) e f b s =
+    s (members (m - 2 ^ i) table) (others m table) f b
+    ∙ sym (ap (λ (u : Row). is_stable u (members (m - 2 ^ i) table) (others m table)) e)
+
 pub returns-clause-fits : goal.returns-clause-fits
 returns-clause-fits g c =
     let a = c.args in
-    let table = table_of a.self.now.rows.now in
     let found = rw c.power.ensures at c.gather-count.ensures.gathered in
-    let e =
-    c.stable_under.ensures (members (a.m - 2 ^ a.i) table) (others a.m table) found.filled c.requires.2 in
-    let row = table_at a.self.now.rows.now a.i c.requires.0 in
-    search (rules, e, row)
+    said (table_of a.self.now.rows.now) a.m a.i _ a.blocked _ _ c.stable_under.result
+    (table_at a.self.now.rows.now a.i c.requires.0) found.filled c.requires.2 c.stable_under.ensures.says
