@@ -382,17 +382,27 @@ impl<const COUNTED: bool, const START: u8> Above<COUNTED, START> {
         Some(Figures { best, worst, margin: Self::margin(row, best, worst, points) })
     }
 
-    /// Whether a row is stable: where it is not by its first job, the others are not searched.
-    fn is_stable(&mut self, row: &Row, blocked: u64, points: &[Point]) -> bool {
+    /// Whether a row is stable: where it is not by its first job, the others are not searched. Where all
+    /// are not to be searched, a row whose first job overruns its period stays open.
+    fn is_stable(
+        &mut self,
+        row: &Row,
+        blocked: u64,
+        points: &[Point],
+        all_jobs: bool,
+    ) -> Option<bool> {
         let Some(first) = self.first(row, blocked) else {
-            return false;
+            return Some(false);
         };
         let best = self.best(row, first);
         if Self::margin(row, best, first, points) < 0 {
-            return false;
+            return Some(false);
+        }
+        if !all_jobs && row.period < first {
+            return None;
         }
         let worst = self.latest_from(first, row, blocked);
-        worst.is_some_and(|worst| Self::margin(row, best, worst, points) >= 0)
+        Some(worst.is_some_and(|worst| Self::margin(row, best, worst, points) >= 0))
     }
 }
 
@@ -441,21 +451,34 @@ impl<const COUNTED: bool, const START: u8> Search<'_, COUNTED, START> {
         let blocked = largest.saturating_sub(1);
         for index in 0..self.rows.len() {
             let rest = set & !(1 << index);
-            let may_go = rest != set && self.lowest[rest] != NONE;
+            if rest == set || self.lowest[rest] == NONE {
+                continue;
+            }
+            // Its later jobs are searched last: they do not count where the rest has no order.
+            let stable = self.is_stable(index, rest, blocked, false);
             let outside = self.rows[index].hold.max(largest);
-            if may_go && self.is_stable(index, rest, blocked) && self.has_order(rest, outside) {
+            if stable.unwrap_or(true)
+                && self.has_order(rest, outside)
+                && stable.or_else(|| self.is_stable(index, rest, blocked, true)) == Some(true)
+            {
                 return index as u8;
             }
         }
         NONE
     }
 
-    fn is_stable(&mut self, index: usize, rest: usize, blocked: u64) -> bool {
+    fn is_stable(
+        &mut self,
+        index: usize,
+        rest: usize,
+        blocked: u64,
+        all_jobs: bool,
+    ) -> Option<bool> {
         if COUNTED {
             self.above.work.tests += 1;
         }
         self.above.fill(self.rows, rest);
-        self.above.is_stable(&self.rows[index], blocked, self.points)
+        self.above.is_stable(&self.rows[index], blocked, self.points, all_jobs)
     }
 
     /// The order, highest rank first, read off the table of sets from the lowest up.
