@@ -161,12 +161,7 @@ fn times_of(row: &RowNumbers, blocked: u64) -> Times
 // found in the time of the busy interval's first job, and no later job has a smaller response; so where the margin is
 // below 0 by the first, the others are not searched. Where all jobs are not to be searched, a row that overruns its period
 // with its first job stays open.
-pub fn stable_under(
-    row: &RowNumbers,
-    blocked: u64,
-    above: Above,
-    all_jobs: bool,
-) -> Option<bool>
+pub fn stable_under(row: &RowNumbers, blocked: u64, above: Above, all_jobs: bool) -> Option<bool>
     requires { Under (row_from row.now) blocked above.worst.now above.best.now }
     ensures says { StableSaid (row_from row.now) blocked above.entry.worst.now above.entry.best.now result }
     ensures decided { Decided all_jobs result }

@@ -83,8 +83,7 @@ lowest-fits-requires g t c =
     let y = c.loop-i in
     let kept = c.settled.ensures.kept ∙ c.may_go-may.ensures.kept.0 ∙ y.invariant.rows_kept in
     let may = rw y.invariant.rows_kept at c.may_go-may.ensures.goes in
-    let yes = sym c.unwrap_or.ensures ∙ c.if-unwrap_or.true in
-    (
+    let yes = sym c.unwrap_or.ensures ∙ c.if-unwrap_or.true in (
       search rules,
       (
         rw kept (
